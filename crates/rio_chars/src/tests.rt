@@ -1,0 +1,106 @@
+use crate::{
+    Char, MemSink, MemSource, Outbox, PlainSink, PlainSource, ReadEnd, StdSink, StdSource,
+    char_text, read_all, read_char, write_all,
+};
+use std::test::Fail;
+
+const LINE: [u8; 7] = *b"a line\n";
+
+#[test]
+fn input_is_read_whole_unless_a_read_fails(rt: HostRuntime) -> Result<(), Fail> {
+    let alloc = rt.alloc();
+    for call in 0..6u32 {
+        let fails = vec![in alloc; call]?;
+        let mut source = MemSource::new(LINE.to_vec(alloc)?, 2, fails);
+        match read_all(alloc, &mut source, 7) {
+            Ok(bytes) => {
+                assert_eq!(rt; call, 5);
+                assert_eq!(rt; bytes.as_slice(), LINE.as_slice());
+            }
+            Err(end) => {
+                assert!(rt; call < 5);
+                assert_eq!(rt; end, ReadEnd::Fault);
+            }
+        }
+    }
+    Ok(())
+}
+
+#[test]
+fn one_byte_more_than_the_limit_is_too_long(rt: HostRuntime) -> Result<(), Fail> {
+    let alloc = rt.alloc();
+    let mut source = PlainSource::new(LINE.to_vec(alloc)?);
+    assert_eq!(rt;
+        read_all(alloc, &mut source, 6).err(),
+        Some(ReadEnd::TooLong)
+    );
+    Ok(())
+}
+
+#[test]
+fn bytes_are_written_whole_unless_a_write_fails(rt: HostRuntime) -> Result<(), Fail> {
+    let alloc = rt.alloc();
+    for call in 0..4u32 {
+        let fails = vec![in alloc; call]?;
+        let Ok(mut sink) = MemSink::new(alloc, 7, 3, fails) else {
+            panic!(rt; "no memory");
+        };
+        let done = write_all(&mut sink, &LINE).is_ok();
+        assert_eq!(rt; done, call == 3);
+        let written = [0, 3, 6, 7];
+        assert_eq!(rt; sink.written().len(), written[call as usize]);
+    }
+    Ok(())
+}
+
+#[test]
+fn text_is_told_until_a_write_fails(rt: HostRuntime) -> Result<(), Fail> {
+    let alloc = rt.alloc();
+    for call in 0..5u32 {
+        let fails = vec![in alloc; call]?;
+        let Ok(mut sink) = MemSink::new(alloc, 64, 5, fails) else {
+            panic!(rt; "no memory");
+        };
+        let Ok(mut outbox) = Outbox::new(alloc) else {
+            panic!(rt; "no memory");
+        };
+        outbox.put(&mut sink, b"port ");
+        outbox.put_decimal(&mut sink, 4294967295);
+        outbox.put_hex(&mut sink, &[0x0a, 0xff]);
+        outbox.flush(&mut sink);
+        assert_eq!(rt; outbox.failed(), call < 4);
+        let text = b"port 42949672950aff";
+        assert_eq!(rt; sink.written(), &text[..(5 * call as usize).min(19)]);
+    }
+    Ok(())
+}
+
+#[test]
+fn characters_are_spelled_and_read_back(rt: HostRuntime) {
+    let texts = [
+        (Char::Data(0), b"d00"),
+        (Char::Data(0x5a), b"d5a"),
+        (Char::Special(0xbc), b"kbc"),
+        (Char::Invalid, b"inv"),
+    ];
+    for (c, text) in texts {
+        assert_eq!(rt; char_text(c), *text);
+        assert_eq!(rt; read_char(text), Some(c));
+    }
+    assert_eq!(rt; read_char(b"d5A"), None);
+    assert_eq!(rt; read_char(b"kbcc"), None);
+    assert_eq!(rt; read_char(b""), None);
+}
+
+#[test]
+fn readers_and_writers_of_the_standard_library_serve(rt: HostRuntime) -> Result<(), Fail> {
+    let alloc = rt.alloc();
+    let mut source = StdSource::new(LINE.as_slice());
+    let Ok(bytes) = read_all(alloc, &mut source, 7) else {
+        panic!(rt; "not read");
+    };
+    let mut sink = StdSink::new(Vec::<u8>::new(alloc));
+    assert!(rt; write_all(&mut sink, &bytes).is_ok());
+    assert!(rt; write_all(&mut PlainSink::new(), &bytes).is_ok());
+    Ok(())
+}
