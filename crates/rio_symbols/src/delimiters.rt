@@ -1,0 +1,30 @@
+ghost use Rattle.std.specs.Prelude.{◌≡◌, ◌≤◌, ◌<◌, ◌↔◌, IsTrue};
+ghost use Rattle.rio_symbols.specs.Delimiters.{allowed, delimiter_of};
+ghost use Rattle.rio_symbols.specs.Fields.{Fields, InRange};
+
+use crate::characters::Delimiter;
+use crate::symbol::Symbol;
+
+/// The delimiter that this project's sender puts before a symbol: PD for stype1 0 to 2, and SC for 3
+/// to 7. That a symbol of stype1 3 or 4 always comes with SC is this project's profile.
+pub fn delimiter(symbol: &Symbol) -> Delimiter
+    ensures value { result ≡ delimiter_of symbol.now }
+    ensures pd { (result ≡ Delimiter.Pd) ↔ (symbol.now.s1 ≤ 2) }
+    ensures sc { (result ≡ Delimiter.Sc) ↔ (3 ≤ symbol.now.s1) }
+    ensures is_allowed { IsTrue (allowed result symbol.now) }
+{
+    if symbol.s1 <= 2 {
+        Delimiter::Pd
+    } else {
+        Delimiter::Sc
+    }
+}
+
+/// Which symbols a receiver takes after each delimiter, whether or not a packet is in progress: PD with
+/// stype1 0 to 4, SC with 3 to 7. That both may come with 3 and 4 is this project's profile. A symbol
+/// in range may come after its own delimiter. For proofs above; the call does nothing.
+pub fn delimiter_laws()
+    ensures after_pd { (s : Fields) → IsTrue (allowed Delimiter.Pd s) ↔ (s.s1 ≤ 4) }
+    ensures after_sc { (s : Fields) → IsTrue (allowed Delimiter.Sc s) ↔ ((3 ≤ s.s1) × (s.s1 ≤ 7)) }
+    ensures own { (s : Fields) → InRange s → IsTrue (allowed (delimiter_of s) s) }
+{}

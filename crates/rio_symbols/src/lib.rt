@@ -1,0 +1,29 @@
+//! Control symbols of a RapidIO serial link: three bytes each, with a CRC of five bits.
+//!
+//! Promised: a symbol's bytes are its fields and its CRC, bit by bit; bytes are read as a symbol
+//! exactly where they spell one, and otherwise both CRCs are told; what was written is read back.
+//! Left out: characters and their order on a wire, what a port does with a symbol, and that a
+//! changed symbol is always refused (five bits of CRC cannot promise it).
+//!
+//! - `Symbol`: the five fields, each within its width.
+//! - `crc5`: the CRC of the fields.
+//! - `to_bytes`, `from_bytes`, `BadCrc`: the spelling, in both directions.
+//! - `Delimiter`, `delimiter`: the special character that is sent before a symbol.
+//! - `spelling_laws`, `delimiter_laws`: facts about the spelling of any numbers, for proofs above.
+//!
+//! No call takes memory.
+#![tactic(auto)]
+
+mod characters;
+mod crc;
+mod delimiters;
+mod spelling;
+mod symbol;
+#[cfg(test)]
+mod tests;
+
+pub use characters::Delimiter;
+pub use crc::crc5;
+pub use delimiters::{delimiter, delimiter_laws};
+pub use spelling::{BadCrc, from_bytes, spelling_laws, to_bytes};
+pub use symbol::Symbol;
