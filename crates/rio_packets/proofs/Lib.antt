@@ -1,0 +1,13 @@
+pub mod BitsLaws
+pub mod DivisionLaws
+pub mod RegisterLaws
+pub mod Shifts
+pub mod CrcLaws
+pub mod PadLaws
+pub mod StepLaws
+pub mod FormLaws
+pub mod PassesLaws
+pub mod MakingLaws
+pub mod FieldLaws
+pub mod CarriesLaws
+pub mod LowerLaws
