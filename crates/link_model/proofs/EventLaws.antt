@@ -1,0 +1,26 @@
+-- The event of a packet's bytes is what they carry, or why they carry nothing.
+use Rattle.std.proofs.Common.{◌≡◌, ℕ, ◌<◌, ◌≤◌, Bool, nat_lt, Option, List, length, if◌then◌else◌, inl, ap, ◌∙◌}
+use Rattle.std.proofs.lemmas.Bool.Decides.{Decides-ltb}
+use Rattle.rio_packets.specs.Carries.{Carries}
+use Rattle.rio_packets.specs.declared.cause.Cause.TheVariants.{BadPacket, General}
+use Rattle.link_model.specs.declared.event.Event.TheVariants.{Pkt, Bad}
+use Rattle.link_model.specs.Events.{packet_or_cause, packet_event}
+use Rattle.rio_packets.proofs.CarriesLaws.{carried-from_Carries, carried-none, carried-out_of_range}
+use Rattle.link_model.proofs.ReadingSteps.{not_below}
+
+pub event-carried : (bytes : List ℕ) (ack : ℕ) (packet : List ℕ) → Carries bytes ack packet → packet_event bytes ≡ Pkt ack packet
+unfolding packet_event
+event-carried bytes ack packet k =
+    ap (λ (o : Option (ℕ × List ℕ)). packet_or_cause o (if nat_lt (length bytes) 8 then General else BadPacket)) (carried-from_Carries bytes ack packet k)
+
+pub event-too_short : (bytes : List ℕ) → length bytes < 8 → packet_event bytes ≡ Bad General
+unfolding packet_event
+event-too_short bytes few =
+    ap (λ (o : Option (ℕ × List ℕ)). packet_or_cause o (if nat_lt (length bytes) 8 then General else BadPacket)) (carried-out_of_range bytes (inl few))
+    ∙ ap (λ (b : Bool). Bad (if b then General else BadPacket)) ((Decides-ltb (length bytes) 8).1 few)
+
+pub event-no_packet : (bytes : List ℕ) → 8 ≤ length bytes → ((ack : ℕ) (packet : List ℕ) → Carries bytes ack packet → ⊥) → packet_event bytes ≡ Bad BadPacket
+unfolding packet_event
+event-no_packet bytes enough never =
+    ap (λ (o : Option (ℕ × List ℕ)). packet_or_cause o (if nat_lt (length bytes) 8 then General else BadPacket)) ((carried-none bytes).1 never)
+    ∙ ap (λ (b : Bool). Bad (if b then General else BadPacket)) (not_below (length bytes) 8 enough)

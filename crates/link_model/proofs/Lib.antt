@@ -1,0 +1,8 @@
+pub mod WindowFacts
+pub mod EventLaws
+pub mod ReadingSteps
+pub mod ReadingFound
+pub mod ReadingOne
+pub mod PlacesLaws
+pub mod PlacesBounds
+pub mod ReadingSpeltLaws

@@ -1,0 +1,76 @@
+-- The input half of a port: its states and its step table (RapidIO Interconnect Specification 1.3, Part 6, packet
+-- retry and error recovery). The rows and columns are in the order of the profile's table.
+use Rattle.std.specs.Prelude.{ℕ, ◌+◌, ◌%◌, ◌==◌, ◌&&◌, Bool, true, false, if◌then◌else◌, Option, Some, None}
+use Rattle.rio_symbols.specs.Fields.{Fields}
+use Rattle.link_model.specs.Symbols.{packet_accepted, packet_retry, packet_not_accepted, link_response}
+
+-- a state, with the next expected ackID
+pub data Input : Type 0 where
+  Taking : ℕ → Input
+  RetryStopped : ℕ → Input
+  ErrorStopped : ℕ → Input
+
+-- what comes to a receiver
+pub data Arrival : Type 0 where
+  ExpectedWithRoom : Arrival
+  ExpectedWithoutRoom : Arrival
+  UnexpectedAck : Arrival
+  -- characters that are no packet or symbol, with the number of the cause
+  Damaged : ℕ → Arrival
+  RestartFromRetry : Arrival
+  LinkRequest : Arrival
+  OtherStype1 : Arrival
+
+-- a good packet with an ackID, where another is expected, and whether its priority has room
+abbrev pub packet_arrival : ℕ → ℕ → Bool → Arrival
+packet_arrival expected ack room = if ack == expected then (if room then ExpectedWithRoom else ExpectedWithoutRoom) else UnexpectedAck
+
+-- a control symbol by its stype1 and cmd; a link-request with another cmd than input-status is ignored (this
+-- project's profile)
+abbrev pub symbol_arrival : ℕ → ℕ → Arrival
+symbol_arrival s1 cmd =
+    if s1 == 3 then RestartFromRetry else (if (s1 == 4) && (cmd == 4) then LinkRequest else OtherStype1)
+
+-- the state after, the symbol that is sent, and whether the packet goes into the store
+pub record Received : Type 0 where
+  pub state : Input
+  pub reply : Option Fields
+  pub held : Bool
+
+abbrev pub replied : Input → Fields → Received
+replied state reply = record { state = state; reply = Some reply; held = false }
+
+abbrev pub silent : Input → Received
+silent state = record { state = state; reply = None; held = false }
+
+-- the packet of the expected ackID is accepted
+abbrev pub accepted : ℕ → Received
+accepted expected = record { state = Taking ((expected + 1) % 32); reply = Some (packet_accepted expected); held = true }
+
+-- an error: the far port has to ask which packet is expected
+abbrev pub error : ℕ → ℕ → Received
+error expected cause = replied (ErrorStopped expected) (packet_not_accepted expected cause)
+
+-- what an arrival does: one clause for each entry of the table
+abbrev pub receives : Arrival → Input → Received
+receives ExpectedWithRoom (Taking expected) = accepted expected
+receives ExpectedWithRoom (RetryStopped expected) = silent (RetryStopped expected)
+receives ExpectedWithRoom (ErrorStopped expected) = silent (ErrorStopped expected)
+receives ExpectedWithoutRoom (Taking expected) = replied (RetryStopped expected) (packet_retry expected)
+receives ExpectedWithoutRoom (RetryStopped expected) = silent (RetryStopped expected)
+receives ExpectedWithoutRoom (ErrorStopped expected) = silent (ErrorStopped expected)
+receives UnexpectedAck (Taking expected) = error expected 1
+receives UnexpectedAck (RetryStopped expected) = silent (RetryStopped expected)
+receives UnexpectedAck (ErrorStopped expected) = silent (ErrorStopped expected)
+receives (Damaged cause) (Taking expected) = error expected cause
+receives (Damaged cause) (RetryStopped expected) = error expected cause
+receives (Damaged cause) (ErrorStopped expected) = silent (ErrorStopped expected)
+receives RestartFromRetry (Taking expected) = error expected 31
+receives RestartFromRetry (RetryStopped expected) = silent (Taking expected)
+receives RestartFromRetry (ErrorStopped expected) = silent (ErrorStopped expected)
+receives LinkRequest (Taking expected) = replied (Taking expected) (link_response expected 16)
+receives LinkRequest (RetryStopped expected) = replied (Taking expected) (link_response expected 4)
+receives LinkRequest (ErrorStopped expected) = replied (Taking expected) (link_response expected 5)
+receives OtherStype1 (Taking expected) = silent (Taking expected)
+receives OtherStype1 (RetryStopped expected) = silent (RetryStopped expected)
+receives OtherStype1 (ErrorStopped expected) = silent (ErrorStopped expected)

@@ -1,0 +1,11 @@
+pub mod Window
+pub mod Symbols
+pub mod Output
+pub mod Input
+pub mod PortStatuses
+pub mod ReadingKinds
+pub mod Events
+pub mod EventsEqual
+pub mod Reading
+pub mod Places
+pub mod ReadingSpelt

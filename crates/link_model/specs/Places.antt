@@ -1,0 +1,130 @@
+-- The reading of characters, as steps of one character.
+use Rattle.std.specs.Prelude.{◌≡◌, ℕ, suc, ◌⊎◌, ◌≤◌, nat_lt, Bool, true, false, List, [], ◌∷◌, ◌++◌, length, Option, Some, None}
+use Rattle.rio_chars.specs.declared.chars.Char.{Char}
+use Rattle.rio_symbols.specs.declared.characters.Delimiter.{Delimiter}
+use Rattle.rio_symbols.specs.Delimiters.{allowed}
+use Rattle.rio_symbols.specs.Fields.{Fields}
+use Rattle.rio_symbols.specs.Spelling.{spelled}
+use Rattle.rio_packets.specs.declared.cause.Cause.{Cause}
+use Rattle.rio_packets.specs.declared.cause.Cause.TheVariants.{BadSymbol, BadChar, General}
+use Rattle.link_model.specs.declared.event.Event.{Event}
+use Rattle.link_model.specs.declared.event.Event.TheVariants.{Ctl, Bad}
+use Rattle.link_model.specs.declared.reading_kinds.Kind.{Kind}
+use Rattle.link_model.specs.declared.reading_kinds.Kind.TheVariants.{Byte, Opens, Idle, Stray}
+use Rattle.link_model.specs.declared.reading_kinds.Pending.{Pending}
+use Rattle.link_model.specs.declared.reading_kinds.Pending.TheVariants.{Nothing, Opened, One, Two}
+use Rattle.link_model.specs.Events.{packet_event}
+use Rattle.link_model.specs.Reading.{Text, Plain, Skipped, Within, text_after, told, placed}
+use Rattle.link_model.specs.ReadingKinds.{kind}
+
+-- where a reader stands: the text, and what has come of a symbol; a packet in progress is kept meanwhile
+pub record Place : Type 0 where
+  pub text : Text
+  pub pending : Pending
+
+abbrev pub place : Text → Pending → Place
+place text pending = record { text = text; pending = pending }
+
+-- nothing is in progress and nothing is skipped
+abbrev pub start : Place
+start = place Plain Nothing
+
+-- what a character does: where the reader stands after it, and the events that it completes
+pub record Step : Type 0 where
+  pub place : Place
+  pub gives : List Event
+
+abbrev pub goes : Text → Pending → Step
+goes text pending = record { place = place text pending; gives = [] }
+
+abbrev pub fails : Text → Pending → Cause → Step
+fails text pending cause = record { place = place text pending; gives = Bad cause ∷ [] }
+
+-- the text in which a symbol begins: a delimiter ends skipping
+abbrev pub opened : Text → Text
+opened Plain = Plain
+opened Skipped = Plain
+opened (Within bytes) = Within bytes
+
+-- a byte in a packet, by whether there is room for it
+abbrev pub added : List ℕ → ℕ → Bool → Step
+added bytes byte true = goes (Within (bytes ++ byte ∷ [])) Nothing
+added bytes byte false = fails Skipped Nothing General
+
+-- a character while no symbol is in progress
+abbrev pub outside : Text → Kind → Step
+outside text (Opens d) = goes (opened text) (Opened d)
+outside Plain Idle = goes Plain Nothing
+outside Skipped Idle = goes Plain Nothing
+outside (Within bytes) Idle = fails Plain Nothing BadChar
+outside Plain (Byte byte) = fails Skipped Nothing BadChar
+outside Skipped (Byte byte) = goes Skipped Nothing
+outside (Within bytes) (Byte byte) = added bytes byte (nat_lt (length bytes) 276)
+outside Plain Stray = fails Skipped Nothing BadChar
+outside Skipped Stray = goes Skipped Nothing
+outside (Within bytes) Stray = fails Skipped Nothing BadChar
+
+-- a character, no data, while a symbol is in progress
+abbrev pub broken : Kind → Step
+broken (Opens d) = fails Plain (Opened d) BadChar
+broken Idle = fails Plain Nothing BadChar
+broken Stray = fails Skipped Nothing BadChar
+broken (Byte byte) = fails Skipped Nothing BadChar
+
+-- a symbol that was spelled, where its delimiter allows it and where it does not
+abbrev pub taken : Text → Fields → Bool → Step
+taken text symbol true = record { place = place (text_after text symbol.s1) Nothing; gives = told text symbol }
+taken text symbol false = fails Skipped Nothing General
+
+-- the third byte of a symbol, by what the three spell
+abbrev pub finished : Text → Delimiter → Option Fields → Step
+finished text d (Some symbol) = taken text symbol (allowed d symbol)
+finished text d None = fails Skipped Nothing BadSymbol
+
+-- a character of this kind
+abbrev pub step_by : Text → Pending → Kind → Step
+step_by text Nothing k = outside text k
+step_by text (Opened d) (Byte x) = goes text (One d x)
+step_by text (Opened d) k = broken k
+step_by text (One d x) (Byte y) = goes text (Two d x y)
+step_by text (One d x) k = broken k
+step_by text (Two d x y) (Byte z) = finished text d (spelled x y z)
+step_by text (Two d x y) k = broken k
+
+-- one character
+abbrev pub step : Place → Char → Step
+step from c = step_by from.text from.pending (kind c)
+
+-- the events of characters, of which the first stands at this place, each at the place of the character that completes it
+unfoldable pub run : Place → ℕ → List Char → List (ℕ × Event)
+run from at [] = []
+run from at (c ∷ cs) = placed at (step from c).gives ++ run (step from c).place (suc at) cs
+
+-- where the reader stands after characters
+unfoldable pub place_after : Place → List Char → Place
+place_after from [] = from
+place_after from (c ∷ cs) = place_after (step from c).place cs
+
+abbrev pub rests_by : Text → Pending → Bool
+rests_by Plain Nothing = true
+rests_by Skipped Nothing = true
+rests_by _ _ = false
+
+-- whether neither a symbol nor a packet is in progress
+abbrev pub at_rest : Place → Bool
+at_rest from = rests_by from.text from.pending
+
+-- At most two events come of one character. The first of two is a packet's, and the second the symbol that ended the
+-- packet: start-of-packet or end-of-packet.
+abbrev pub AreGiven : List Event → Type 0
+AreGiven [] = Unit {0}
+AreGiven (e ∷ []) = Unit {0}
+AreGiven (e ∷ x ∷ []) =
+    (bytes : List ℕ) × (symbol : Fields) × (e ≡ packet_event bytes) × (x ≡ Ctl symbol) × ((symbol.s1 ≡ 0) ⊎ (symbol.s1 ≡ 2))
+AreGiven (e ∷ x ∷ y ∷ es) = ⊥
+
+-- a packet in progress has at most 276 bytes
+abbrev pub IsBounded : Text → Type 0
+IsBounded Plain = Unit {0}
+IsBounded Skipped = Unit {0}
+IsBounded (Within bytes) = length bytes ≤ 276

@@ -1,0 +1,75 @@
+//! What holds of every reading of characters. The calls do nothing: their clauses are the laws.
+ghost use Rattle.std.specs.Prelude.{◌≡◌, ℕ, ◌+◌, ◌<◌, ◌↔◌, nat_lt, true, false, List, [], ◌∷◌, ◌++◌, length, filter, ◌≤◌};
+ghost use Rattle.rio_chars.specs.declared.chars.Char.{Char};
+ghost use Rattle.rio_symbols.specs.Fields.{Fields, InRange};
+ghost use Rattle.rio_packets.specs.LinkForm.{Passes};
+ghost use Rattle.rio_packets.specs.Carries.{Carries};
+ghost use Rattle.link_model.specs.declared.event.Event.{Event};
+ghost use Rattle.link_model.specs.declared.reading_kinds.Pending.{Pending};
+ghost use Rattle.rio_packets.specs.declared.cause.Cause.TheVariants.{BadPacket, General};
+ghost use Rattle.link_model.specs.Events.{same_event, packet_event};
+ghost use Rattle.link_model.specs.Reading.{Text, IsOpen, text_after, told, placed, IsReading, IsCut};
+ghost use Rattle.link_model.specs.Places.{Place, place, start, step, run, place_after, at_rest, AreGiven, IsBounded};
+ghost use Rattle.link_model.specs.ReadingSpelt.{symbol_chars_of, bytes_with_ack, packet_chars_of};
+
+/// Every list of characters has exactly one reading, and it is what the steps of one character tell. The list is cut
+/// exactly where the steps leave a symbol or a packet in progress.
+pub fn one_reading()
+    ensures exists { (chars : List Char) → IsReading chars (run start 0 chars) }
+    ensures one { (chars : List Char) (events : List (ℕ × Event)) → IsReading chars events
+        → events ≡ run start 0 chars }
+    ensures cut { (chars : List Char) → IsCut chars ↔ (at_rest (place_after start chars) ≡ false) }
+{}
+
+/// Characters may be read in pieces: the events of two pieces are those of the first and, from where it leaves the reader,
+/// those of the second. So the reading of a front is the events whose places lie in it.
+pub fn reading_in_pieces()
+    ensures events { (from : Place) (at n : ℕ) (xs ys : List Char) → n ≡ at + length xs
+        → run from at (xs ++ ys) ≡ run from at xs ++ run (place_after from xs) n ys }
+    ensures place { (from : Place) (xs ys : List Char)
+        → place_after from (xs ++ ys) ≡ place_after (place_after from xs) ys }
+    ensures front { (xs ys : List Char) (events : List (ℕ × Event)) → IsReading (xs ++ ys) events
+        → IsReading xs (filter (λ event. nat_lt event.0 (length xs)) events) }
+{}
+
+/// One character tells at most two events; the first of two is a packet's, and the second the symbol that ended it.
+pub fn one_character_tells_at_most_two()
+    ensures { (from : Place) (c : Char) → AreGiven (step from c).gives }
+{}
+
+/// A packet in progress never has more than 276 bytes.
+pub fn packet_in_progress_is_bounded()
+    ensures step { (from : Place) (c : Char) → IsBounded from.text → IsBounded (step from c).place.text }
+    ensures all { (chars : List Char) → IsBounded (place_after start chars).text }
+{}
+
+/// Where a symbol may begin, what is sent for a symbol is read as it, and what is sent for a packet as its start symbol, the
+/// packet with its ackID, and its end symbol.
+pub fn spelling_is_read()
+    ensures symbol { (text : Text) (at : ℕ) (s : Fields) → IsOpen text → InRange s
+        → run (place text Pending.Nothing) at (symbol_chars_of s) ≡ placed (at + 3) (told text s) }
+    ensures after_symbol { (text : Text) (s : Fields) → IsOpen text → InRange s
+        → place_after (place text Pending.Nothing) (symbol_chars_of s) ≡ place (text_after text s.s1) Pending.Nothing }
+
+    ensures packet { (text : Text) (at n : ℕ) (first : Fields) (ack : ℕ) (packet : List ℕ) (last : Fields) → IsOpen text
+        → InRange first → first.s1 ≡ 0 → ack < 32 → Passes packet → InRange last → last.s1 ≡ 2 → n ≡ at + 7 + length packet
+        → run (place text Pending.Nothing) at (packet_chars_of first ack packet last)
+        ≡ placed (at + 3) (told text first) ++ (n, Event.Pkt ack packet) ∷ (n, Event.Ctl last) ∷ [] }
+    ensures after_packet { (text : Text) (first : Fields) (ack : ℕ) (packet : List ℕ) (last : Fields) → IsOpen text
+        → InRange first → first.s1 ≡ 0 → ack < 32 → Passes packet → InRange last → last.s1 ≡ 2
+        → place_after (place text Pending.Nothing) (packet_chars_of first ack packet last) ≡ start }
+{}
+
+/// Two events are the same exactly where the test of events says so; and the event of a packet's bytes is the packet that
+/// they carry, or else tells that they are too short or carry none.
+pub fn event_laws()
+    ensures same { (e x : Event) → same_event e x ≡ true → e ≡ x }
+    ensures back { (e x : Event) → e ≡ x → same_event e x ≡ true }
+
+    ensures carried { (bytes : List ℕ) (ack : ℕ) (packet : List ℕ) → Carries bytes ack packet
+        → packet_event bytes ≡ Event.Pkt ack packet }
+    ensures too_short { (bytes : List ℕ) → length bytes < 8 → packet_event bytes ≡ Event.Bad General }
+    ensures no_packet { (bytes : List ℕ) → 8 ≤ length bytes
+        → ((ack : ℕ) (packet : List ℕ) → Carries bytes ack packet → ⊥)
+        → packet_event bytes ≡ Event.Bad BadPacket }
+{}
