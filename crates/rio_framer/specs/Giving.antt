@@ -1,0 +1,31 @@
+-- The events of one character, as a list of at most two.
+use Rattle.std.specs.Prelude.{◌≡◌, ℕ, ◌⊎◌, List, [], ◌∷◌, Option, Some, None}
+use Rattle.rio_symbols.specs.Fields.{Fields}
+use Rattle.link_model.specs.declared.event.Event.{Event}
+use Rattle.link_model.specs.declared.event.Event.TheVariants.{Ctl, Pkt, Bad}
+use Rattle.link_model.specs.Events.{packet_event}
+use Rattle.rio_framer.specs.declared.events.Events.{Events}
+
+-- the list of both
+abbrev pub listed : Option Event → Option Fields → List Event
+listed None None = []
+listed None (Some symbol) = Ctl symbol ∷ []
+listed (Some event) None = event ∷ []
+listed (Some event) (Some symbol) = event ∷ Ctl symbol ∷ []
+
+abbrev pub symbol_of : Event → Option Fields
+symbol_of (Ctl symbol) = Some symbol
+symbol_of (Pkt ack packet) = None
+symbol_of (Bad cause) = None
+
+-- at most two events, of which the second is a symbol
+abbrev pub events_of : List Event → Events
+events_of [] = record { first = None; second = None }
+events_of (e ∷ []) = record { first = Some e; second = None }
+events_of (e ∷ x ∷ es) = record { first = Some e; second = symbol_of x }
+
+-- A second event is the start-of-packet or end-of-packet symbol that ended the packet named by the first.
+abbrev pub IsPaired : Option Event → Option Fields → Type 0
+IsPaired first None = Unit {0}
+IsPaired None (Some symbol) = ⊥
+IsPaired (Some event) (Some symbol) = ((bytes : List ℕ) × (event ≡ packet_event bytes)) × ((symbol.s1 ≡ 0) ⊎ (symbol.s1 ≡ 2))

@@ -1,0 +1,242 @@
+ghost use Rattle.std.specs.Prelude.{◌≤◌, length};
+
+use super::*;
+use link_model::Event;
+use rio_chars::{Char, NoMemory, read_char};
+use rio_packets::{Cause, check};
+use rio_symbols::{Symbol, from_bytes};
+use std::alloc::Global;
+use std::process::Abort;
+use std::test::Fail;
+
+/// An event as a table writes it: a symbol by its fields, a packet by its ackID and its bytes.
+#[derive(Clone, Copy, Debug)]
+enum Told {
+    Symbol([u8; 5]),
+    Packet(u8, [u8; 8]),
+    Bad(Cause),
+}
+
+const START: [u8; 5] = [4, 0, 31, 0, 0];
+
+const END: [u8; 5] = [4, 0, 31, 2, 0];
+
+const NOP: [u8; 5] = [4, 0, 31, 7, 0];
+
+const PACKET: [u8; 8] = [0x00, 0x0f, 0x02, 0x01, 0xde, 0xb2, 0x00, 0x00];
+
+#[test]
+fn symbols_are_read_and_changed_ones_are_bad(rt: HostRuntime) -> Result<(), Fail> {
+    let good = chars_of(rt.alloc(), "k1c d80 dff d0f")?;
+    assert!(rt;
+        tells(
+            &rt,
+            rt.alloc(),
+            good.as_slice(),
+            &[(3, Told::Symbol(NOP))],
+            true
+        )?
+    );
+    for text in [
+        "k1c d00 dff d0f",
+        "k1c d81 dff d0f",
+        "k1c d80 d7f d0f",
+        "k1c d80 dfe d0f",
+        "k1c d80 dff d2f",
+    ] {
+        let bad = chars_of(rt.alloc(), text)?;
+        assert!(rt;
+            tells(
+                &rt,
+                rt.alloc(),
+                bad.as_slice(),
+                &[(3, Told::Bad(Cause::BadSymbol))],
+                true
+            )?,
+            "at {text}"
+        );
+    }
+    Ok(())
+}
+
+#[test]
+fn a_packet_goes_on_behind_a_symbol_that_stands_in_it(rt: HostRuntime) -> Result<(), Fail> {
+    let text = "k7c d80 df8 d1f d00 d0f d02 d01 k1c d80 dff d0f dde db2 d00 d00 k7c d80 dfa d18";
+    let chars = chars_of(rt.alloc(), text)?;
+    let told = [
+        (3, Told::Symbol(START)),
+        (11, Told::Symbol(NOP)),
+        (19, Told::Packet(0, PACKET)),
+        (19, Told::Symbol(END)),
+    ];
+    assert!(rt; tells(&rt, rt.alloc(), chars.as_slice(), &told, true)?);
+    Ok(())
+}
+
+#[test]
+fn data_and_idles_out_of_place_are_bad(rt: HostRuntime) -> Result<(), Fail> {
+    let outside = chars_of(rt.alloc(), "d00")?;
+    assert!(rt;
+        tells(
+            &rt,
+            rt.alloc(),
+            outside.as_slice(),
+            &[(0, Told::Bad(Cause::BadChar))],
+            true
+        )?
+    );
+    let idle = chars_of(rt.alloc(), "k7c d80 df8 d1f d00 kbc")?;
+    let told = [(3, Told::Symbol(START)), (5, Told::Bad(Cause::BadChar))];
+    assert!(rt; tells(&rt, rt.alloc(), idle.as_slice(), &told, true)?);
+    Ok(())
+}
+
+#[test]
+fn each_kind_of_broken_text_is_told(rt: HostRuntime) -> Result<(), Fail> {
+    let bad = Told::Bad(Cause::BadChar);
+    let general = Told::Bad(Cause::General);
+    let restart = Told::Symbol([4, 0, 31, 3, 0]);
+    let rows: [(&str, &[(usize, Told)], bool); 10] = [
+        ("kbc kfd kfb", &[], true),
+        ("inv", &[(0, bad)], true),
+        ("k1c d80 dff", &[], false),
+        (
+            "k1c d80 k7c d80 df8 d1f",
+            &[(2, bad), (5, Told::Symbol(START))],
+            false,
+        ),
+        (
+            "k1c d80 dff kbc k1c d80 dff d0f",
+            &[(3, bad), (7, Told::Symbol(NOP))],
+            true,
+        ),
+        ("k1c k00 d01 inv kbc d00", &[(1, bad), (5, bad)], true),
+        ("k7c d80 dff d0f", &[(3, general)], true),
+        ("k1c d80 df8 d1f", &[(3, general)], true),
+        (
+            "k7c d80 df8 d1f k7c d80 dfa d18",
+            &[
+                (3, Told::Symbol(START)),
+                (7, general),
+                (7, Told::Symbol(END)),
+            ],
+            true,
+        ),
+        (
+            "k7c d80 df8 d1f d00 k1c d80 dfb d01 kbc",
+            &[(3, Told::Symbol(START)), (8, restart)],
+            true,
+        ),
+    ];
+    for (text, told, rest) in rows {
+        let chars = chars_of(rt.alloc(), text)?;
+        assert!(rt;
+            tells(&rt, rt.alloc(), chars.as_slice(), told, rest)?,
+            "at {text}"
+        );
+    }
+    Ok(())
+}
+
+#[test]
+fn a_packet_is_too_long_from_its_277th_byte_on(rt: HostRuntime) -> Result<(), Fail> {
+    let mut chars = chars_of(rt.alloc(), "k7c d80 df8 d1f")?;
+    for _ in 0..276 {
+        chars.push(Char::Data(0))?;
+    }
+    let start = [(3, Told::Symbol(START))];
+    assert!(rt; tells(&rt, rt.alloc(), chars.as_slice(), &start, false)?);
+    chars.push(Char::Data(0))?;
+    let told = [(3, Told::Symbol(START)), (280, Told::Bad(Cause::General))];
+    assert!(rt; tells(&rt, rt.alloc(), chars.as_slice(), &told, true)?);
+    Ok(())
+}
+
+#[test]
+fn a_packet_is_sent_with_its_ackid(rt: HostRuntime) -> Result<(), Fail> {
+    let sent = "k7c d80 df8 d1f d10 d0f d02 d01 dde db2 d00 d00 k7c d80 dfa d18";
+    let expected = chars_of(rt.alloc(), sent)?;
+    let start = from_bytes(&[0x80, 0xf8, 0x1f]).ok().ok_or("start")?;
+    let end = from_bytes(&[0x80, 0xfa, 0x18]).ok().ok_or("end")?;
+    let (_, packet) = check(&PACKET).ok().ok_or("packet")?;
+    assert!(rt; start.s1 == 0 && end.s1 == 2);
+    let chars = packet_chars(&start, 2, &packet, &end);
+    assert!(rt; chars.as_slice() == expected.as_slice());
+    Ok(())
+}
+
+/// The characters of words that spaces part.
+fn chars_of(alloc: Global, text: &str) -> Result<Vec<Char>, Fail> {
+    let mut chars = Vec::new(alloc);
+    for word in text.split_whitespace() {
+        chars.push(read_char(word.as_bytes()).ok_or("no character")?)?;
+    }
+    Ok(chars)
+}
+
+/// Whether the characters, cut in two at each place, tell these events at these places.
+fn tells(
+    rt: &impl Abort,
+    alloc: Global,
+    chars: &[Char],
+    told: &[(usize, Told)],
+    rest: bool,
+) -> Result<bool, NoMemory> {
+    assert!(rt; chars.len() <= 4_194_304);
+    for cut in 0..=chars.len() {
+        if !tells_at(alloc, chars, cut, told, rest)? {
+            return Ok(false);
+        }
+    }
+    Ok(true)
+}
+
+/// Whether the characters, cut in two at this place, tell these events.
+fn tells_at(
+    alloc: Global,
+    chars: &[Char],
+    cut: usize,
+    told: &[(usize, Told)],
+    rest: bool,
+) -> Result<bool, NoMemory>
+    requires few { length chars.now ≤ 4194304 }
+    requires within { cut ≤ length chars.now }
+{
+    let (front, back) = chars.split_at(cut);
+    let mut framer = Framer::new();
+    let first = framer.feed_all(alloc, front)?;
+    let second = framer.feed_all(alloc, back)?;
+    let mut expected = told.iter();
+    for (place, event) in &first {
+        if !is_next(expected.next(), *place as usize, event) {
+            return Ok(false);
+        }
+    }
+    for (place, event) in &second {
+        if !is_next(expected.next(), cut + *place as usize, event) {
+            return Ok(false);
+        }
+    }
+    Ok(expected.next().is_none() && framer.at_rest() == rest)
+}
+
+/// Whether an event is the expected one, at its place.
+fn is_next(expected: Option<&(usize, Told)>, place: usize, event: &Event) -> bool {
+    match expected {
+        Some((at, told)) => *at == place && is_told(told, event),
+        None => false,
+    }
+}
+
+fn is_told(told: &Told, event: &Event) -> bool {
+    match (told, event) {
+        (Told::Symbol(fields), Event::Ctl(symbol)) => {
+            [symbol.s0, symbol.p0, symbol.p1, symbol.s1, symbol.cmd] == *fields
+        }
+        (Told::Packet(ack, bytes), Event::Pkt(found, packet)) => {
+            ack == found && packet.bytes() == bytes.as_slice()
+        }
+        (Told::Bad(cause), Event::Bad(found)) => cause == found,
+        _ => false,
+    }
+}
