@@ -1,0 +1,64 @@
+-- What a change of one list leaves of the others, and of the number of packets.
+use Rattle.std.proofs.Common.{◌≡◌, ◌≢◌, ℕ, ◌+◌, ◌<◌, ◌≤◌, List, [], ◌∷◌, ◌++◌, length, drop, set, subst, sym, ◌∙◌, ap, inl, inr, refl, All, arith, length-append, length-drop, get_or-set_same, get_or-set_other}
+use Rattle.std.proofs.lemmas.Bool.{cases_eq}
+use Rattle.std.proofs.lemmas.List.{set-get_or, drop_all}
+use Rattle.std.proofs.lemmas.List.Sums.{sum_by-set, get_or-le-sum_by}
+use Rattle.std.proofs.lemmas.List.Elements.{All-push, All-drop}
+use Rattle.rio_packets.specs.Fields.{prio_of}
+use Rattle.link_buffers.specs.Queues.{list_at, appended, popped, held, Sorted}
+
+-- the list that was put in the place of another
+pub list_at-set_same : (lists : List (List (List ℕ))) (prio : ℕ) (packets : List (List ℕ)) → prio < length lists → list_at (set lists prio packets) prio ≡ packets
+list_at-set_same lists prio packets within = get_or-set_same lists prio packets [] within
+
+-- the other lists stay
+pub list_at-set_other : (lists : List (List (List ℕ))) (prio other : ℕ) (packets : List (List ℕ)) → other ≢ prio → list_at (set lists prio packets) other ≡ list_at lists other
+list_at-set_other lists prio other packets different = get_or-set_other lists prio other packets [] different
+
+-- what is true of each list, and of the one that is put in a place, is true of each list afterwards
+pub each-set :
+    (P : ℕ → List (List ℕ) → Type 0) (lists : List (List (List ℕ))) (prio : ℕ) (packets : List (List ℕ))
+    → prio < length lists → P prio packets
+    → ((other : ℕ) → other < 4 → P other (list_at lists other))
+    → (other : ℕ) → other < 4 → P other (list_at (set lists prio packets) other)
+each-set P lists prio packets within put each other few =
+    elim (cases_eq other prio) [
+      | inl same ↦ subst (λ (q : ℕ). P q (list_at (set lists prio packets) q)) (sym same)
+          (subst (P prio) (sym (list_at-set_same lists prio packets within)) put)
+      | inr different ↦ subst (P other) (sym (list_at-set_other lists prio other packets different)) (each other few)
+    ]
+
+-- a list is no longer than all lists together
+pub length_list_at-le-held : (lists : List (List (List ℕ))) (prio : ℕ) → prio < length lists → length (list_at lists prio) ≤ held lists
+length_list_at-le-held lists prio within = get_or-le-sum_by length lists prio [] within
+
+pub held-appended : (lists : List (List (List ℕ))) (prio : ℕ) (packet : List ℕ) → prio < length lists → held (appended lists prio packet) ≡ held lists + 1
+held-appended lists prio packet within =
+    let moved = sum_by-set length lists prio (list_at lists prio ++ packet ∷ []) [] within in
+    let longer = length-append (list_at lists prio) (packet ∷ []) in
+    omega arith
+
+pub held-popped : (lists : List (List (List ℕ))) (prio : ℕ) → prio < length lists → 0 < length (list_at lists prio) → held (popped lists prio) + 1 ≡ held lists
+held-popped lists prio within some =
+    let moved = sum_by-set length lists prio (drop 1 (list_at lists prio)) [] within in
+    let shorter = length-drop 1 (list_at lists prio) in
+    omega arith
+
+-- nothing is popped from an empty list
+pub popped-none : (lists : List (List (List ℕ))) (prio : ℕ) → length (list_at lists prio) ≤ 0 → popped lists prio ≡ lists
+popped-none lists prio none =
+    ap (set lists prio) (drop_all 1 (list_at lists prio) (omega arith) ∙ sym (drop_all 0 (list_at lists prio) none)) ∙ set-get_or lists prio []
+
+pub Sorted-set :
+    (lists : List (List (List ℕ))) (prio : ℕ) (packets : List (List ℕ)) → prio < length lists
+    → All (λ packet. prio_of packet ≡ prio) packets → Sorted lists → Sorted (set lists prio packets)
+Sorted-set lists prio packets within same sorted =
+    each-set (λ r xs. All (λ packet. prio_of packet ≡ r) xs) lists prio packets within same sorted
+
+pub Sorted-appended : (lists : List (List (List ℕ))) (packet : List ℕ) → length lists ≡ 4 → prio_of packet < 4 → Sorted lists → Sorted (appended lists (prio_of packet) packet)
+Sorted-appended lists packet four few sorted =
+    Sorted-set lists (prio_of packet) _ (omega arith) (All-push (λ p. prio_of p ≡ prio_of packet) (list_at lists (prio_of packet)) packet (sorted (prio_of packet) few) refl) sorted
+
+pub Sorted-popped : (lists : List (List (List ℕ))) (prio : ℕ) → length lists ≡ 4 → prio < 4 → Sorted lists → Sorted (popped lists prio)
+Sorted-popped lists prio four few sorted =
+    Sorted-set lists prio _ (omega arith) (All-drop (λ p. prio_of p ≡ prio) 1 (list_at lists prio) (sorted prio few)) sorted

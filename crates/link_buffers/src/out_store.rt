@@ -1,0 +1,90 @@
+//! `OutStore`: the packets to be sent.
+ghost use Rattle.std.specs.Prelude.{◌≡◌, ◌<◌, ◌↔◌, length, slice_get, option_copied, IsTrue, IfOk, IfNone};
+ghost use Rattle.rio_packets.specs.Fields.{prio_of};
+ghost use Rattle.link_buffers.specs.Queues.{list_at, appended, popped, no_packets, IsOutStore};
+
+use crate::lists::PriorityLists;
+use rio_chars::NoMemory;
+use rio_packets::Packet;
+use std::alloc::Global;
+use std::marker::Model;
+
+/// The most packets of one priority that wait to be sent (this project's profile).
+const ROOM: usize = 16;
+
+/// The packets to be sent, those sent and not yet accepted among them: four lists, one for each priority, of at most
+/// 16 packets each. Contracts see the four lists.
+#[derive(Drop)]
+pub struct OutStore {
+    lists: PriorityLists,
+}
+
+impl Model for OutStore {
+    ghost use Rattle.std.specs.Prelude.{◌≡◌, ℕ, List};
+    ghost use Rattle.link_buffers.specs.Queues.{IsOutStore};
+
+    ghost Value = { List (List (List ℕ)) };
+
+    ghost view = { λ s. s.lists.lists };
+
+    ghost invariant = { λ s. (s.lists.room ≡ 16) × IsOutStore s.lists.lists };
+}
+
+impl OutStore {
+    /// Makes an empty store. `NoMemory` is the only other answer.
+    pub fn new(alloc: Global) -> Result<OutStore, NoMemory>
+        ensures empty { IfOk result (λ store. store ≡ no_packets) }
+    {
+        let Ok(lists) = PriorityLists::new(alloc, ROOM) else {
+            return Err(NoMemory);
+        };
+        Ok(OutStore { lists })
+    }
+
+    /// Returns whether a packet of this priority may be put.
+    pub fn has_room(&self, prio: u8) -> bool
+        requires { prio < 4 }
+        ensures exact { IsTrue result ↔ (length (list_at self.now prio) < 16) }
+        ensures store { IsOutStore self.now }
+    {
+        self.lists.len(prio) < ROOM
+    }
+
+    /// Appends a packet to the list of its priority, which has room.
+    pub fn put(&mut self, packet: Packet)
+        requires room { length (list_at self.old (prio_of packet)) < 16 }
+        ensures appended { self.new ≡ appended self.old (prio_of packet) packet }
+        ensures prio { prio_of packet < 4 }
+        ensures store { IsOutStore self.new }
+    {
+        self.lists.push(packet);
+    }
+
+    /// Returns the packet at `place` of the list of a priority, counted from 0. `None` exactly past the end.
+    pub fn at(&self, prio: u8, place: u8) -> Option<&Packet>
+        requires { prio < 4 }
+        ensures { option_copied result ≡ slice_get (list_at self.now prio) place }
+    {
+        self.lists.at(prio, place)
+    }
+
+    /// Returns the number of packets of a priority.
+    pub fn len(&self, prio: u8) -> u8
+        requires { prio < 4 }
+        ensures value { result ≡ length (list_at self.now prio) }
+        ensures store { IsOutStore self.now }
+    {
+        self.lists.len(prio) as u8
+    }
+
+    /// Takes the first packet of a priority. `None` exactly where there is none.
+    pub fn pop(&mut self, prio: u8) -> Option<Packet>
+        requires { prio < 4 }
+        ensures value { result ≡ slice_get (list_at self.old prio) 0 }
+        ensures popped { self.new ≡ popped self.old prio }
+        ensures unchanged { IfNone result (self.new ≡ self.old) }
+        ensures store { IsOutStore self.new }
+    {
+        self.lists.pop(prio)
+    }
+}
