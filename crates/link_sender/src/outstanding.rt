@@ -1,0 +1,101 @@
+//! The outstanding packets: their priorities in the order of their ackIDs, and the oldest ackID.
+ghost use Rattle.std.specs.Prelude.{◌≡◌, ◌<◌, [], length, slice_index, take};
+ghost use Rattle.link_buffers.specs.Taking.{count_of};
+ghost use Rattle.link_model.specs.Window.{window, IsWindow, next_ack, distance, is_oldest, without_oldest, with_next, from_ack};
+
+use arrayvec::ArrayVec;
+use std::marker::Model;
+
+/// What a sender knows of the packets that it sent and that are not acknowledged.
+#[derive(Debug, Drop)]
+pub(crate) struct Outstanding {
+    oldest: u8,
+    prios: ArrayVec<u8, 31>,
+}
+
+impl Model for Outstanding {
+    ghost use Rattle.link_model.specs.Window.{Window, IsWindow};
+
+    ghost Value = { Window };
+
+    ghost view = { λ s. record { oldest = s.oldest; prios = s.prios.items } };
+
+    ghost invariant = { λ s. IsWindow (record { oldest = s.oldest; prios = s.prios.items }) };
+}
+
+impl Outstanding {
+    /// Nothing is outstanding, and `ack` is the next ackID.
+    pub(crate) fn from_ack(ack: u8) -> Outstanding
+        requires { ack < 32 }
+        ensures { result ≡ from_ack ack }
+    {
+        Outstanding {
+            oldest: ack,
+            prios: ArrayVec::new(),
+        }
+    }
+
+    /// Returns the ackID of the oldest packet, or the next one where nothing is outstanding.
+    pub(crate) fn oldest(&self) -> u8
+        ensures value { result ≡ self.now.oldest }
+        ensures window { IsWindow self.now }
+    {
+        self.oldest
+    }
+
+    /// Returns the priorities of the outstanding packets in the order of their ackIDs.
+    pub(crate) fn prios(&self) -> &[u8]
+        ensures value { result.now ≡ self.now.prios }
+        ensures window { IsWindow self.now }
+    {
+        self.prios.as_slice()
+    }
+
+    /// Returns the number of outstanding packets.
+    pub(crate) fn len(&self) -> u8
+        ensures value { result ≡ length self.now.prios }
+        ensures window { IsWindow self.now }
+    {
+        self.prios.len() as u8
+    }
+
+    /// Returns the ackID of the next packet.
+    pub(crate) fn next_ack(&self) -> u8
+        ensures { result ≡ next_ack self.now }
+    {
+        (self.oldest + self.prios.len() as u8) % 32
+    }
+
+    /// Returns whether `ack` is the ackID of the oldest outstanding packet.
+    pub(crate) fn is_oldest(&self, ack: u8) -> bool
+        ensures { result ≡ is_oldest self.now ack }
+    {
+        !self.prios.is_empty() && ack == self.oldest
+    }
+
+    /// Returns how many outstanding packets have a priority.
+    pub(crate) fn count(&self, prio: u8) -> u8
+        ensures { result ≡ count_of self.now.prios prio }
+    {
+        self.prios.iter().filter(|other| **other == prio).count() as u8
+    }
+
+    /// The oldest packet is acknowledged.
+    pub(crate) fn acknowledge(&mut self)
+        requires { 0 < length self.old.prios }
+        ensures { self.new ≡ without_oldest self.old }
+    {
+        self.prios.remove(0);
+        self.oldest = (self.oldest + 1) % 32;
+    }
+
+    /// One more packet is outstanding.
+    #[tactic(auto, unfolding(link_model::specs::Window::window))]
+    pub(crate) fn push(&mut self, prio: u8)
+        requires few { length self.old.prios < window }
+        requires prio { prio < 4 }
+        ensures { self.new ≡ with_next self.old prio }
+    {
+        self.prios.push(prio);
+    }
+}
