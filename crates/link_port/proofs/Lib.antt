@@ -1,0 +1,5 @@
+pub mod FirstPackets
+pub mod TurnLaws
+pub mod ActLaws
+pub mod ReplyLaws
+pub mod CarryLaws

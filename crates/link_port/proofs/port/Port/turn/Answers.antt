@@ -1,0 +1,35 @@
+use Rattle.std.proofs.Common.{ap, ◌∙◌}
+use Rattle.link_port.specs.declared.port.Port.TheInside.{Inside}
+use Rattle.link_port.specs.Halves.{output_of, input_of}
+use Rattle.link_port.specs.Bursts.{sent_by}
+use Rattle.link_port.specs.Turns.{Sending, turn_sends}
+use Rattle.link_port.specs.Ports.{PortState}
+use Rattle.link_port.proofs.TurnLaws.{Covers-turned_to, turn_is}
+use Rattle.link_port.proofs.port.Port.turn.Goals as goal
+
+-- what contracts see of the fields
+abbrev seen : Inside → PortState
+seen p = record { place = p.framer; output = output_of p.output; input = input_of p.input; queued = p.queued; received = p.received }
+
+pub invariant_of-self : goal.invariant_of-self
+invariant_of-self c =
+    let entry = rw c.replace-output.ensures.value at c.turn-output.ensures.entry in
+    (Covers-turned_to _ _ _ _ c.self.invariant.0 entry, c.self.invariant.1)
+
+pub returns-clause-chars : goal.returns-clause-chars
+returns-clause-chars c =
+    let entry = rw c.replace-output.ensures.value at c.turn-output.ensures.entry in
+    let waits = rw c.replace-output.ensures.value at c.turn-output.ensures.waiting in
+    c.make_burst.ensures.chars
+    ∙ ap (λ n. (sent_by c.turn-output.result.1 n c.self.inside.queued).chars) c.expected.ensures.value
+    ∙ ap (λ (s : Sending). s.chars) (turn_is (seen c.self.inside) _ _ entry waits)
+    ∙ ap (λ (p : PortState). (turn_sends p).chars) c.self.view_is
+
+pub returns-clause-sent : goal.returns-clause-sent
+returns-clause-sent c =
+    let entry = rw c.replace-output.ensures.value at c.turn-output.ensures.entry in
+    let waits = rw c.replace-output.ensures.value at c.turn-output.ensures.waiting in
+    c.make_burst.ensures.sent
+    ∙ ap (λ n. (sent_by c.turn-output.result.1 n c.self.inside.queued).sent) c.expected.ensures.value
+    ∙ ap (λ (s : Sending). s.sent) (turn_is (seen c.self.inside) _ _ entry waits)
+    ∙ ap (λ (p : PortState). (turn_sends p).sent) c.self.view_is

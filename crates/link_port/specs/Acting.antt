@@ -1,0 +1,26 @@
+-- What the events of one character do, each by itself.
+use Rattle.std.specs.Prelude.{Bool, false, Option, Some, None, option_to_list, List, [], ◌∷◌, ◌++◌}
+use Rattle.rio_symbols.specs.Fields.{Fields}
+use Rattle.link_model.specs.declared.event.Event.{Event}
+use Rattle.link_port.specs.Ports.{PortState}
+use Rattle.link_port.specs.Steps.{Acted, idle, acts, acts_symbol, is_acted}
+
+-- the first event, if there is one
+abbrev pub acts_first : PortState → Option Event → Acted
+acts_first port None = idle port
+acts_first port (Some event) = acts port event
+
+-- the symbol behind it, if there is one
+abbrev pub acts_second : PortState → Option Fields → Acted
+acts_second port None = idle port
+acts_second port (Some symbol) = acts_symbol port symbol
+
+-- whether there is a first event, and it is a symbol, or a packet that is taken or has no room
+abbrev pub is_first_acted : PortState → Option Event → Bool
+is_first_acted port None = false
+is_first_acted port (Some event) = is_acted port event
+
+-- the symbols that answer events, one after another
+unfoldable pub replies : PortState → List Event → List Fields
+replies port [] = []
+replies port (e ∷ es) = option_to_list (acts port e).reply ++ replies (acts port e).port es

@@ -1,0 +1,11 @@
+pub mod Faces
+pub mod Passing
+pub mod Windows
+pub mod Halves
+pub mod Sends
+pub mod Ports
+pub mod Steps
+pub mod Turns
+pub mod Bursts
+pub mod Acting
+pub mod Carrying

@@ -1,0 +1,87 @@
+//! What a port sends in a turn.
+ghost use Rattle.std.specs.Prelude.{◌≡◌, ◌<◌, Some};
+ghost use Rattle.link_port.specs.Bursts.{sent_by, HasRange};
+ghost use Rattle.link_port.specs.Turns.{nothing_sent, symbol_sent, packet_sent};
+
+use crate::output_half::Sends;
+use arrayvec::ArrayVec;
+use link_buffers::OutStore;
+use link_model::{Event, end_of_packet, link_request, restart_from_retry, start_of_packet};
+use rio_chars::Char;
+use rio_framer::{packet_chars, symbol_chars};
+use rio_packets::Packet;
+use rio_symbols::Symbol;
+
+/// What a port sends in a turn.
+#[derive(Drop)]
+pub struct Burst {
+    /// The characters, of which a packet of 276 bytes between its two symbols has most.
+    pub chars: ArrayVec<Char, 284>,
+    /// The symbols and the packet that they spell.
+    pub sent: ArrayVec<Event, 3>,
+}
+
+/// What is sent by a port that expects this ackID.
+pub(crate) fn make_burst(sends: Sends, expected: u8, queued: &OutStore) -> Burst
+    requires expected { expected < 32 }
+    requires range { HasRange sends }
+    ensures chars { result.chars.items ≡ (sent_by sends expected queued.now).chars }
+    ensures sent { result.sent.items ≡ (sent_by sends expected queued.now).sent }
+{
+    match sends {
+        Sends::Packet(started) => match queued.at(started.prio, started.place) {
+            Some(packet) => packet_burst(expected, started.ack, packet),
+            None => no_burst(),
+        },
+        Sends::Restart => symbol_burst(restart_from_retry(expected)),
+        Sends::Request => symbol_burst(link_request(expected)),
+        Sends::Nothing => no_burst(),
+    }
+}
+
+/// Nothing.
+fn no_burst() -> Burst
+    ensures chars { result.chars.items ≡ nothing_sent.chars }
+    ensures sent { result.sent.items ≡ nothing_sent.sent }
+{
+    Burst {
+        chars: ArrayVec::new(),
+        sent: ArrayVec::new(),
+    }
+}
+
+/// One symbol.
+fn symbol_burst(symbol: Symbol) -> Burst
+    ensures chars { result.chars.items ≡ (symbol_sent symbol).chars }
+    ensures sent { result.sent.items ≡ (symbol_sent symbol).sent }
+{
+    let mut chars = ArrayVec::new();
+    if chars
+        .try_extend_from_slice(symbol_chars(&symbol).as_slice())
+        .is_err()
+    {
+        unreachable!();
+    }
+    let mut sent = ArrayVec::new();
+    sent.push(Event::Ctl(symbol));
+    Burst { chars, sent }
+}
+
+/// A packet between its two symbols, from a port that expects this ackID.
+fn packet_burst(expected: u8, ack: u8, packet: &Packet) -> Burst
+    requires expected { expected < 32 }
+    requires ack { ack < 32 }
+    ensures chars { result.chars.items ≡ (packet_sent expected ack (Some packet.now)).chars }
+    ensures sent { result.sent.items ≡ (packet_sent expected ack (Some packet.now)).sent }
+{
+    let start = start_of_packet(expected);
+    let end = end_of_packet(expected);
+    let mut sent = ArrayVec::new();
+    sent.push(Event::Ctl(start));
+    sent.push(Event::Pkt(ack, packet.copy()));
+    sent.push(Event::Ctl(end));
+    Burst {
+        chars: packet_chars(&start, ack, packet, &end),
+        sent,
+    }
+}

@@ -1,0 +1,39 @@
+//! The ends of RapidIO links (RapidIO Interconnect Specification 1.3, Part 6, packet acknowledgment, packet retry and
+//! error recovery): a port takes the characters that come, and says what is to be sent.
+//!
+//! Promised: each call is the step tables of `link_model` led over what the characters say, and what is sent is a
+//! function of the port's state. Whatever comes, the port is in one of its named states, holds no more packets than it
+//! has buffers, and has at most `WINDOW` packets outstanding. Only the two `new` take memory.
+//!
+//! Left out: what travels between two ports, and when a time-out comes.
+//!
+//! - [`Port`]: `take`, `turn` and `time_out`, and readers of its state, by [`OutKind`] and [`InKind`]
+//! - [`Taken`] and [`Burst`]: what a character did, and what a turn sends
+//! - [`PortFace`]: the eight lists of packets that the layer above sees
+//! - [`PlainPort`] and [`pass`]: a port with no protocol, whose packets pass at once
+//! - [`carry`]: an example, a packet from one port to another and its acknowledgement back
+//! - [`one_character_has_one_reply`]: a law; the call does nothing
+#![tactic(auto)]
+
+mod acting;
+mod bursts;
+mod example;
+mod face;
+mod input_half;
+mod kinds;
+mod laws;
+mod output_half;
+mod plain;
+mod port;
+mod taken;
+#[cfg(test)]
+mod tests;
+
+pub use bursts::Burst;
+pub use example::carry;
+pub use face::PortFace;
+pub use kinds::{InKind, OutKind};
+pub use laws::one_character_has_one_reply;
+pub use plain::{PlainPort, pass};
+pub use port::Port;
+pub use taken::Taken;

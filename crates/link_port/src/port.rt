@@ -1,0 +1,210 @@
+//! `Port`: the end of a link.
+ghost use Rattle.std.specs.Prelude.{◌≡◌, ◌<◌, ◌≤◌, ◌↔◌, [], length, IsTrue, IfOk};
+ghost use Rattle.link_buffers.specs.Queues.{held};
+ghost use Rattle.link_model.specs.Places.{at_rest as rests};
+ghost use Rattle.link_model.specs.Window.{window};
+ghost use Rattle.link_port.specs.Windows.{prios_of, has_asked};
+ghost use Rattle.link_port.specs.Halves.{out_kind_of, in_kind_of};
+ghost use Rattle.link_port.specs.Ports.{IsPort, new_port};
+ghost use Rattle.link_port.specs.Steps.{read, takes, first_acted};
+ghost use Rattle.link_port.specs.Turns.{turns_to, turn_sends, timed_out, waiting_in};
+ghost use Rattle.rio_framer.specs.Giving.{listed, IsPaired};
+
+use crate::bursts::{Burst, make_burst};
+use crate::face::PortFace;
+use crate::input_half::Input;
+use crate::kinds::{InKind, OutKind};
+use crate::output_half::Output;
+use crate::taken::Taken;
+use arrayvec::ArrayVec;
+use link_buffers::{InStore, OutStore};
+use link_receiver::InOk;
+use link_sender::{OutFailed, OutOk};
+use rio_chars::{Char, NoMemory};
+use rio_framer::{Events, Framer};
+use rio_packets::Packet;
+use std::alloc::Global;
+use std::marker::Model;
+use std::mem;
+
+/// The end of a link: a framer, the output and the input half, the packets to be sent, and those received.
+#[derive(Drop)]
+pub struct Port {
+    pub(crate) framer: Framer,
+    pub(crate) output: Output,
+    pub(crate) input: Input,
+    pub(crate) queued: OutStore,
+    pub(crate) received: InStore,
+}
+
+impl Model for Port {
+    ghost use Rattle.link_buffers.specs.Taking.{Covers};
+    ghost use Rattle.link_model.specs.Places.{IsBounded};
+    ghost use Rattle.link_port.specs.Windows.{prios_of};
+    ghost use Rattle.link_port.specs.Halves.{output_of, input_of};
+    ghost use Rattle.link_port.specs.Ports.{PortState};
+
+    ghost Value = { PortState };
+
+    ghost view = { λ port. record {
+      place = port.framer;
+      output = output_of port.output;
+      input = input_of port.input;
+      queued = port.queued;
+      received = port.received;
+    } };
+
+    ghost invariant = { λ port. Covers (prios_of (output_of port.output)) port.queued × IsBounded port.framer.text };
+}
+
+impl Port {
+    /// Makes a port of 4 to 30 receive buffers, with no packet, which begins with ackID 0 both ways. `NoMemory` is the only
+    /// other answer; no other call of a port takes memory.
+    pub fn new(alloc: Global, buffers: u8) -> Result<Port, NoMemory>
+        requires least { 4 ≤ buffers }
+        requires most { buffers ≤ 30 }
+        ensures empty { IfOk result (λ port. port ≡ new_port buffers) }
+    {
+        Ok(Port {
+            framer: Framer::new(),
+            output: Output::Ok(OutOk::new()),
+            input: Input::Ok(InOk::new()),
+            queued: OutStore::new(alloc)?,
+            received: InStore::new(alloc, buffers)?,
+        })
+    }
+
+    /// Takes a character that came. The symbol or the packet that it completes is led through the output half first and
+    /// then through the input half, by the step tables of `link_model`. Packets that it acknowledges are put into `freed`.
+    pub fn take(&mut self, c: Char, freed: &mut ArrayVec<Packet, 31>) -> Taken
+        requires empty { freed.old.items ≡ [] }
+        ensures state { self.new ≡ (takes self.old c).port }
+        ensures events { listed result.first result.second ≡ read self.old c }
+        ensures paired { IsPaired result.first result.second }
+        ensures first_acted { result.first_acted ≡ first_acted self.old (read self.old c) }
+        ensures held { result.held ≡ (takes self.old c).held }
+        ensures reply { result.reply ≡ (takes self.old c).reply }
+        ensures freed { freed.new.items ≡ (takes self.old c).freed }
+        ensures port { IsPort self.new }
+    {
+        let Events { first, second } = self.framer.feed(c);
+        let taken = self.act_on(first, second, freed);
+        self.bounds();
+        taken
+    }
+
+    /// Sends at most one packet or one symbol: a packet where the sender may start one, restart-from-retry after a retry,
+    /// and a link-request after an error, once until a response or a time-out.
+    pub fn turn(&mut self) -> Burst
+        ensures state { self.new ≡ turns_to self.old }
+        ensures chars { result.chars.items ≡ (turn_sends self.old).chars }
+        ensures sent { result.sent.items ≡ (turn_sends self.old).sent }
+        ensures port { IsPort self.new }
+    {
+        let output = mem::replace(&mut self.output, Output::Failed(OutFailed));
+        let (output, sends) = output.turn(&self.queued);
+        self.output = output;
+        self.bounds();
+        make_burst(sends, self.input.expected(), &self.queued)
+    }
+
+    /// A time-out: a sender that may start packets has to ask which packet the far port expects, also where nothing is
+    /// outstanding, and one that has asked asks again. Any other state is unchanged.
+    pub fn time_out(&mut self)
+        ensures state { self.new ≡ timed_out self.old }
+        ensures port { IsPort self.new }
+    {
+        let output = mem::replace(&mut self.output, Output::Failed(OutFailed));
+        self.output = output.time_out();
+        self.bounds();
+    }
+
+    /// Returns the state of the output half.
+    pub fn out_kind(&self) -> OutKind
+        ensures { result ≡ out_kind_of self.now.output }
+    {
+        self.output.kind()
+    }
+
+    /// Returns the state of the input half.
+    pub fn in_kind(&self) -> InKind
+        ensures { result ≡ in_kind_of self.now.input }
+    {
+        self.input.kind()
+    }
+
+    /// Returns whether neither a symbol nor a packet is coming in.
+    pub fn at_rest(&self) -> bool
+        ensures { result ≡ rests self.now.place }
+    {
+        self.framer.at_rest()
+    }
+
+    /// Returns whether a packet is to be sent that is not outstanding.
+    pub fn waiting(&self) -> bool
+        ensures { IsTrue result ↔ (0 < held (waiting_in self.now)) }
+    {
+        self.bounds();
+        let queued = &self.queued;
+        queued.len(0) + queued.len(1) + queued.len(2) + queued.len(3) > self.output.outstanding()
+    }
+
+    /// Returns the number of outstanding packets, at most `WINDOW`.
+    pub fn outstanding(&self) -> u8
+        ensures value { result ≡ length (prios_of self.now.output) }
+        ensures most { result ≤ window }
+    {
+        self.output.outstanding()
+    }
+
+    /// Returns whether a link-request was sent since the error or the last time-out.
+    pub fn asked(&self) -> bool
+        ensures { result ≡ has_asked self.now.output }
+    {
+        self.output.asked()
+    }
+
+    /// What is true of every port, so after any characters: it is in one of its states, at most `WINDOW` packets are
+    /// outstanding, its framer holds at most 276 bytes, and it holds no more packets than it has buffers. The call does
+    /// nothing.
+    pub fn bounds(&self)
+        ensures { IsPort self.now }
+    {
+        let _ = self.output.outstanding();
+        let _ = self.input.expected();
+        let _ = self.queued.len(0);
+        let _ = self.received.free();
+    }
+}
+
+impl PortFace for Port {
+    ghost use Rattle.std.proofs.Common.{◌∙◌, refl};
+    ghost use Rattle.link_port.specs.Ports.{AreAlike};
+
+    ghost received = { λ port. port.received.lists };
+
+    ghost queued = { λ port. port.queued };
+
+    ghost alike = { AreAlike };
+
+    ghost alike_same = { λ port. (refl, refl, refl, refl) };
+
+    ghost alike_on = { λ port next last h k. (h.0 ∙ k.0, h.1 ∙ k.1, h.2 ∙ k.2, h.3 ∙ k.3) };
+
+    fn in_head(&self, prio: u8) -> Option<&Packet> {
+        self.bounds();
+        self.received.head(prio)
+    }
+
+    fn in_pop(&mut self, prio: u8) -> Option<Packet> {
+        self.received.pop(prio)
+    }
+
+    fn out_room(&self, prio: u8) -> bool {
+        self.queued.has_room(prio)
+    }
+
+    fn out_put(&mut self, packet: Packet) {
+        self.queued.put(packet);
+    }
+}
