@@ -1,0 +1,67 @@
+-- Legal lists of steps, joined and taken apart.
+use Rattle.std.proofs.Common.{◌≡◌, List, [], ◌∷◌, ◌++◌, Option, Some, None, sym, ap, ◌∙◌, subst, refl, append_assoc, append-nil}
+use Rattle.rio_packets.specs.Fields.{prio_of}
+use Rattle.fabric_model.specs.declared.lines.PortRef.{PortRef}
+use Rattle.fabric_model.specs.Network.{Item, Network, peer_in}
+use Rattle.fabric_model.specs.Steps.{Hold, Free, Take, Leave, Step, Linked, AtNode, Needs, after_hold, after, after_all, LegalFrom}
+use Rattle.fabric_model.specs.Lines.{TraceLine, Begun, Stepped, Lacked, Ended, steps_of}
+use Rattle.fabric_model.specs.Laws.History.{gathered, taken_by, left_by, taken, gone}
+
+pub steps_of-append : (a b : List TraceLine) → steps_of (a ++ b) ≡ steps_of a ++ steps_of b
+steps_of-append [] b = refl
+steps_of-append (Begun line ∷ a) b = steps_of-append a b
+steps_of-append (Stepped step ∷ a) b = ap (λ steps. step ∷ steps) (steps_of-append a b)
+steps_of-append (Lacked lack ∷ a) b = steps_of-append a b
+steps_of-append (Ended ∷ a) b = steps_of-append a b
+
+-- a legal list of steps ends in one network
+pub end_is : (net : Network) (steps : List Step) (end : Network) → LegalFrom net steps end → end ≡ after_all net steps
+end_is net [] end legal = legal
+end_is net (step ∷ steps) end legal = end_is (after net step) steps end legal.1
+
+pub ends_alike : (net : Network) (steps : List Step) (a b : Network) → LegalFrom net steps a → LegalFrom net steps b → a ≡ b
+ends_alike net steps a b p q = end_is net steps a p ∙ sym (end_is net steps b q)
+
+-- the two parts of a legal list are legal
+pub legal_parts : (net : Network) (a b : List Step) (end : Network) → LegalFrom net (a ++ b) end → LegalFrom net a (after_all net a) × LegalFrom (after_all net a) b end
+legal_parts net [] b end legal = (refl, legal)
+legal_parts net (step ∷ a) b end legal =
+    let parts = legal_parts (after net step) a b end legal.1 in
+    ((legal.0, parts.0), parts.1)
+
+-- and two legal lists, the second from where the first ends, are legal together
+pub legal_joined : (net : Network) (a b : List Step) (mid end : Network) → LegalFrom net a mid → LegalFrom mid b end → LegalFrom net (a ++ b) end
+legal_joined net [] b mid end p q = subst (λ x. LegalFrom x b end) p q
+legal_joined net (step ∷ a) b mid end p q = (p.0, legal_joined (after net step) a b mid end p.1 q)
+
+-- What each step keeps, of the network and of the items taken and gone so far, is kept along all steps.
+pub carried : (Kept : Network → List Item → List Item → Type 0) → ((net : Network) (made left : List Item) (step : Step) → Needs net step → Kept net made left → Kept (after net step) (made ++ taken_by net step) (left ++ left_by net step)) → (net : Network) (made left : List Item) (steps : List Step) (end : Network) → Kept net made left → LegalFrom net steps end → Kept end (made ++ taken net steps) (left ++ gone net steps)
+carried Kept keeps net made left [] end kept legal =
+    rw (append-nil made, append-nil left) (subst (λ x. Kept x made left) (sym legal) kept)
+carried Kept keeps net made left (step ∷ steps) end kept legal =
+    let after_step = keeps net made left step legal.0 kept in
+    let whole = carried Kept keeps (after net step) (made ++ taken_by net step) (left ++ left_by net step) steps end after_step legal.1 in
+    rw (append_assoc made (taken_by net step) (taken (after net step) steps), append_assoc left (left_by net step) (gone (after net step) steps)) at whole
+
+-- A queue along the steps: what stands in it and what comes in is what goes out and what then stands in it.
+pub queued : {A : Type 0} (Kept : Network → Type 0) (comes goes : Network → Step → List A) (queue : Network → List A) → ((net : Network) (step : Step) → Needs net step → Kept net → Kept (after net step)) → ((net : Network) (step : Step) → Needs net step → Kept net → queue net ++ comes net step ≡ goes net step ++ queue (after net step)) → (net : Network) (steps : List Step) (end : Network) → Kept net → LegalFrom net steps end → queue net ++ gathered comes net steps ≡ gathered goes net steps ++ queue end
+queued Kept comes goes queue keeps each net [] end kept legal = append-nil (queue net) ∙ ap queue (sym legal)
+queued Kept comes goes queue keeps each net (step ∷ steps) end kept legal =
+    let now = each net step legal.0 kept in
+    let later = queued Kept comes goes queue keeps each (after net step) steps end (keeps net step legal.0 kept) legal.1 in
+    sym (append_assoc (queue net) (comes net step) (gathered comes (after net step) steps))
+    ∙ (ap (λ x. x ++ gathered comes (after net step) steps) now
+    ∙ (append_assoc (goes net step) (queue (after net step)) (gathered comes (after net step) steps)
+    ∙ (ap (λ x. goes net step ++ x) later
+    ∙ sym (append_assoc (goes net step) (gathered goes (after net step) steps) (queue end)))))
+
+-- the links stay
+pub links_stay : (net : Network) (step : Step) → (after net step).links ≡ net.links
+links_stay net (Linked (Hold q packet)) = held_links (peer_in net.links q)
+  where
+    held_links : (p : Option PortRef) → (after_hold net q p (prio_of packet)).links ≡ net.links
+    held_links None = refl
+    held_links (Some p) = refl
+links_stay net (Linked (Free p packet)) = refl
+links_stay net (AtNode (Take n packet)) = refl
+links_stay net (AtNode (Leave n packet)) = refl

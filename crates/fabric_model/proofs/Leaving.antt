@@ -1,0 +1,47 @@
+-- What leaves: each item once, and as it was taken.
+use Rattle.std.proofs.Common.{◌≡◌, ℕ, ◌<◌, ◌≤◌, Bool, true, false, List, [], ◌∷◌, ◌++◌, length, sym, ap, ap₂, ◌∙◌, refl, cond, arith, ◌⊎◌, inl, inr}
+use Rattle.std.proofs.lemmas.Bool.{cases_lt}
+use Rattle.std.proofs.lemmas.List.{length-map}
+use Rattle.rio_packets.specs.Fields.{prio_of}
+use Rattle.fabric_model.specs.Network.{Network, port_of}
+use Rattle.fabric_model.specs.Steps.{Take, Leave, Step, Linked, AtNode, Needs, after, LegalFrom}
+use Rattle.fabric_model.specs.Laws.History.{IsEmptyNetwork, left_by, taken, gone}
+use Rattle.fabric_model.specs.Laws.Holding.{Left, same_place, how_often}
+use Rattle.fabric_model.specs.Laws.Leaving.{packet_left, packets_left, Once, Unchanged}
+use Rattle.fabric_model.proofs.Freeing.{packets, packets-append, packets-only_first}
+use Rattle.fabric_model.proofs.Holding.{Held, held_along}
+
+left_shown : (net : Network) (step : Step) → Needs net step → packet_left step ≡ packets (left_by net step)
+left_shown net (Linked step) needs = refl
+left_shown net (AtNode (Take n packet)) needs = refl
+left_shown net (AtNode (Leave n packet)) needs = sym (packets-only_first (net.received (port_of n) (prio_of packet)) packet needs.1)
+
+gone_shown : (net : Network) (steps : List Step) (end : Network) → LegalFrom net steps end → packets_left steps ≡ packets (gone net steps)
+gone_shown net [] end legal = refl
+gone_shown net (step ∷ steps) end legal =
+    ap₂ ◌++◌ (left_shown net step legal.0) (gone_shown (after net step) steps end legal.1)
+    ∙ sym (packets-append (left_by net step) (gone (after net step) steps))
+
+pub unchanged : (start : Network) (steps : List Step) (end : Network) → IsEmptyNetwork start → LegalFrom start steps end → Unchanged start steps
+unchanged start steps end empty legal =
+    let held = held_along start steps end empty legal in
+    record { shown = gone_shown start steps end legal; same = held.known Left }
+
+at_most_one : (t : Bool) (n : ℕ) → n ≡ cond t 1 0 → n ≤ 1
+at_most_one true n e = omega arith
+at_most_one false n e = omega arith
+
+pub once : (start : Network) (steps : List Step) (end : Network) → IsEmptyNetwork start → LegalFrom start steps end → Once start steps
+once start steps end empty legal = record {
+  each = sym (ap length (gone_shown start steps end legal) ∙ length-map (gone start steps) (λ item. item.now));
+  never_twice = λ n. go n (cases_lt n end.given);
+}
+  where
+    held : Held end (taken start steps) (gone start steps)
+    held = held_along start steps end empty legal
+
+    go : (n : ℕ) → ((n < end.given) ⊎ (end.given ≤ n)) → how_often n (gone start steps) ≤ 1
+    go n (inl below) =
+        let at = held.standing.placed n below in
+        at_most_one (same_place Left at.0) (how_often n (gone start steps)) (at.1 Left)
+    go n (inr above) = omega (arith, held.standing.fresh n above Left)

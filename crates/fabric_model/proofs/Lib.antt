@@ -1,0 +1,13 @@
+pub mod Unique
+pub mod Joining
+pub mod Beginning
+pub mod Peers
+pub mod Freeing
+pub mod Boards
+pub mod Holding
+pub mod Leaving
+pub mod Paths
+pub mod Order
+pub mod Lanes
+pub mod Worked
+pub mod Lawfulness

@@ -1,0 +1,72 @@
+-- The worked run, and lists of steps of which the laws do not hold.
+use Rattle.std.proofs.Common.{◌≡◌, List, [], ◌∷◌, ◌++◌, refl, arith}
+use Rattle.rio_packets.specs.Fields.{body_of}
+use Rattle.rio_packets.specs.LinkForm.{LinkForm}
+use Rattle.fabric_model.specs.declared.lines.Line.TheVariants.{Settle, Collect}
+use Rattle.fabric_model.specs.Network.{Item, port_of}
+use Rattle.fabric_model.specs.Steps.{Hold, Free, Take, Leave, Linked, AtNode, after_all, LegalFrom}
+use Rattle.fabric_model.specs.Lines.{TraceLine, Begun, Stepped, Ended, steps_of}
+use Rattle.fabric_model.specs.Schedule.{Rests, GoesOn}
+use Rattle.fabric_model.specs.Runs.{Runs}
+use Rattle.fabric_model.specs.Laws.History.{gone}
+use Rattle.fabric_model.specs.Laws.Holding.{Place, Received, Waiting, Left, HoldingExactly, StandsAt, items_at}
+use Rattle.fabric_model.specs.Laws.Leaving.{Once, Unchanged}
+use Rattle.fabric_model.specs.Laws.Freeing.{FreedAfterHeld}
+use Rattle.fabric_model.specs.Laws.Flows.{InOrder}
+use Rattle.fabric_model.specs.Laws.Examples.{rest_of_body, packet, other, pair_script, pair_lines, pair, first, held_once, kept_too, left_twice, left_as_other, freed_too_early, fork, overtaking}
+
+pub pair_legal : LegalFrom pair (steps_of pair_lines) (after_all pair (steps_of pair_lines))
+pair_legal = ((refl, refl), ((port_of 0, refl, refl, refl), (refl, ((refl, refl, refl), refl))))
+
+pub pair_gone : gone pair (steps_of pair_lines) ≡ first ∷ []
+pair_gone = refl
+
+-- what the link passes
+abbrev passed : List TraceLine
+passed = Stepped (Linked (Hold (port_of 1) packet)) ∷ Stepped (Linked (Free (port_of 0) packet)) ∷ []
+
+pub pair_runs : LinkForm (body_of 0 15 2 1 rest_of_body) packet → Runs pair_script pair_lines
+pair_runs form = (
+  Stepped (AtNode (Take 0 packet)) ∷ [],
+  Begun (Settle (port_of 0)) ∷ (passed ++ (Begun (Collect 1) ∷ Stepped (AtNode (Leave 1 packet)) ∷ Ended ∷ [])),
+  refl,
+  (packet, form, refl),
+  (
+    passed,
+    Begun (Collect 1) ∷ Stepped (AtNode (Leave 1 packet)) ∷ Ended ∷ [],
+    refl,
+    (passed, [], refl, GoesOn passed [] refl refl refl (Rests refl refl), Rests refl refl),
+    (Stepped (AtNode (Leave 1 packet)) ∷ [], Ended ∷ [], refl, refl, refl),
+  ),
+)
+
+pub kept_too_breaks : HoldingExactly pair held_once kept_too → ⊥
+kept_too_breaks holding = go (holding.placed 0 (omega arith))
+  where
+    go : ((place : Place) × StandsAt (items_at kept_too (gone pair held_once)) 0 place) → ⊥
+    go at = elsewhere at.0 at.1
+      where
+        elsewhere : (place : Place) → StandsAt (items_at kept_too (gone pair held_once)) 0 place → ⊥
+        elsewhere (Received p r) stands = omega (arith, stands (Waiting (port_of 0) 0))
+        elsewhere (Waiting p r) stands = omega (arith, stands (Received (port_of 1) 0))
+        elsewhere Left stands = omega (arith, stands (Waiting (port_of 0) 0))
+
+pub left_twice_breaks : Once pair left_twice → ⊥
+left_twice_breaks once = omega (arith, once.each)
+
+pub left_as_other_breaks : Unchanged pair left_as_other → ⊥
+left_as_other_breaks unchanged = absurd (cc unchanged.shown)
+
+pub freed_too_early_breaks : FreedAfterHeld pair freed_too_early → ⊥
+freed_too_early_breaks law =
+    let front = law.front (AtNode (Take 0 packet) ∷ Linked (Free (port_of 0) packet) ∷ []) (Linked (Hold (port_of 1) packet) ∷ []) refl (port_of 0) in
+    absurd (cc front.1)
+
+pub overtaking_legal : LegalFrom fork overtaking (after_all fork overtaking)
+overtaking_legal = ((refl, refl), ((refl, refl), ((port_of 0, refl, refl, refl), ((port_of 0, refl, refl, refl), ((refl, refl, refl), ((refl, refl, refl), refl))))))
+
+pub overtaking_breaks : InOrder fork overtaking → ⊥
+overtaking_breaks law = omega (arith, law.earlier_first first second [] (first ∷ []) refl refl (record { port = refl; source = refl; dest = refl; priority = refl; maintenance = refl; hop = refl }) (omega arith))
+  where
+    second : Item
+    second = record { number = 1; port = port_of 0; taken = other; now = other }

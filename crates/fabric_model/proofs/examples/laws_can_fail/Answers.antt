@@ -1,0 +1,12 @@
+use Rattle.fabric_model.proofs.Worked.{kept_too_breaks, left_twice_breaks, left_as_other_breaks, freed_too_early_breaks, overtaking_legal, overtaking_breaks}
+use Rattle.fabric_model.proofs.examples.laws_can_fail.Goals as goal
+
+pub returns : goal.returns
+returns c = record {
+  holding_exactly = kept_too_breaks;
+  once = left_twice_breaks;
+  unchanged = left_as_other_breaks;
+  freed_after_held = freed_too_early_breaks;
+  fork_is_legal = overtaking_legal;
+  in_order = overtaking_breaks;
+}

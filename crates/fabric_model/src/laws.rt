@@ -1,0 +1,75 @@
+//! The laws of the plain network, each as the contract of a function with an empty body.
+//!
+//! A law speaks of every script, or of every list of steps that is legal from an empty network: of any number of nodes,
+//! ports and priorities, and of any buffers.
+
+ghost use Rattle.std.specs.Prelude.{List, ◌≡◌, ◌++◌};
+ghost use Rattle.fabric_model.specs.declared.lines.Numbered.{Numbered};
+ghost use Rattle.fabric_model.specs.Network.{Network};
+ghost use Rattle.fabric_model.specs.Steps.{Step, LegalFrom, after_all};
+ghost use Rattle.fabric_model.specs.Lines.{TraceLine, steps_of};
+ghost use Rattle.fabric_model.specs.Runs.{Runs, bare, set_up_all};
+ghost use Rattle.fabric_model.specs.Laws.History.{IsEmptyNetwork};
+ghost use Rattle.fabric_model.specs.Laws.Holding.{HoldingExactly};
+ghost use Rattle.fabric_model.specs.Laws.Leaving.{Once, Unchanged};
+ghost use Rattle.fabric_model.specs.Laws.Freeing.{FreedAfterHeld};
+ghost use Rattle.fabric_model.specs.Laws.Flows.{InOrder};
+ghost use Rattle.fabric_model.specs.Laws.Proper.{AreProper, SetUpIsProper};
+ghost use Rattle.fabric_model.specs.Laws.Priorities.{ByPriority};
+
+/// A script has at most one trace.
+#[tactic(auto, using(crate::proofs::Unique::runs_one))]
+pub fn one_trace()
+    ensures { (script : List Numbered) (a b : List TraceLine) → Runs script a → Runs script b → a ≡ b }
+{}
+
+/// The network holds exactly the packets taken: each number that was given out stands in exactly one place, in one list
+/// of a port and a priority or among those that have left.
+pub fn holding_exactly()
+    ensures { (start : Network) (steps : List Step) (end : Network) → IsEmptyNetwork start → LegalFrom start steps end → HoldingExactly start steps end }
+{}
+
+/// No packet leaves twice.
+pub fn once()
+    ensures { (start : Network) (steps : List Step) (end : Network) → IsEmptyNetwork start → LegalFrom start steps end → Once start steps }
+{}
+
+/// What leaves is what was taken.
+pub fn unchanged()
+    ensures { (start : Network) (steps : List Step) (end : Network) → IsEmptyNetwork start → LegalFrom start steps end → Unchanged start steps }
+{}
+
+/// No port frees a packet before the next hop holds it.
+pub fn freed_after_held()
+    ensures { (start : Network) (steps : List Step) (end : Network) → IsEmptyNetwork start → LegalFrom start steps end → FreedAfterHeld start steps }
+{}
+
+/// Of two items of one flow the one that was taken first leaves first, where each port stands in at most one link.
+pub fn in_order()
+    ensures { (start : Network) (steps : List Step) (end : Network) → IsEmptyNetwork start → AreProper start.links → LegalFrom start steps end → InOrder start steps }
+{}
+
+/// Each list of a network holds packets of its own priority alone.
+pub fn by_priority()
+    ensures { (start : Network) (steps : List Step) (end : Network) → IsEmptyNetwork start → LegalFrom start steps end → ByPriority end }
+{}
+
+/// Legal steps from one network end in one network.
+pub fn one_end()
+    ensures { (start : Network) (steps : List Step) (a b : Network) → LegalFrom start steps a → LegalFrom start steps b → a ≡ b }
+{}
+
+/// The steps of joined lines are the steps joined. The parts of a legal list of steps are legal, each front among them,
+/// and two legal lists are legal together.
+pub fn joined()
+    ensures lines { (a b : List TraceLine) → steps_of (a ++ b) ≡ steps_of a ++ steps_of b }
+    ensures parts { (start : Network) (a b : List Step) (end : Network) → LegalFrom start (a ++ b) end → LegalFrom start a (after_all start a) × LegalFrom (after_all start a) b end }
+    ensures whole { (start : Network) (a b : List Step) (mid end : Network) → LegalFrom start a mid → LegalFrom mid b end → LegalFrom start (a ++ b) end }
+{}
+
+/// The network that the lines of set-up give is empty. Its links are proper where each line that links joins two ports
+/// that no line before it links.
+pub fn set_up()
+    ensures empty { (script : List Numbered) → IsEmptyNetwork (set_up_all bare script) }
+    ensures proper { (net : Network) (script : List Numbered) → AreProper net.links → SetUpIsProper net script → AreProper (set_up_all net script).links }
+{}

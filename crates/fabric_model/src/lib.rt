@@ -1,0 +1,33 @@
+//! What a fabric is and what a trace of it says, apart from any link protocol.
+//!
+//! The crate has the types of a script (`Script`, `Line` and their parts) and, in `specs/`, the definitions that the
+//! contracts above cite:
+//!
+//! - `Network`: plain first-in first-out queues, one for each port and priority on either side of a link;
+//! - `Steps`: what a packet's taking, holding, freeing and leaving need and do, and which lists of steps are legal;
+//! - `Lines`: the lines of a trace, their text and their steps;
+//! - `Seen`: the one fold that reads a trace;
+//! - `Schedule`: how the lines of a block are put together;
+//! - `Blocks`: which lines each event of a script makes, one file an event;
+//! - `Runs`: what a trace of a script is;
+//! - `Laws`: what holds of every legal list of steps.
+//!
+//! The module `laws` has each law as the contract of a function with an empty body, for every script or every list of
+//! steps: a script has one trace, and in the plain network packets are held exactly, leave once, unchanged and in
+//! order, and are freed after the next hop holds them.
+//!
+//! It leaves out how packets cross a link: no ackID, symbol, window or retry stands here.
+#![tactic(auto)]
+
+mod examples;
+mod laws;
+mod lines;
+mod text;
+
+pub use examples::{laws_can_fail, worked_run};
+pub use laws::{
+    by_priority, freed_after_held, holding_exactly, in_order, joined, once, one_end, one_trace,
+    set_up, unchanged,
+};
+pub use lines::{Line, Numbered, PortRef, Script};
+pub use text::{Hex, Name};
