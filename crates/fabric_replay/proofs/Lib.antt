@@ -1,0 +1,10 @@
+pub mod ShowingLaws
+pub mod TurnLaws
+pub mod PassLaws
+pub mod PassingLaws
+pub mod EventLaws
+pub mod ReadingForms
+pub mod ReadingHex
+pub mod ReadingLaws
+pub mod ReplayingLaws
+pub mod PrintingLaws

@@ -1,0 +1,42 @@
+-- What a replay writes.
+use Rattle.std.specs.Prelude.{◌≡◌, ◌≤◌, ℕ, ◌⊎◌, false, List, length, take, Option}
+use Rattle.std.specs.Io.KnownBytes.{Appends}
+use Rattle.rio_chars.specs.Fronts.{AppendsFront}
+use Rattle.rio_chars.specs.Telling.{Pending, Told}
+use Rattle.fabric_model.specs.declared.lines.Numbered.{Numbered}
+use Rattle.fabric_model.specs.Network.{Network}
+use Rattle.fabric_model.specs.Steps.{LegalFrom}
+use Rattle.fabric_model.specs.Lines.{TraceLine, steps_of}
+use Rattle.fabric_model.specs.Text.{trace_text}
+use Rattle.fabric_model.specs.Seen.{seen}
+use Rattle.fabric_model.specs.Runs.{start, Runs, BlocksFrom, Begins}
+use Rattle.fabric_model.specs.Laws.Lawful.{Lawful}
+use Rattle.fabric_replay.specs.declared.fabric.Fabric.{Fabric}
+use Rattle.fabric_replay.specs.Events.{ShowsFabric}
+
+-- The text of the one trace of the script was written, and the steps that it says are lawful.
+pub record Replayed (names : List (List ℕ)) (script : List Numbered) (written written_after : Option (List ℕ)) : Type 0 where
+  pub lines : List TraceLine
+  pub network : Network
+  pub told : Appends written written_after (trace_text names lines)
+  pub runs : Runs script lines
+  pub only : (other : List TraceLine) → Runs script other → other ≡ lines
+  pub lawful : Lawful (start script).network (steps_of lines) network
+
+-- A front was written of the text of lines that are the trace, or its first blocks; their steps are lawful.
+pub record ReplayedFront (names : List (List ℕ)) (script : List Numbered) (written written_after : Option (List ℕ)) : Type 0 where
+  pub lines : List TraceLine
+  pub network : Network
+  pub told : AppendsFront written written_after (trace_text names lines)
+  pub begins : Begins script lines ⊎ Runs script lines
+  pub lawful : Lawful (start script).network (steps_of lines) network
+
+-- how far a replay has come: the blocks of the first events of the script were told
+pub record Going (names : List (List ℕ)) (script : List Numbered) (count : ℕ) (written : Option (List ℕ)) (faults : ℕ) (written_now : Option (List ℕ)) (faults_now : ℕ) (box : Pending) (fabric : Fabric) : Type 0 where
+  pub lines : List TraceLine
+  pub told : Told written written_now box (trace_text names lines)
+  pub fine : box.failed ≡ false
+  pub never_falls : faults ≤ faults_now
+  pub blocks : BlocksFrom (start script) (take count script) lines
+  pub legal : LegalFrom (start script).network (steps_of lines) (seen (start script) lines).network
+  pub shows : 3 ≤ length script → ShowsFabric fabric (seen (start script) lines).network
