@@ -1,0 +1,71 @@
+//! Characters from the words of the input.
+ghost use Rattle.std.specs.Prelude.{◌≡◌, ◌≤◌, ◌++◌, ℕ, List, length, IfOk, IsErrOf, IsTrue, IsFalse};
+ghost use Rattle.rio_chars.specs.declared.chars.Char.{Char};
+ghost use Rattle.rio_cli.specs.Decoding.{word_in, words_in, AreTexts, AreSpelled, SpellsChars, BadWordAt};
+ghost use Rattle.rio_cli.specs.declared.words.CharsEnd.TheVariants.{NoMemory};
+
+use rio_chars::{Char, read_char};
+use std::alloc::{AllocError, Global};
+
+/// Why there are no characters.
+#[derive(Clone, Copy, Debug, PartialEq, Eq)]
+pub(crate) enum CharsEnd {
+    /// A word of this line, counted from 1, is no character.
+    BadWord(u32),
+    /// Memory ran out.
+    NoMemory,
+}
+
+impl From<AllocError> for CharsEnd {
+    ghost from_gives = { λ _ end. end ≡ NoMemory };
+
+    fn from(_: AllocError) -> Self {
+        CharsEnd::NoMemory
+    }
+}
+
+/// The characters that the words of the bytes are, or the first line with a word that is none.
+pub(crate) fn read_chars(alloc: Global, bytes: &[u8]) -> Result<Vec<Char>, CharsEnd>
+    requires { length bytes.now ≤ 4194304 }
+    ensures chars { IfOk result (λ chars. SpellsChars bytes.now chars.items) }
+    ensures count { IfOk result (λ chars. length chars.items ≤ 4194304) }
+    ensures bad { (line : ℕ) → IsErrOf result (CharsEnd.BadWord line) → BadWordAt bytes.now line }
+{
+    let mut chars = Vec::new(alloc);
+    let mut line = 0;
+    for text in bytes.split(|byte| *byte == b'\n') {
+        line += 1;
+        if !read_line(text, &mut chars)? {
+            return Err(CharsEnd::BadWord(line));
+        }
+    }
+    Ok(chars)
+}
+
+// Appends the characters of a line, and answers whether each of its words is one.
+fn read_line(text: &[u8], chars: &mut Vec<Char>) -> Result<bool, AllocError>
+    ensures good { IfOk result (λ good. IsTrue good → (more : List Char) × (chars.new.items ≡ chars.old.items ++ more) × AreTexts (words_in text.now) more) }
+    ensures bad { IfOk result (λ good. IsFalse good → ¬ AreSpelled (words_in text.now)) }
+{
+    for word in text.split(|byte| *byte == b' ') {
+        if !read_word(word, chars)? {
+            return Ok(false);
+        }
+    }
+    Ok(true)
+}
+
+// Appends the character of a word, and answers whether it is one. Between two spaces there may be no word.
+fn read_word(word: &[u8], chars: &mut Vec<Char>) -> Result<bool, AllocError>
+    ensures good { IfOk result (λ good. IsTrue good → (more : List Char) × (chars.new.items ≡ chars.old.items ++ more) × AreTexts (word_in word.now) more) }
+    ensures bad { IfOk result (λ good. IsFalse good → ¬ AreSpelled (word_in word.now)) }
+{
+    if word.is_empty() {
+        return Ok(true);
+    }
+    let Some(c) = read_char(word) else {
+        return Ok(false);
+    };
+    chars.push(c)?;
+    Ok(true)
+}
