@@ -1,12 +1,10 @@
--- What a turn keeps, and what it sends.
-use Rattle.std.proofs.Common.{◌≡◌, ℕ, ◌+◌, Bool, true, false, Option, Some, None, List, [], ◌∷◌, ◌++◌, length, if◌then◌else◌, nat_lt, slice_get, refl, sym, ap, ◌∙◌, subst, arith}
+-- What a turn sends, and how many packets four lists have.
+use Rattle.std.proofs.Common.{◌≡◌, ℕ, ◌+◌, List, [], ◌∷◌, length, slice_get, refl, sym, ap, ◌∙◌, arith}
 use Rattle.std.proofs.lemmas.List.Sums.{sum_by-cons}
 use Rattle.link_buffers.specs.Queues.{list_at, held}
-use Rattle.link_buffers.specs.Taking.{leave, highest, Covers}
-use Rattle.link_buffers.proofs.TakingLaws.{slice_get-leave, Covers-highest}
-use Rattle.link_model.specs.Window.{Window, window}
-use Rattle.link_model.specs.Output.{Output, Turned, turned, turns, started}
-use Rattle.link_model.specs.Output.Output.{Sending, RetryStopped, ErrorStopped, Failed}
+use Rattle.link_buffers.specs.Taking.{leave, highest}
+use Rattle.link_buffers.proofs.TakingLaws.{slice_get-leave}
+use Rattle.link_model.specs.Output.{Output, Turned, turned, turns}
 use Rattle.link_port.specs.declared.output_half.Sends.{Sends}
 use Rattle.link_port.specs.declared.output_half.Sends.TheVariants as Sent
 use Rattle.link_port.specs.Windows.{prios_of, expected_of}
@@ -14,34 +12,6 @@ use Rattle.link_port.specs.Sends.{burst_of, AreWaiting}
 use Rattle.link_port.specs.Bursts.{sent_by}
 use Rattle.link_port.specs.Turns.{packet_sent, sending, turn_sends, waiting_in}
 use Rattle.link_port.specs.Ports.{PortState}
-
-none_covered : (queued : List (List (List ℕ))) → Covers [] queued
-none_covered queued prio = omega arith
-
-Covers-started :
-    (w : Window) (queued : List (List (List ℕ))) → Covers w.prios queued → (b : Bool) (waiting : Option ℕ)
-    → ((prio : ℕ) → waiting ≡ Some prio → Covers (w.prios ++ prio ∷ []) queued)
-    → Covers (prios_of (started w (if b then waiting else None)).state) queued
-Covers-started w queued covers true (Some prio) next = next prio refl
-Covers-started w queued covers true None next = covers
-Covers-started w queued covers false waiting next = covers
-
--- the outstanding packets are among those to be sent after a turn too
-pub Covers-turned :
-    (output : Output) (queued : List (List (List ℕ))) → Covers (prios_of output) queued
-    → Covers (prios_of (turns output (highest (leave (prios_of output) queued))).state) queued
-Covers-turned (Sending w) queued covers =
-    Covers-started w queued covers (nat_lt (length w.prios) window) (highest (leave w.prios queued)) (λ prio is. Covers-highest w.prios prio queued covers is)
-Covers-turned (RetryStopped w) queued covers = none_covered queued
-Covers-turned (ErrorStopped true w) queued covers = covers
-Covers-turned (ErrorStopped false w) queued covers = covers
-Covers-turned Failed queued covers = covers
-
-pub Covers-turned_to :
-    (output next : Output) (sends : Sends) (queued : List (List (List ℕ))) → Covers (prios_of output) queued
-    → turned next (burst_of sends) ≡ turns output (highest (leave (prios_of output) queued)) → Covers (prios_of next) queued
-Covers-turned_to output next sends queued covers entry =
-    subst (λ (o : Output). Covers (prios_of o) queued) (sym (ap (λ (t : Turned). t.state) entry)) (Covers-turned output queued covers)
 
 sent_by-sending :
     (sends : Sends) (expected : ℕ) (prios : List ℕ) (queued : List (List (List ℕ))) → AreWaiting sends prios queued

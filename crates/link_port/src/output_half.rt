@@ -143,6 +143,7 @@ impl Output {
         requires covered { Covers (prios_of (output_of self)) queued.now }
         ensures entry { turned (output_of result.0) (burst_of result.1) ≡ turns (output_of self) (highest (leave (prios_of (output_of self)) queued.now)) }
         ensures waiting { AreWaiting result.1 (prios_of (output_of self)) queued.now }
+        ensures covered { Covers (prios_of (output_of result.0)) queued.now }
     {
         match self {
             Output::Ok(state) => {

@@ -54,6 +54,25 @@ fn an_input_that_is_ok_answers_each_event(rt: HostRuntime) -> Result<(), Fail> {
     Ok(())
 }
 
+// The ackIDs are counted modulo 32: the 32nd packet has ackID 31, and the next one has 0 again.
+#[test]
+fn the_ack_after_31_is_0(rt: HostRuntime) -> Result<(), Fail> {
+    let (_, low) = check(&LOW).ok().ok_or("low")?;
+    let mut store = InStore::new(rt.alloc(), 4)?;
+    let mut port = InOk::new();
+    for ack in 0..31 {
+        port = taken(port.packet(ack, &low, &mut store)).ok_or("taken")?;
+        assert_eq!(rt; port.expected(), ack + 1);
+        store.pop(0);
+    }
+    let port = accepted(port.packet(31, &low, &mut store), [0x1f, 0xff, 0x00], 0);
+    let port = port.ok_or("accepted 31")?;
+    store.pop(0);
+    let port = accepted(port.packet(0, &low, &mut store), [0x00, 0xff, 0x16], 1);
+    assert!(rt; port.is_some());
+    Ok(())
+}
+
 // The column of an input that waits for restart-from-retry. Packets are dropped and other symbols do nothing; neither
 // has a call.
 #[test]
@@ -93,6 +112,14 @@ fn retry_stopped(alloc: Global) -> Result<InRetryStopped, Fail> {
     }
     let port = InOk::new().packet(0, &low, &mut store);
     Ok(retried(port, [0x20, 0xff, 0x1d], 0).ok_or("retry 0")?)
+}
+
+/// The next state, if the packet was taken.
+fn taken(after: AfterPacket) -> Option<InOk> {
+    match after {
+        AfterPacket::Accepted(port, _) => Some(port),
+        _ => None,
+    }
 }
 
 /// The next state, if the packet was taken with this symbol and this ackID is expected then.

@@ -53,6 +53,7 @@ impl OutOk {
         ensures place { IfSome result.1 (λ packet. packet.place ≡ count_of self.prios packet.prio) }
         ensures waits { IfSome result.1 (λ packet. packet.place < length (list_at store.now packet.prio)) }
         ensures range { IfSome result.1 (λ packet. (packet.ack < 32) × (packet.prio < 4)) }
+        ensures covered { Covers result.0.prios store.now }
     {
         let OutOk { mut window } = self;
         if window.len() >= WINDOW {

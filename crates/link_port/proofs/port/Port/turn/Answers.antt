@@ -4,7 +4,7 @@ use Rattle.link_port.specs.Halves.{output_of, input_of}
 use Rattle.link_port.specs.Bursts.{sent_by}
 use Rattle.link_port.specs.Turns.{Sending, turn_sends}
 use Rattle.link_port.specs.Ports.{PortState}
-use Rattle.link_port.proofs.TurnLaws.{Covers-turned_to, turn_is}
+use Rattle.link_port.proofs.TurnLaws.{turn_is}
 use Rattle.link_port.proofs.port.Port.turn.Goals as goal
 
 -- what contracts see of the fields
@@ -13,8 +13,7 @@ seen p = record { place = p.framer; output = output_of p.output; input = input_o
 
 pub invariant_of-self : goal.invariant_of-self
 invariant_of-self c =
-    let entry = rw c.replace-output.ensures.value at c.turn-output.ensures.entry in
-    (Covers-turned_to _ _ _ _ c.self.invariant.0 entry, c.self.invariant.1)
+    (c.turn-output.ensures.covered, c.self.invariant.1)
 
 pub returns-clause-chars : goal.returns-clause-chars
 returns-clause-chars c =

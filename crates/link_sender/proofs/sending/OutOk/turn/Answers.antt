@@ -1,9 +1,10 @@
-use Rattle.std.proofs.Common.{◌<◌, ◌≤◌, length, None, sym, ◌∙◌, ap, arith}
-use Rattle.link_buffers.specs.Taking.{leave, highest}
+use Rattle.std.proofs.Common.{◌<◌, ◌≤◌, length, None, sym, ◌∙◌, ap, subst, arith}
+use Rattle.link_buffers.specs.Taking.{leave, highest, Covers}
+use Rattle.link_buffers.proofs.TakingLaws.{Covers-highest}
 use Rattle.link_model.specs.Output.{turned, started, startable}
 use Rattle.link_model.specs.Output.Output.{Sending}
 use Rattle.link_model.specs.Output.Burst.{Starts}
-use Rattle.link_model.specs.Window.{window, with_next}
+use Rattle.link_model.specs.Window.{Window, window, with_next}
 use Rattle.link_model.proofs.WindowFacts.{window_is, startable-full, startable-open}
 use Rattle.link_sender.specs.Answers.{after_turn}
 use Rattle.link_sender.proofs.sending.OutOk.turn.Goals as goal
@@ -24,3 +25,10 @@ returns-clause-entry c =
     ∙ ap (λ ack. turned (Sending (with_next c.self.inside.window c.in-Some.prio)) (Starts ack c.in-Some.prio)) c.next_ack-ack.ensures
     ∙ sym (ap (started c.self.inside.window) (startable-open c.self.inside.window _ few ∙ sym c.in-Some.ensures.highest))
     ∙ ap (λ w. started w (startable w (highest (leave w.prios c.args.store.now)))) c.self.view_is
+
+pub returns-clause-covered : goal.returns-clause-covered
+returns-clause-covered c =
+    let w = c.self.inside.window in
+    let covers = subst (λ (v : Window). Covers v.prios c.args.store.now) (sym c.self.view_is) c.requires in
+    subst (λ (v : Window). Covers v.prios c.args.store.now) (sym c.push.ensures)
+    (Covers-highest w.prios c.in-Some.prio c.args.store.now covers (sym c.in-Some.ensures.highest))
