@@ -1,5 +1,6 @@
 -- The steps of characters in pieces, and what one character may tell.
-use Rattle.std.proofs.Common.{◌≡◌, ℕ, suc, ◌+◌, ◌≤◌, ◌==◌, ◌⊎◌, nat_lt, Bool, true, false, Option, Some, None, List, [], ◌∷◌, ◌++◌, length, filter, if◌then◌else◌, ◌↔◌, refl, sym, ap, ◌∙◌, subst, arith, append_assoc, append-nil}
+use Rattle.std.proofs.Common.{◌≡◌, ℕ, suc, ◌+◌, ◌≤◌, ◌==◌, ◌⊎◌, nat_lt, Bool, true, false, Option, Some, None, List, [], ◌∷◌, ◌++◌, length, filter, map, if◌then◌else◌, ◌↔◌, refl, sym, ap, ◌∙◌, subst, arith, append_assoc, append-nil}
+use Rattle.std.proofs.lemmas.List.{map-append}
 use Rattle.std.proofs.lemmas.Bool.Decides.{Decides-eqb, Decides-or}
 use Rattle.std.proofs.lemmas.List.Elements.{filter-append}
 use Rattle.rio_chars.specs.declared.chars.Char.{Char}
@@ -32,6 +33,24 @@ pub place_after-append : (from : Place) (xs ys : List Char) → place_after from
 unfolding place_after
 place_after-append from [] ys = refl
 place_after-append from (x ∷ xs) ys = place_after-append (step from x).place xs ys
+
+-- the same event this many places on
+abbrev pub moved : ℕ → ℕ × Event → ℕ × Event
+moved n e = (e.0 + n, e.1)
+
+placed_moved : (at n : ℕ) (es : List Event) → placed (at + n) es ≡ map (moved n) (placed at es)
+placed_moved at n [] = refl
+placed_moved at n (e ∷ es) = ap (λ (r : List (ℕ × Event)). (at + n, e) ∷ r) (placed_moved at n es)
+
+pub run-moved : (from : Place) (at n : ℕ) (cs : List Char) → run from (at + n) cs ≡ map (moved n) (run from at cs)
+unfolding run
+run-moved from at n [] = refl
+run-moved from at n (c ∷ cs) =
+    let shift : suc (at + n) ≡ suc at + n = omega arith in
+    ap (λ (r : List (ℕ × Event)). r ++ run (step from c).place (suc (at + n)) cs) (placed_moved at n (step from c).gives)
+    ∙ ap (λ (k : ℕ). map (moved n) (placed at (step from c).gives) ++ run (step from c).place k cs) shift
+    ∙ ap (λ (r : List (ℕ × Event)). map (moved n) (placed at (step from c).gives) ++ r) (run-moved (step from c).place (suc at) n cs)
+    ∙ sym (map-append (moved n) (placed at (step from c).gives) (run (step from c).place (suc at) cs))
 
 -- one character more
 pub run-one : (from : Place) (at : ℕ) (c : Char) → run from at (c ∷ []) ≡ placed at (step from c).gives

@@ -1,5 +1,5 @@
 //! What holds of every reading of characters. The calls do nothing: their clauses are the laws.
-ghost use Rattle.std.specs.Prelude.{◌≡◌, ℕ, ◌+◌, ◌<◌, ◌↔◌, nat_lt, true, false, List, [], ◌∷◌, ◌++◌, length, filter, ◌≤◌};
+ghost use Rattle.std.specs.Prelude.{◌≡◌, ℕ, ◌+◌, ◌<◌, ◌↔◌, nat_lt, true, false, List, [], ◌∷◌, ◌++◌, length, filter, map, ◌≤◌};
 ghost use Rattle.rio_chars.specs.declared.chars.Char.{Char};
 ghost use Rattle.rio_symbols.specs.Fields.{Fields, InRange};
 ghost use Rattle.rio_packets.specs.LinkForm.{Passes};
@@ -22,10 +22,13 @@ pub fn one_reading()
 {}
 
 /// Characters may be read in pieces: the events of two pieces are those of the first and, from where it leaves the reader,
-/// those of the second. So the reading of a front is the events whose places lie in it.
+/// those of the second. To count from a later place moves each event by as much, so that the second piece may be read from
+/// place 0 on and the length of the first be added. The reading of a front is the events whose places lie in it.
 pub fn reading_in_pieces()
     ensures events { (from : Place) (at n : ℕ) (xs ys : List Char) → n ≡ at + length xs
         → run from at (xs ++ ys) ≡ run from at xs ++ run (place_after from xs) n ys }
+    ensures moved { (from : Place) (at n : ℕ) (chars : List Char)
+        → run from (at + n) chars ≡ map (λ event. (event.0 + n, event.1)) (run from at chars) }
     ensures place { (from : Place) (xs ys : List Char)
         → place_after from (xs ++ ys) ≡ place_after (place_after from xs) ys }
     ensures front { (xs ys : List Char) (events : List (ℕ × Event)) → IsReading (xs ++ ys) events

@@ -6,8 +6,10 @@ use rio_packets::Cause;
 use rio_symbols::to_bytes;
 use std::test::*;
 
+/// The bytes were reckoned in Python, apart from this code, by the tables and the CRC of `docs/symbols.md`. That the CRC
+/// runs over a twentieth bit is this project's own choice, so these are no bytes of the standard.
 #[test]
-fn symbols_have_the_bytes_of_the_standard(rt: HostRuntime) {
+fn symbols_have_the_bytes_reckoned_apart(rt: HostRuntime) {
     assert_eq!(rt; to_bytes(&start_of_packet(0)), [0x80, 0xf8, 0x1f]);
     assert_eq!(rt; to_bytes(&end_of_packet(0)), [0x80, 0xfa, 0x18]);
     assert_eq!(rt; to_bytes(&restart_from_retry(0)), [0x80, 0xfb, 0x01]);
