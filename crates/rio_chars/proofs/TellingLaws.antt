@@ -1,5 +1,5 @@
 -- What an outbox is told, call by call.
-use Rattle.std.proofs.Common.{None, Some, ◌≡◌, ℕ, Option, List, [], ◌++◌, Bool, true, false, cond, refl, sym, ap, ◌∙◌, subst, append-nil, append_assoc, inl, arith}
+use Rattle.std.proofs.Common.{None, Some, ◌≡◌, ℕ, Option, List, [], ◌++◌, Bool, true, false, if◌then◌else◌, refl, sym, ap, ◌∙◌, subst, append-nil, append_assoc, inl, arith}
 use Rattle.std.specs.Io.KnownBytes.{Appends, append_known}
 use Rattle.std.proofs.KnownBytes.{Appends-nil, Appends-trans, Appends-kept, Keeps-refl, Keeps-trans}
 use Rattle.rio_chars.specs.Fronts.{AppendsFront}
@@ -35,7 +35,7 @@ Tells-kept written box bytes start text told = record {
   rest = told.rest ++ bytes;
   whole = ap (λ l. l ++ bytes) told.whole ∙ append_assoc told.front told.rest bytes;
   told = told.told;
-  waits = λ fine. ap (λ l. l ++ bytes) (told.waits fine) ∙ sym (ap (λ b. cond b box.pending (box.pending ++ bytes)) fine);
+  waits = λ fine. ap (λ l. l ++ bytes) (told.waits fine) ∙ sym (ap (λ b. if b then box.pending else (box.pending ++ bytes)) fine);
 }
 
 -- what waited was written, and more bytes behind it

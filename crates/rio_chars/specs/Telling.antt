@@ -1,5 +1,5 @@
 -- What an outbox holds, and what was told through it.
-use Rattle.std.specs.Prelude.{◌≡◌, ◌≤◌, ℕ, Option, List, [], ◌++◌, Bool, true, false, cond}
+use Rattle.std.specs.Prelude.{◌≡◌, ◌≤◌, ℕ, Option, List, [], ◌++◌, Bool, true, false, if◌then◌else◌}
 use Rattle.std.specs.Io.KnownBytes.{Appends, Keeps}
 use Rattle.rio_chars.specs.Faults.{FailedBy}
 use Rattle.rio_chars.specs.Fronts.{AppendsFront}
@@ -15,7 +15,7 @@ empty_outbox = record { pending = []; failed = false }
 
 -- more bytes wait, unless a write has failed
 abbrev pub with_bytes : Pending → List ℕ → Pending
-with_bytes box bytes = record { pending = cond box.failed box.pending (box.pending ++ bytes); failed = box.failed }
+with_bytes box bytes = record { pending = if box.failed then box.pending else (box.pending ++ bytes); failed = box.failed }
 
 -- From `start` on, this text was told: a front of it was written, and until a write fails the rest waits.
 pub record Told (start written : Option (List ℕ)) (box : Pending) (text : List ℕ) : Type 0 where

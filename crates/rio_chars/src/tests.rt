@@ -99,8 +99,12 @@ fn readers_and_writers_of_the_standard_library_serve(rt: HostRuntime) -> Result<
     let Ok(bytes) = read_all(alloc, &mut source, 7) else {
         panic!(rt; "not read");
     };
-    let mut sink = StdSink::new(Vec::<u8>::new(alloc));
+    assert_eq!(rt; bytes.as_slice(), LINE.as_slice());
+    let mut written = Vec::<u8>::new(alloc);
+    let mut sink = StdSink::new(&mut written);
     assert!(rt; write_all(&mut sink, &bytes).is_ok());
+    drop(sink);
+    assert_eq!(rt; written.as_slice(), LINE.as_slice());
     assert!(rt; write_all(&mut PlainSink::new(), &bytes).is_ok());
     Ok(())
 }

@@ -1,4 +1,4 @@
-ghost use Rattle.std.specs.Prelude.{◌≡◌, ◌≢◌, ◌<◌, ℕ, ◌∷◌, [], IfSome, IfNone};
+ghost use Rattle.std.specs.Prelude.{◌≡◌, ◌≢◌, ◌<◌, ℕ, ◌∷◌, [], Some, IfSome, IfNone};
 ghost use Rattle.rio_chars.specs.CharText.{char_text_of, HasByte};
 ghost use Rattle.rio_chars.specs.HexText.{hex_of};
 ghost use Rattle.rio_chars.specs.declared.chars.Char.{Char};
@@ -22,6 +22,7 @@ pub fn read_char(word: &[u8]) -> Option<Char>
     ensures text { IfSome result (λ c. word.now ≡ char_text_of c) }
     ensures byte { IfSome result HasByte }
     ensures none { IfNone result ((c : Char) → HasByte c → word.now ≢ char_text_of c) }
+    ensures reads_back { (c : Char) → HasByte c → word.now ≡ char_text_of c → result ≡ Some c }
 {
     match word {
         [b'd', high, low] => Some(Char::Data(read_byte(*high, *low)?)),
