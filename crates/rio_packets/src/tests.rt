@@ -67,25 +67,34 @@ fn two_crcs_beyond_80_bytes(rt: HostRuntime) {
     assert_eq!(rt; build(&HEADER, &rest[..3]), Err(BadLength));
 }
 
-/// Each bit that is no ackID and not ignored counts.
+/// The bytes are read, and refused with any one bit altered that is not of the ackID and not the bit behind it.
 fn is_read_unless_altered(rt: &impl Abort, packet: &Packet) {
     let sent = packet.with_ack(21);
     assert_eq!(rt; check(&sent), Ok((21, packet.copy())));
     for place in 0..sent.len() {
-        let mut altered = packet.with_ack(21);
-        if let Some(byte) = altered.get_mut(place) {
-            *byte ^= 1;
+        for bit in [1, 2, 4, 8, 16, 32, 64, 128] {
+            if place > 0 || bit <= 2 {
+                is_refused_altered(rt, packet, place, bit);
+            }
         }
-        assert_eq!(rt;
-            check(&altered),
-            Err(Cause::BadPacket),
-            "altered at {place}"
-        );
     }
 }
 
+/// The bytes are refused with these bits altered in the byte at this place.
+fn is_refused_altered(rt: &impl Abort, packet: &Packet, place: usize, bits: u8) {
+    let mut altered = packet.with_ack(21);
+    if let Some(byte) = altered.get_mut(place) {
+        *byte ^= bits;
+    }
+    assert_eq!(rt;
+        check(&altered),
+        Err(Cause::BadPacket),
+        "{bits} altered at {place}"
+    );
+}
+
 #[test]
-fn altered_bytes_are_refused(rt: HostRuntime) {
+fn altered_bits_are_refused(rt: HostRuntime) {
     let rest = [0xa5; 268];
     for length in [0, 4, 76, 78, 268] {
         let packet = build(&HEADER, &rest[..length]).expect(&rt, "an even length");
@@ -93,8 +102,13 @@ fn altered_bytes_are_refused(rt: HostRuntime) {
     }
     assert_eq!(rt; check(&[0; 7]), Err(Cause::General));
     assert_eq!(rt; check(&[0; 277]), Err(Cause::General));
-    let ignored = check(&[4, 15, 2, 1, 0xde, 0xb2, 0, 0]);
-    assert_eq!(rt; ignored.is_ok(), true);
+    let smallest = build(&HEADER, &[]).expect(&rt, "4 bytes");
+    assert_eq!(rt;
+        smallest.bytes(),
+        [0, 15, 2, 1, 0xde, 0xb2, 0, 0].as_slice()
+    );
+    let ignored = [4, 15, 2, 1, 0xde, 0xb2, 0, 0];
+    assert_eq!(rt; check(&ignored), Ok((0, smallest)));
     assert_eq!(rt; cause_number(Cause::BadPacket), 4);
 }
 
