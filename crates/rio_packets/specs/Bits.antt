@@ -1,5 +1,5 @@
 -- Numbers as lists of bits, the most significant bit first.
-use Rattle.std.specs.Prelude.{ℕ, zero, suc, Bool, true, false, List, [], ◌∷◌, ◌==◌}
+use Rattle.std.specs.Prelude.{ℕ, zero, suc, Bool, true, false, not, List, [], ◌∷◌, ◌==◌}
 use Rattle.std.specs.Int.{bit_at}
 use Rattle.std.specs.List.{flat_map}
 
@@ -18,13 +18,8 @@ differ false b = b
 differ true false = true
 differ true true = false
 
--- the other bit
-abbrev pub opposite : Bool → Bool
-opposite false = true
-opposite true = false
-
 -- the bits, of which so many at the front are complemented
 unfoldable pub complemented : ℕ → List Bool → List Bool
 complemented zero bs = bs
 complemented (suc n) [] = []
-complemented (suc n) (b ∷ bs) = opposite b ∷ complemented n bs
+complemented (suc n) (b ∷ bs) = not b ∷ complemented n bs

@@ -1,5 +1,6 @@
 //! Why what was received is no packet or symbol.
 ghost use Rattle.std.specs.Prelude.{◌≡◌};
+ghost use Rattle.rio_packets.specs.CauseNumbers.{number_of};
 
 /// The causes that a receiver tells in a packet-not-accepted symbol
 /// (RapidIO Interconnect Specification 1.3, Part 6, packet-not-accepted).
@@ -16,8 +17,6 @@ pub enum Cause {
     /// A general error.
     General,
 }
-
-ghost use Rattle.rio_packets.specs.CauseNumbers.{number_of};
 
 /// The number of a cause as a symbol carries it, of five bits.
 pub fn cause_number(cause: Cause) -> u8
