@@ -7,12 +7,9 @@ use crate::events::{Events, packet_event};
 use arrayvec::ArrayVec;
 use link_model::{Event, Kind, Pending, char_kind};
 use rio_chars::Char;
-use rio_packets::Cause;
+use rio_packets::{Cause, MAX_BYTES};
 use rio_symbols::{Delimiter, Symbol, from_bytes};
 use std::marker::Model;
-
-/// How many bytes a packet has at most.
-const MAX_BYTES: usize = 276;
 
 /// What is read, apart from a symbol in progress.
 #[derive(Clone, Copy, Debug, PartialEq, Eq)]
@@ -25,7 +22,9 @@ pub(crate) enum Mode {
     InPacket,
 }
 
-/// Takes the characters of a link, one after another, and tells what they say.
+/// Takes the characters of a link, one after another, and tells what they say
+/// (RapidIO Interconnect Specification 1.3, Part 6, control symbols and packet delimiting; what follows an error by this
+/// project's profile, `docs/characters.md`).
 ///
 /// ```text
 ///                     idle, delimiter                        start-of-packet

@@ -2,7 +2,7 @@
 //! fields, or read from the bytes of a link, in the one form in which it stands on a link. That form has one CRC
 //! of sixteen bits or two, and is a multiple of four bytes long.
 //!
-//! - [`Packet`] is such a form with the ackID taken as 0. Contracts see it as the list of its bytes.
+//! - [`Packet`] is such a form with the ackID taken as 0. Contracts see it as the list of its bytes, at most [`MAX_BYTES`].
 //! - [`Header`] and [`build`] make one; [`BadLength`] says that its data does not fit.
 //! - [`check`] reads bytes of a link, and [`Cause`] says why they are no packet.
 //! - [`body_has_one_form`] and its three neighbours are laws: each states what holds of all bytes, and does nothing.
@@ -22,7 +22,7 @@ mod receive;
 pub use cause::{Cause, cause_number};
 pub use laws::{body_has_one_form, carried_is_exact, lowered_is_one, register_tells_forms};
 pub use making::{BadLength, Header, build};
-pub use packet::Packet;
+pub use packet::{MAX_BYTES, Packet};
 pub use receive::check;
 
 #[cfg(test)]
