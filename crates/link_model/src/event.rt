@@ -4,12 +4,13 @@ ghost use Rattle.std.specs.Prelude.{◌≡◌};
 use rio_packets::{Cause, Packet};
 use rio_symbols::Symbol;
 
-/// What a receiver reads in the characters of a link.
+/// What a receiver reads in the characters of a link (RapidIO Interconnect Specification 1.3, Part 6, control symbols and
+/// packet delimiting; what is bad, and its cause, by this project's profile).
 #[derive(Debug, Drop)]
 pub enum Event {
     /// A control symbol.
     Ctl(Symbol),
-    /// A packet, with the ackID that it was sent with.
+    /// A packet, with the ackID, 0 to 31, that it was sent with.
     Pkt(u8, Packet),
     /// Characters that are neither, and the cause that a port answers with.
     Bad(Cause),

@@ -8,7 +8,8 @@ use rio_chars::Char;
 use rio_packets::Packet;
 use rio_symbols::{Delimiter, Symbol, delimiter, to_bytes};
 
-/// The delimiter and the three bytes of a symbol.
+/// The delimiter and the three bytes of a symbol
+/// (RapidIO Interconnect Specification 1.3, Part 6, control symbol delimiting).
 pub fn symbol_chars(symbol: &Symbol) -> ArrayVec<Char, 4>
     ensures { result.items ≡ symbol_chars_of symbol.now }
 {
@@ -21,7 +22,8 @@ pub fn symbol_chars(symbol: &Symbol) -> ArrayVec<Char, 4>
     chars
 }
 
-/// A start-of-packet symbol, the bytes of a packet with its ackID, below 32, and an end-of-packet symbol.
+/// A start-of-packet symbol, the bytes of a packet with its ackID, below 32, and an end-of-packet symbol
+/// (RapidIO Interconnect Specification 1.3, Part 6, packet delimiting): 16 to 284 characters.
 pub fn packet_chars(start: &Symbol, ack: u8, packet: &Packet, end: &Symbol) -> ArrayVec<Char, 284>
     requires ack { ack < 32 }
     requires start { start.now.s1 ≡ 0 }

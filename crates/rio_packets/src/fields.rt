@@ -9,7 +9,8 @@ use crate::packet::{MAX_BYTES, Packet, append};
 use arrayvec::ArrayVec;
 
 impl Packet {
-    /// The priority, 0 to 3, of which 3 is the highest.
+    /// The priority, 0 to 3, of which 3 is the highest
+    /// (RapidIO Interconnect Specification 1.3, Part 6, packet priority).
     pub fn prio(&self) -> u8
         ensures value { result ≡ prio_of self.now }
         ensures range { result < 4 }
@@ -17,7 +18,8 @@ impl Packet {
         self.form[1] >> 6
     }
 
-    /// The transport type, 0 to 3: 0 where the IDs have 8 bits.
+    /// The transport type, 0 to 3: 0 where the IDs have 8 bits
+    /// (RapidIO Interconnect Specification 1.3, Part 3, transport type).
     pub fn tt(&self) -> u8
         ensures value { result ≡ tt_of self.now }
         ensures range { result < 4 }
@@ -25,7 +27,8 @@ impl Packet {
         self.form[1] >> 4 & 3
     }
 
-    /// The format type, 0 to 15.
+    /// The format type, 0 to 15: 8 is maintenance
+    /// (RapidIO Interconnect Specification 1.3, Part 1, packet formats).
     pub fn ftype(&self) -> u8
         ensures value { result ≡ ftype_of self.now }
         ensures range { result < 16 }
@@ -33,7 +36,8 @@ impl Packet {
         self.form[1] & 15
     }
 
-    /// The destination ID. `None` comes exactly where the transport type is not 0.
+    /// The destination ID, of 8 bits (RapidIO Interconnect Specification 1.3, Part 3, IDs). `None` comes exactly where the
+    /// transport type is not 0.
     pub fn dest(&self) -> Option<u8>
         ensures { result ≡ dest_of self.now }
     {
@@ -44,7 +48,8 @@ impl Packet {
         }
     }
 
-    /// The source ID. `None` comes exactly where the transport type is not 0.
+    /// The source ID, of 8 bits (RapidIO Interconnect Specification 1.3, Part 3, IDs). `None` comes exactly where the
+    /// transport type is not 0.
     pub fn source(&self) -> Option<u8>
         ensures { result ≡ source_of self.now }
     {
@@ -55,7 +60,8 @@ impl Packet {
         }
     }
 
-    /// The hop count. `None` comes exactly where it is no maintenance packet.
+    /// The hop count, 0 to 255 (RapidIO Interconnect Specification 1.3, Part 1 and Part 3, maintenance packets). `None` comes
+    /// exactly where it is no maintenance packet of a length that `docs/packets.md` names.
     pub fn hop(&self) -> Option<u8>
         ensures { result ≡ hop_of self.now }
     {

@@ -17,7 +17,8 @@ const FIRST_CRC_END: usize = 82;
 /// From this length on, a link form has a CRC after 80 bytes.
 const LONG_FROM: usize = 84;
 
-/// The ackID, which is the first five bits, and the packet that the bytes carry; the sixth bit is ignored.
+/// The ackID, which is the first five bits, and the packet that the bytes carry; the sixth bit is ignored
+/// (RapidIO Interconnect Specification 1.3, Part 6, packet format and packet CRC; the sixth bit by this project's profile).
 /// `General` comes exactly where there are fewer than 8 bytes or more than 276, and `BadPacket` exactly where their
 /// number is in range and they carry no packet.
 pub fn check(bytes: &[u8]) -> Result<(u8, Packet), Cause>
@@ -75,7 +76,8 @@ fn registers(bytes: &[u8]) -> (u16, u16)
 impl Packet {
     ghost use Rattle.std.specs.Prelude.{◌+◌, ◌*◌, slice_set, slice_index};
 
-    /// The bytes with an ackID, below 32, in the first five bits.
+    /// The bytes, 8 to 276, with an ackID, below 32, in the first five bits
+    /// (RapidIO Interconnect Specification 1.3, Part 6, packet format).
     pub fn with_ack(&self, ack: u8) -> ArrayVec<u8, MAX_BYTES>
         requires { ack < 32 }
         ensures bytes { result.items ≡ slice_set self.now 0 (8 * ack + slice_index self.now 0) }
