@@ -1,5 +1,5 @@
 -- A script has at most one trace: each part of a run determines its lines.
-use Rattle.std.proofs.Common.{◌≡◌, ℕ, Bool, true, false, List, [], ◌∷◌, ◌++◌, Option, Some, None, MatchBool, sym, ap, ◌∙◌, subst}
+use Rattle.std.proofs.Common.{◌≡◌, ℕ, Bool, true, false, List, [], ◌∷◌, ◌++◌, Option, Some, None, MatchBool, sym, ap, ◌∙◌, subst, append_assoc}
 use Rattle.rio_packets.specs.Fields.{body_of}
 use Rattle.rio_packets.proofs.FormLaws.{LinkForm-one}
 use Rattle.fabric_model.specs.declared.lines.PortRef.{PortRef}
@@ -13,7 +13,8 @@ use Rattle.fabric_model.specs.Schedule.{NextOf, WhileOf, Rests, GoesOn}
 use Rattle.fabric_model.specs.Blocks.Send.{IsSend, sends}
 use Rattle.fabric_model.specs.Blocks.Settle.{can_pass, IsPass, PassesAll, PassesBoth}
 use Rattle.fabric_model.specs.Blocks.Event.{is_event, IsBlock}
-use Rattle.fabric_model.specs.Runs.{start, RunsFrom, Runs}
+use Rattle.fabric_model.specs.Runs.{start, BlockThen, RunsFrom, Runs, BlocksFrom, Begins}
+use Rattle.fabric_model.specs.Laws.Freeing.{IsFront}
 
 -- no two lists are of this kind
 abbrev pub AtMostOne : {L : Type 0} → (List L → Type 0) → Type 0
@@ -75,3 +76,24 @@ runs_from_one (line ∷ script) s x y f g =
 
 pub runs_one : (script : List Numbered) → AtMostOne (Runs script)
 runs_one script = runs_from_one script (start script)
+
+-- by a test, of two facts of the same kind
+by_test : {P Q P' Q' C : Type 0} (test : Bool) → (P → P' → C) → (Q → Q' → C) → MatchBool test P Q → MatchBool test P' Q' → C
+by_test true f g x y = f x y
+by_test false f g x y = g x y
+
+-- where the blocks behind an event are a front, they and the event's own are
+event_front : (s : Seen) (line : Line) (A B : Seen → List TraceLine → Type 0) (x y : List TraceLine) → ((t : Seen) (a b : List TraceLine) → A t a → B t b → IsFront a b) → BlockThen A s line x → BlockThen B s line y → IsFront x y
+event_front s line A B x y front p q =
+    let block = block_one line s p.0 q.0 p.3 q.3 in
+    let behind = front (seen s (Begun line ∷ q.0)) p.1 q.1 (subst (λ l. A (seen s l) p.1) block p.4) q.4 in
+    (behind.0, cc (append_assoc (Begun line ∷ p.0) p.1 behind.0))
+
+blocks_front : (done rest : List Numbered) (s : Seen) (x y : List TraceLine) → BlocksFrom s done x → RunsFrom s (done ++ rest) y → IsFront x y
+blocks_front [] rest s x y p q = (y, ap (λ l. l ++ y) (sym p))
+blocks_front (line ∷ done) rest s x y p q =
+    by_test (is_event line.line) (event_front s line.line (λ t a. BlocksFrom t done a) (λ t b. RunsFrom t (done ++ rest) b) x y (blocks_front done rest)) (blocks_front done rest s x y) p q
+
+pub first_blocks_front : (script : List Numbered) (lines all : List TraceLine) → Begins script lines → Runs script all → IsFront lines all
+first_blocks_front script lines all begins runs =
+    blocks_front begins.done begins.rest (start script) lines all begins.blocks (subst (λ x. RunsFrom (start script) x all) begins.whole runs)

@@ -8,11 +8,11 @@ ghost use Rattle.fabric_model.specs.declared.lines.Numbered.{Numbered};
 ghost use Rattle.fabric_model.specs.Network.{Network};
 ghost use Rattle.fabric_model.specs.Steps.{Step, LegalFrom, after_all};
 ghost use Rattle.fabric_model.specs.Lines.{TraceLine, steps_of};
-ghost use Rattle.fabric_model.specs.Runs.{Runs, bare, set_up_all};
+ghost use Rattle.fabric_model.specs.Runs.{Runs, Begins, bare, set_up_all};
 ghost use Rattle.fabric_model.specs.Laws.History.{IsEmptyNetwork};
 ghost use Rattle.fabric_model.specs.Laws.Holding.{HoldingExactly};
 ghost use Rattle.fabric_model.specs.Laws.Leaving.{Once, Unchanged};
-ghost use Rattle.fabric_model.specs.Laws.Freeing.{FreedAfterHeld};
+ghost use Rattle.fabric_model.specs.Laws.Freeing.{IsFront, FreedAfterHeld};
 ghost use Rattle.fabric_model.specs.Laws.Flows.{InOrder};
 ghost use Rattle.fabric_model.specs.Laws.Proper.{AreProper, SetUpIsProper};
 ghost use Rattle.fabric_model.specs.Laws.Priorities.{ByPriority};
@@ -21,6 +21,11 @@ ghost use Rattle.fabric_model.specs.Laws.Priorities.{ByPriority};
 #[tactic(auto, using(crate::proofs::Unique::runs_one))]
 pub fn one_trace()
     ensures { (script : List Numbered) (a b : List TraceLine) → Runs script a → Runs script b → a ≡ b }
+{}
+
+/// The blocks of a script's first events are a front of any trace of it.
+pub fn first_blocks_are_a_front()
+    ensures { (script : List Numbered) (lines all : List TraceLine) → Begins script lines → Runs script all → IsFront lines all }
 {}
 
 /// The network holds exactly the packets taken: each number that was given out stands in exactly one place, in one list

@@ -26,8 +26,8 @@ mod text;
 
 pub use examples::{laws_can_fail, worked_run};
 pub use laws::{
-    by_priority, freed_after_held, holding_exactly, in_order, joined, once, one_end, one_trace,
-    set_up, unchanged,
+    by_priority, first_blocks_are_a_front, freed_after_held, holding_exactly, in_order, joined,
+    once, one_end, one_trace, set_up, unchanged,
 };
 pub use lines::{Line, Numbered, PortRef, Script};
 pub use text::{Hex, Name};

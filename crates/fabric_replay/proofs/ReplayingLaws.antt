@@ -16,11 +16,11 @@ use Rattle.fabric_model.specs.Lines.{TraceLine, Begun, Ended, steps_of}
 use Rattle.fabric_model.specs.Text.{trace_line_text, trace_text}
 use Rattle.fabric_model.specs.Seen.{Seen, seen}
 use Rattle.fabric_model.specs.Blocks.Event.{is_event}
-use Rattle.fabric_model.specs.Runs.{bare, set_up, set_up_all, start, BlockThen, BlocksFrom, Runs}
+use Rattle.fabric_model.specs.Runs.{bare, set_up, set_up_all, start, BlockThen, BlocksFrom, Runs, Begins}
 use Rattle.fabric_model.specs.Laws.Proper.{AreProper, JoinsFreePorts, SetUpIsProper}
 use Rattle.fabric_model.proofs.Lawfulness.{lawful}
 use Rattle.fabric_model.proofs.Peers.{set_up_all_proper}
-use Rattle.fabric_model.proofs.Unique.{runs_one}
+use Rattle.fabric_model.proofs.Unique.{runs_one, first_blocks_front}
 use Rattle.fabric_model.proofs.Joining.{steps_of-append, legal_joined}
 use Rattle.fabric_model.proofs.Beginning.{seen-append, BlocksFrom-append, BlocksFrom-run}
 use Rattle.fabric_replay.specs.declared.fabric.Fabric.{Fabric}
@@ -223,13 +223,16 @@ Going-more names script i d w f w'' f3 box fabric h fine = record {
 -- a write failed in an event
 pub Step-front : (names : List (List ℕ)) (script : List Numbered) (i : ℕ) (d : Numbered) (w : Option (List ℕ)) (f : ℕ) (w'' : Option (List ℕ)) (f3 : ℕ) (box : Pending) (fabric : Fabric)
     → Passes names script → Step names script i d w f w'' f3 box fabric → ReplayedFront names script w w''
-Step-front names script i d w f w'' f3 box fabric p h = record {
-  lines = h.lines;
-  network = (seen (start script) h.lines).network;
-  told = Told-front w w'' box (trace_text names h.lines) h.told;
-  begins = inl (record { done = take (i + 1) script; rest = drop (i + 1) script; whole = sym (take-append-drop (i + 1) script); blocks = h.blocks });
-  lawful = lawful script (steps_of h.lines) _ (links_proper script p.1) h.legal;
-}
+Step-front names script i d w f w'' f3 box fabric p h =
+    let first : Begins script h.lines = record { done = take (i + 1) script; rest = drop (i + 1) script; whole = sym (take-append-drop (i + 1) script); blocks = h.blocks } in
+    record {
+      lines = h.lines;
+      network = (seen (start script) h.lines).network;
+      told = Told-front w w'' box (trace_text names h.lines) h.told;
+      begins = inl first;
+      front = λ all runs. first_blocks_front script h.lines all first runs;
+      lawful = lawful script (steps_of h.lines) _ (links_proper script p.1) h.legal;
+    }
 
 -- ---- the end
 
@@ -269,6 +272,7 @@ Ending-front names script w w'' box p h = record {
   network = (seen (start script) h.lines).network;
   told = Told-front w w'' box (trace_text names h.lines) h.told;
   begins = inr h.runs;
+  front = λ all runs. ([], runs_one script all h.lines runs h.runs ∙ sym (append-nil h.lines));
   lawful = lawful script (steps_of h.lines) _ (links_proper script p.1) h.legal;
 }
 

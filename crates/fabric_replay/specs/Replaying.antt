@@ -10,6 +10,7 @@ use Rattle.fabric_model.specs.Lines.{TraceLine, steps_of}
 use Rattle.fabric_model.specs.Text.{trace_text}
 use Rattle.fabric_model.specs.Seen.{seen}
 use Rattle.fabric_model.specs.Runs.{start, Runs, BlocksFrom, Begins}
+use Rattle.fabric_model.specs.Laws.Freeing.{IsFront}
 use Rattle.fabric_model.specs.Laws.Lawful.{Lawful}
 use Rattle.fabric_replay.specs.declared.fabric.Fabric.{Fabric}
 use Rattle.fabric_replay.specs.Events.{ShowsFabric}
@@ -23,12 +24,14 @@ pub record Replayed (names : List (List ℕ)) (script : List Numbered) (written 
   pub only : (other : List TraceLine) → Runs script other → other ≡ lines
   pub lawful : Lawful (start script).network (steps_of lines) network
 
--- A front was written of the text of lines that are the trace, or its first blocks; their steps are lawful.
+-- A front was written of the text of lines that are the trace, or its first blocks, and so a front of it; their steps
+-- are lawful.
 pub record ReplayedFront (names : List (List ℕ)) (script : List Numbered) (written written_after : Option (List ℕ)) : Type 0 where
   pub lines : List TraceLine
   pub network : Network
   pub told : AppendsFront written written_after (trace_text names lines)
   pub begins : Begins script lines ⊎ Runs script lines
+  pub front : (all : List TraceLine) → Runs script all → IsFront lines all
   pub lawful : Lawful (start script).network (steps_of lines) network
 
 -- how far a replay has come: the blocks of the first events of the script were told
