@@ -9,5 +9,6 @@ pub mod Leaving
 pub mod Paths
 pub mod Order
 pub mod Lanes
+pub mod Settling
 pub mod Worked
 pub mod Lawfulness

@@ -20,7 +20,7 @@ port_is p q same =
 pub same_port-refl : (p : PortRef) → same_port p p ≡ true
 same_port-refl p = and_from (eqb p.node p.node) (eqb p.port p.port) (eq-eqb p.node p.node refl) (eq-eqb p.port p.port refl)
 
-apart_back : (p q : PortRef) → same_port p q ≡ false → same_port q p ≡ false
+pub apart_back : (p q : PortRef) → same_port p q ≡ false → same_port q p ≡ false
 apart_back p q apart = false_from_ne_true (same_port q p) (λ same.
     let turned : same_port p q ≡ true = subst (λ x. same_port x q ≡ true) (port_is q p same) (same_port-refl q) in
     absurd (cc))

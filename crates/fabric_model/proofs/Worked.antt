@@ -1,9 +1,11 @@
 -- The worked run, and lists of steps of which the laws do not hold.
-use Rattle.std.proofs.Common.{◌≡◌, List, [], ◌∷◌, ◌++◌, refl, arith}
-use Rattle.rio_packets.specs.Fields.{body_of}
+use Rattle.std.proofs.Common.{◌≡◌, inl, inr, ℕ, ◌<◌, zero, suc, false, List, [], ◌∷◌, ◌++◌, Some, refl, sym, subst, arith}
+use Rattle.std.proofs.lemmas.Bool.{false≢true}
+use Rattle.std.proofs.lemmas.Option.{none-some}
+use Rattle.rio_packets.specs.Fields.{prio_of, body_of}
 use Rattle.rio_packets.specs.LinkForm.{LinkForm}
 use Rattle.fabric_model.specs.declared.lines.Line.TheVariants.{Settle, Collect}
-use Rattle.fabric_model.specs.Network.{Item, port_of}
+use Rattle.fabric_model.specs.Network.{Item, port_of, first_packet, room_in}
 use Rattle.fabric_model.specs.Steps.{Hold, Free, Take, Leave, Linked, AtNode, after_all, LegalFrom}
 use Rattle.fabric_model.specs.Lines.{TraceLine, Begun, Stepped, Ended, steps_of}
 use Rattle.fabric_model.specs.Schedule.{Rests, GoesOn}
@@ -13,7 +15,8 @@ use Rattle.fabric_model.specs.Laws.Holding.{Place, Received, Waiting, Left, Hold
 use Rattle.fabric_model.specs.Laws.Leaving.{Once, Unchanged}
 use Rattle.fabric_model.specs.Laws.Freeing.{FreedAfterHeld}
 use Rattle.fabric_model.specs.Laws.Flows.{InOrder}
-use Rattle.fabric_model.specs.Laws.Examples.{rest_of_body, packet, other, pair_script, pair_lines, pair, first, held_once, kept_too, left_twice, left_as_other, freed_too_early, fork, overtaking}
+use Rattle.fabric_model.specs.Laws.Settling.{IsSettled}
+use Rattle.fabric_model.specs.Laws.Examples.{rest_of_body, packet, other, pair_script, pair_lines, pair, first, held_once, kept_too, left_twice, left_as_other, freed_too_early, not_passed, fork, overtaking}
 
 pub pair_legal : LegalFrom pair (steps_of pair_lines) (after_all pair (steps_of pair_lines))
 pair_legal = ((refl, refl), ((port_of 0, refl, refl, refl), (refl, ((refl, refl, refl), refl))))
@@ -61,6 +64,20 @@ pub freed_too_early_breaks : FreedAfterHeld pair freed_too_early → ⊥
 freed_too_early_breaks law =
     let front = law.front (AtNode (Take 0 packet) ∷ Linked (Free (port_of 0) packet) ∷ []) (Linked (Hold (port_of 1) packet) ∷ []) refl (port_of 0) in
     absurd (cc front.1)
+
+pub not_passed_breaks : IsSettled (after_all pair not_passed) (port_of 0) (port_of 1) → ⊥
+not_passed_breaks (inl nothing) = absurd (cc (nothing 0 (omega arith)))
+not_passed_breaks (inr waits) = at_priority waits.priority waits.known waits.first
+  where
+    at_priority : (r : ℕ) → r < 4 → first_packet ((after_all pair not_passed).waiting (port_of 0) r) ≡ Some waits.packet → ⊥
+    at_priority zero known at =
+        let same : packet ≡ waits.packet = cc in
+        let full : room_in (after_all pair not_passed) (port_of 1) (prio_of packet) ≡ false = subst (λ x. room_in (after_all pair not_passed) (port_of 1) (prio_of x) ≡ false) (sym same) waits.no_room in
+        false≢true (sym full)
+    at_priority (suc zero) known at = none-some waits.packet at
+    at_priority (suc (suc zero)) known at = none-some waits.packet at
+    at_priority (suc (suc (suc zero))) known at = none-some waits.packet at
+    at_priority (suc (suc (suc (suc r)))) known at = omega arith
 
 pub overtaking_legal : LegalFrom fork overtaking (after_all fork overtaking)
 overtaking_legal = ((refl, refl), ((refl, refl), ((port_of 0, refl, refl, refl), ((port_of 0, refl, refl, refl), ((refl, refl, refl), ((refl, refl, refl), refl))))))

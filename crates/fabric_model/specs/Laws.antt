@@ -1,5 +1,5 @@
--- The laws of legal steps. Each speaks of every list of steps that is legal from an empty network, and of the network
--- definitions alone.
+-- The laws of legal steps: each speaks of every list of steps that is legal from an empty network, and of the network
+-- definitions alone. `Settling` is what a link that has settled leaves.
 pub mod History
 pub mod Holding
 pub mod Leaving
@@ -7,5 +7,6 @@ pub mod Freeing
 pub mod Flows
 pub mod Proper
 pub mod Priorities
+pub mod Settling
 pub mod Examples
 pub mod Lawful

@@ -1,13 +1,16 @@
 //! The laws of the plain network, each as the contract of a function with an empty body.
 //!
-//! A law speaks of every script, or of every list of steps that is legal from an empty network: of any number of nodes,
-//! ports and priorities, and of any buffers.
+//! A law speaks of every script, of every list of steps that is legal from an empty network, or of every block that
+//! settles a link: of any number of nodes, ports and priorities, and of any buffers.
 
-ghost use Rattle.std.specs.Prelude.{List, ◌≡◌, ◌++◌};
+ghost use Rattle.std.specs.Prelude.{List, Some, ◌≡◌, ◌++◌};
 ghost use Rattle.fabric_model.specs.declared.lines.Numbered.{Numbered};
-ghost use Rattle.fabric_model.specs.Network.{Network};
+ghost use Rattle.fabric_model.specs.declared.lines.PortRef.{PortRef as Port};
+ghost use Rattle.fabric_model.specs.Network.{Network, link_in};
 ghost use Rattle.fabric_model.specs.Steps.{Step, LegalFrom, after_all};
 ghost use Rattle.fabric_model.specs.Lines.{TraceLine, steps_of};
+ghost use Rattle.fabric_model.specs.Seen.{Seen, seen};
+ghost use Rattle.fabric_model.specs.Blocks.Settle.{IsSettle};
 ghost use Rattle.fabric_model.specs.Runs.{Runs, Begins, bare, set_up_all};
 ghost use Rattle.fabric_model.specs.Laws.History.{IsEmptyNetwork};
 ghost use Rattle.fabric_model.specs.Laws.Holding.{HoldingExactly};
@@ -16,6 +19,7 @@ ghost use Rattle.fabric_model.specs.Laws.Freeing.{IsFront, FreedAfterHeld};
 ghost use Rattle.fabric_model.specs.Laws.Flows.{InOrder};
 ghost use Rattle.fabric_model.specs.Laws.Proper.{AreProper, SetUpIsProper};
 ghost use Rattle.fabric_model.specs.Laws.Priorities.{ByPriority};
+ghost use Rattle.fabric_model.specs.Laws.Settling.{IsSettled};
 
 /// A script has at most one trace.
 #[tactic(auto, using(crate::proofs::Unique::runs_one))]
@@ -57,6 +61,13 @@ pub fn in_order()
 /// Each list of a network holds packets of its own priority alone.
 pub fn by_priority()
     ensures { (start : Network) (steps : List Step) (end : Network) → IsEmptyNetwork start → LegalFrom start steps end → ByPriority end }
+{}
+
+/// Settling a link leaves nothing that could pass over it: at each end nothing waits, or the packet whose turn it is has
+/// no room at the other.
+pub fn settled()
+    ensures { (s : Seen) (port : Port) (link : Port × Port) (block : List TraceLine) → AreProper s.network.links → link_in s.network.links port ≡ Some link → IsSettle s port block
+        → IsSettled (seen s block).network link.0 link.1 × IsSettled (seen s block).network link.1 link.0 }
 {}
 
 /// Legal steps from one network end in one network.

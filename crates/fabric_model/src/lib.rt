@@ -10,11 +10,12 @@
 //! - `Schedule`: how the lines of a block are put together;
 //! - `Blocks`: which lines each event of a script makes, one file an event;
 //! - `Runs`: what a trace of a script is;
-//! - `Laws`: what holds of every legal list of steps.
+//! - `Laws`: what holds of every legal list of steps, and what settling leaves.
 //!
 //! The module `laws` has each law as the contract of a function with an empty body, for every script or every list of
-//! steps: a script has one trace, and in the plain network packets are held exactly, leave once, unchanged and in
-//! order, and are freed after the next hop holds them.
+//! steps: a script has at most one trace, of which the blocks of its first events are a front; in the plain network
+//! packets are held exactly, leave once, unchanged and in order, and are freed after the next hop holds them; and
+//! settling leaves no packet that could pass.
 //!
 //! It leaves out how packets cross a link: no ackID, symbol, window or retry stands here.
 #![tactic(auto)]
@@ -27,7 +28,7 @@ mod text;
 pub use examples::{laws_can_fail, worked_run};
 pub use laws::{
     by_priority, first_blocks_are_a_front, freed_after_held, holding_exactly, in_order, joined,
-    once, one_end, one_trace, set_up, unchanged,
+    once, one_end, one_trace, set_up, settled, unchanged,
 };
 pub use lines::{Line, Numbered, PortRef, Script};
 pub use text::{Hex, Name};

@@ -67,6 +67,10 @@ left_as_other = AtNode (Take 0 packet) ∷ Linked (Hold (port_of 1) packet) ∷ 
 abbrev pub freed_too_early : List Step
 freed_too_early = AtNode (Take 0 packet) ∷ Linked (Free (port_of 0) packet) ∷ Linked (Hold (port_of 1) packet) ∷ []
 
+-- it waits, and there is room for it
+abbrev pub not_passed : List Step
+not_passed = AtNode (Take 0 packet) ∷ []
+
 -- a port in two links, so not proper, and the second packet overtakes the first by the other link
 abbrev pub fork : Network
 fork = record bare {
