@@ -15,6 +15,7 @@ pub enum Line {
     /// An endpoint and its base device ID.
     Endpoint {
         name: u8,
+        /// In the scripts that are read so far, 1 of the first endpoint and 2 of the second.
         id: u8,
     },
     /// A link between two ports. The first is the side that acts first when the link settles.
@@ -25,9 +26,13 @@ pub enum Line {
     /// A packet is given to an endpoint. `hex` is what follows the source ID in its body.
     Send {
         node: u8,
+        /// The priority, 0 to 3, of which 3 is the highest.
         prio: u8,
+        /// The format type, 0 to 15; in the scripts that are read so far 15.
         ftype: u8,
+        /// The destination ID; in the scripts that are read so far 2.
         dest: u8,
+        /// In the scripts that are read so far an even number of bytes, at most 268.
         hex: Hex,
     },
     /// The link of a port passes what waits, both ways.
