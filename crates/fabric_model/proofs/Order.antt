@@ -8,7 +8,7 @@ use Rattle.fabric_model.specs.Network.{Item, Network, same_port, port_of, peer_i
 use Rattle.fabric_model.specs.Steps.{Hold, Free, Take, Leave, Step, Linked, AtNode, after_hold, after, LegalFrom}
 use Rattle.fabric_model.specs.Laws.History.{IsEmptyNetwork, taken, gone, WasTaken}
 use Rattle.fabric_model.specs.Laws.Holding.{how_often, items_at}
-use Rattle.fabric_model.specs.Laws.Flows.{SameFlow, InOrder}
+use Rattle.fabric_model.specs.Laws.Flows.{SamePriority, EarlierFirst, InOrder}
 use Rattle.fabric_model.specs.Laws.Proper.{AreProper}
 use Rattle.fabric_model.proofs.Peers.{same_port-refl}
 use Rattle.fabric_model.proofs.Boards.{item_of}
@@ -82,7 +82,7 @@ taken_rises test net (AtNode (Take n packet) ∷ steps) = go (test (item_of net 
     go false rises = Rises-lower net.given (net.given + 1) (numbers test (taken (after net (AtNode (Take n packet))) steps)) (omega arith) rises
 taken_rises test net (AtNode (Leave n packet) ∷ steps) = taken_rises test (after net (AtNode (Leave n packet))) steps
 
-earlier_first : (start : Network) (steps : List Step) (end : Network) → IsEmptyNetwork start → AreProper start.links → LegalFrom start steps end → (x y : Item) (before later : List Item) → WasTaken start steps x → gone start steps ≡ before ++ y ∷ later → SameFlow x y → x.number < y.number → 0 < how_often x.number before
+earlier_first : (start : Network) (steps : List Step) (end : Network) → IsEmptyNetwork start → AreProper start.links → LegalFrom start steps end → (x y : Item) (before later : List Item) → WasTaken start steps x → gone start steps ≡ before ++ y ∷ later → SamePriority x y → x.number < y.number → 0 < how_often x.number before
 earlier_first start steps end empty proper legal x y before later was parts same less =
     let p = y.port in
     let r = prio_of y.taken in
@@ -99,5 +99,10 @@ earlier_first start steps end empty proper legal x y before later was parts same
     let among = subst (Among x.number) line (taken_among test (taken start steps) x.number (record x { now = x.taken }) was of_x) in
     among_counts test x.number before (stands_before start.given y.number x.number (numbers test before) rest rises less among)
 
+pub in_order_of_priority : (start : Network) (steps : List Step) (end : Network) → IsEmptyNetwork start → AreProper start.links → LegalFrom start steps end → EarlierFirst SamePriority start steps
+in_order_of_priority start steps end empty proper legal = earlier_first start steps end empty proper legal
+
 pub in_order : (start : Network) (steps : List Step) (end : Network) → IsEmptyNetwork start → AreProper start.links → LegalFrom start steps end → InOrder start steps
-in_order start steps end empty proper legal = record { earlier_first = earlier_first start steps end empty proper legal }
+in_order start steps end empty proper legal = record {
+  earlier_first = λ x y before later was parts same less. earlier_first start steps end empty proper legal x y before later was parts (record { port = same.port; priority = same.priority }) less;
+}

@@ -16,7 +16,7 @@ ghost use Rattle.fabric_model.specs.Laws.History.{IsEmptyNetwork};
 ghost use Rattle.fabric_model.specs.Laws.Holding.{HoldingExactly};
 ghost use Rattle.fabric_model.specs.Laws.Leaving.{Once, Unchanged};
 ghost use Rattle.fabric_model.specs.Laws.Freeing.{IsFront, FreedAfterHeld};
-ghost use Rattle.fabric_model.specs.Laws.Flows.{InOrder};
+ghost use Rattle.fabric_model.specs.Laws.Flows.{SamePriority, EarlierFirst, InOrder};
 ghost use Rattle.fabric_model.specs.Laws.Proper.{AreProper, SetUpIsProper};
 ghost use Rattle.fabric_model.specs.Laws.Priorities.{ByPriority};
 ghost use Rattle.fabric_model.specs.Laws.Settling.{IsSettled};
@@ -56,6 +56,11 @@ pub fn freed_after_held()
 /// Of two items of one flow the one that was taken first leaves first, where each port stands in at most one link.
 pub fn in_order()
     ensures { (start : Network) (steps : List Step) (end : Network) → IsEmptyNetwork start → AreProper start.links → LegalFrom start steps end → InOrder start steps }
+{}
+
+/// The same of any two items that were taken at one port with one priority, so of flows that are told apart by less.
+pub fn in_order_of_priority()
+    ensures { (start : Network) (steps : List Step) (end : Network) → IsEmptyNetwork start → AreProper start.links → LegalFrom start steps end → EarlierFirst SamePriority start steps }
 {}
 
 /// Each list of a network holds packets of its own priority alone.
