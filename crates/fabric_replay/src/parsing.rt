@@ -122,10 +122,12 @@ mod tests {
         for (line, number) in script.lines.iter().zip(&numbers) {
             assert_eq!(rt; line.number, *number);
         }
-        if let Line::Send { prio, hex, .. } = &script.lines[3].line {
-            assert_eq!(rt; *prio, 3);
-            assert!(rt; hex.as_slice() == [0xca, 0xfe, 0x00, 0x01].as_slice());
-        }
+        let Line::Send { prio, hex, .. } = &script.lines[3].line else {
+            assert!(rt; false, "no send");
+            return;
+        };
+        assert_eq!(rt; *prio, 3);
+        assert!(rt; hex.as_slice() == [0xca, 0xfe, 0x00, 0x01].as_slice());
     }
 
     #[test]
