@@ -1,8 +1,8 @@
 -- Whose turn it is among the packets of a store.
-use Rattle.std.specs.Prelude.{◌≡◌, ℕ, ◌<◌, ◌+◌, ◌-◌, Bool, false, nat_lt, List, Option, Some, None, slice_get}
+use Rattle.std.specs.Prelude.{◌≡◌, ℕ, ◌<◌, Bool, false, List, Option, Some, None, slice_get}
 use Rattle.std.specs.Option.{option_or}
 use Rattle.rio_packets.specs.Fields.{prio_of}
-use Rattle.link_buffers.specs.Queues.{list_at, held, Buffered}
+use Rattle.link_buffers.specs.Queues.{list_at, Buffered, room_for}
 
 -- the first packet of the highest priority that has one
 abbrev pub next_of : List (List (List ℕ)) → Option (List ℕ)
@@ -11,7 +11,7 @@ next_of lists = option_or (option_or (option_or (slice_get (list_at lists 3) 0) 
 -- whether a packet, if there is one, has room among those received
 abbrev pub admits : Buffered → Option (List ℕ) → Bool
 admits received None = false
-admits received (Some packet) = nat_lt (held received.lists + (3 - prio_of packet)) received.buffers
+admits received (Some packet) = room_for received (prio_of packet)
 
 -- a priority is that of the packet whose turn it is, which is the first of its list
 pub record IsTurn (lists : List (List (List ℕ))) (prio : ℕ) : Type 0 where

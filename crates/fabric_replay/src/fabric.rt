@@ -14,15 +14,11 @@ ghost use Rattle.fabric_replay.specs.Events.{IsBare, ShowsFabric, Does, Evented}
 use crate::passing::{Way, pass_all};
 use crate::printing::{put, put_begun, put_leave, put_take};
 use crate::queues::Queues;
-use fabric_model::{Line, Name, PortRef};
+use crate::{FIRST, SECOND};
+use fabric_model::{Line, Name};
 use rio_chars::{NoMemory, Outbox, Sink};
 use rio_packets::{Header, Packet, build};
 use std::alloc::Global;
-
-/// The port of the first endpoint, and of the second.
-const FIRST: PortRef = PortRef { node: 0, port: 0 };
-
-const SECOND: PortRef = PortRef { node: 1, port: 0 };
 
 /// The base device ID of the first endpoint.
 const FIRST_ID: u8 = 1;

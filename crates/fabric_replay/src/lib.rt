@@ -14,8 +14,14 @@ mod queues;
 mod reading;
 mod replaying;
 
+use fabric_model::PortRef;
 pub use parsing::{Refusal, ScriptEnd, parse};
 pub use replaying::{ReplayEnd, replay};
 
 /// The most bytes that may follow the source ID in the body of a packet that a script sends.
 pub const MOST_REST: usize = 268;
+
+/// The port of the first endpoint of a script, and of the second.
+pub(crate) const FIRST: PortRef = PortRef { node: 0, port: 0 };
+
+pub(crate) const SECOND: PortRef = PortRef { node: 1, port: 0 };

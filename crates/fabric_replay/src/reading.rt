@@ -6,8 +6,8 @@ ghost use Rattle.fabric_model.specs.Text.{hex_text};
 ghost use Rattle.fabric_replay.specs.Forms.{IsGoodLength};
 ghost use Rattle.fabric_replay.specs.Spelling.{Reads, is_skipped, reason_number};
 
-use crate::MOST_REST;
-use fabric_model::{Hex, Line, PortRef};
+use crate::{FIRST, MOST_REST, SECOND};
+use fabric_model::{Hex, Line};
 use std::alloc::{AllocError, Global};
 
 /// Why a line is refused.
@@ -53,17 +53,13 @@ pub fn read_line(
             text,
             b"link A.0 B.0",
             Line::Link {
-                a: PORT_A,
-                b: PORT_B,
+                a: FIRST,
+                b: SECOND,
             },
         )),
         _ => read_event(alloc, text),
     }
 }
-
-const PORT_A: PortRef = PortRef { node: 0, port: 0 };
-
-const PORT_B: PortRef = PortRef { node: 1, port: 0 };
 
 // The line, where the text is the one form that its place allows.
 fn read_fixed(text: &[u8], form: &[u8], line: Line) -> Result<Line, Reason>
@@ -85,7 +81,7 @@ fn read_event(alloc: Global, text: &[u8]) -> Result<Result<Line, Reason>, AllocE
         return read_send(alloc, words);
     }
     if text == b"settle A.0".as_slice() {
-        return Ok(Ok(Line::Settle { port: PORT_A }));
+        return Ok(Ok(Line::Settle { port: FIRST }));
     }
     Ok(read_fixed(text, b"collect B", Line::Collect { node: 1 }))
 }
