@@ -1,4 +1,4 @@
-use Rattle.std.proofs.Common.{◌≡◌, Some}
+use Rattle.std.proofs.Common.{rules, ◌≡◌, Some}
 use Rattle.fabric_replay.specs.Turns.{next_of}
 use Rattle.fabric_replay.proofs.PassingLaws.{Puts-pass}
 use Rattle.fabric_replay.proofs.passing.pass.Goals as goal
@@ -6,4 +6,4 @@ use Rattle.fabric_replay.proofs.passing.pass.Goals as goal
 pub returns-in-Some-clause-printed : goal.returns-in-Some-clause-printed
 returns-in-Some-clause-printed g c =
     let next : next_of c.args.from.now.waiting ≡ Some c.in-Some.packet = cc (c.in-Some.ensures.value) in
-    rw next (Puts-pass c.args.way.now.names.now c.args.way.now.from c.args.way.now.to c.in-Some.packet c.put_hold.ensures c.put_free.ensures)
+    rw next (search (rules, Puts-pass))
