@@ -1,11 +1,12 @@
 //! `OutErrorStopped`: the sender has to ask which packet the far port expects.
-ghost use Rattle.std.specs.Prelude.{◌≡◌, ◌<◌, [], length, take};
+ghost use Rattle.std.specs.Prelude.{◌≡◌, ℕ, ◌<◌, [], false, length, take, Option};
 ghost use Rattle.link_buffers.specs.Taking.{left, leave, Covers};
-ghost use Rattle.link_model.specs.Output.{hears};
+ghost use Rattle.link_model.specs.Output.{hears, times_out, turned, turns};
+ghost use Rattle.link_model.specs.Output.Output.{ErrorStopped};
+ghost use Rattle.link_model.specs.Output.Burst.{Requests};
 ghost use Rattle.link_model.specs.Output.Stype0.{LinkResponse};
 ghost use Rattle.link_model.specs.Window.{IsWindow};
 ghost use Rattle.link_sender.specs.Answers.{after_response, stopped_state};
-ghost use Rattle.link_sender.specs.Stopped.{unasked, asking};
 
 use crate::answers::{AfterResponse, OutFailed};
 use crate::freeing::free_all;
@@ -32,9 +33,9 @@ impl Model for OutErrorStopped {
 }
 
 impl OutErrorStopped {
-    /// A link-request is sent.
+    /// A turn of a sender that has not asked, which sends a link-request. One that has asked is unchanged.
     pub fn request(self) -> OutErrorStopped
-        ensures { result ≡ asking self.window }
+        ensures { (waiting : Option ℕ) → turned (stopped_state result) Requests ≡ turns (ErrorStopped false self.window) waiting }
     {
         OutErrorStopped {
             window: self.window,
@@ -61,7 +62,7 @@ impl OutErrorStopped {
 
     /// A time-out: the link-request has to be sent again.
     pub fn time_out(self) -> OutErrorStopped
-        ensures { result ≡ unasked self.window }
+        ensures { stopped_state result ≡ times_out (stopped_state self) }
     {
         OutErrorStopped {
             window: self.window,

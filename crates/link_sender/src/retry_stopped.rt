@@ -1,7 +1,11 @@
 //! `OutRetryStopped`: the far port asked for the oldest packet again.
-ghost use Rattle.std.specs.Prelude.{◌≡◌, length};
-ghost use Rattle.link_model.specs.Window.{IsWindow, from_ack};
-ghost use Rattle.link_sender.specs.Stopped.{unasked};
+ghost use Rattle.std.specs.Prelude.{◌≡◌, ℕ, length, Option};
+ghost use Rattle.link_model.specs.Output.{hears, turned, turns};
+ghost use Rattle.link_model.specs.Output.Output.{Sending, RetryStopped};
+ghost use Rattle.link_model.specs.Output.Burst.{Restarts};
+ghost use Rattle.link_model.specs.Output.Stype0.{PacketAccepted, PacketRetry, PacketNotAccepted};
+ghost use Rattle.link_model.specs.Window.{IsWindow};
+ghost use Rattle.link_sender.specs.Answers.{stopped_state};
 
 use crate::error_stopped::OutErrorStopped;
 use crate::outstanding::Outstanding;
@@ -23,9 +27,9 @@ impl Model for OutRetryStopped {
 }
 
 impl OutRetryStopped {
-    /// Restart-from-retry is sent: nothing is outstanding, and the oldest ackID is the next one.
+    /// A turn, which sends restart-from-retry: nothing is outstanding, and the oldest ackID is the next one.
     pub fn restart(self) -> OutOk
-        ensures { result ≡ from_ack self.oldest }
+        ensures { (waiting : Option ℕ) → turned (Sending result) Restarts ≡ turns (RetryStopped self) waiting }
     {
         OutOk {
             window: Outstanding::from_ack(self.window.oldest()),
@@ -34,7 +38,7 @@ impl OutRetryStopped {
 
     /// A packet-not-accepted.
     pub fn not_accepted(self) -> OutErrorStopped
-        ensures { result ≡ unasked self }
+        ensures { (ack : ℕ) → stopped_state result ≡ (hears PacketNotAccepted (RetryStopped self) ack).state }
     {
         OutErrorStopped {
             window: self.window,
@@ -44,7 +48,8 @@ impl OutRetryStopped {
 
     /// A packet-accepted or packet-retry, which is unexpected here.
     pub fn unexpected(self) -> OutErrorStopped
-        ensures { result ≡ unasked self }
+        ensures accepted { (ack : ℕ) → stopped_state result ≡ (hears PacketAccepted (RetryStopped self) ack).state }
+        ensures retry { (ack : ℕ) → stopped_state result ≡ (hears PacketRetry (RetryStopped self) ack).state }
     {
         self.not_accepted()
     }

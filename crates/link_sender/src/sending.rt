@@ -1,14 +1,13 @@
 //! `OutOk`: packets may start.
 ghost use Rattle.std.specs.Option.{option_map};
-ghost use Rattle.std.specs.Prelude.{◌≡◌, [], length, take, IfSome, ◌<◌};
+ghost use Rattle.std.specs.Prelude.{◌≡◌, ℕ, [], length, take, IfSome, ◌<◌};
 ghost use Rattle.link_buffers.specs.Queues.{list_at};
 ghost use Rattle.link_buffers.specs.Taking.{left, leave, count_of, highest, Covers};
-ghost use Rattle.link_model.specs.Output.{Heard, hears, turns};
+ghost use Rattle.link_model.specs.Output.{Heard, hears, times_out, turns};
 ghost use Rattle.link_model.specs.Output.Output.{Sending};
-ghost use Rattle.link_model.specs.Output.Stype0.{PacketAccepted, PacketRetry};
+ghost use Rattle.link_model.specs.Output.Stype0.{PacketAccepted, PacketRetry, PacketNotAccepted};
 ghost use Rattle.link_model.specs.Window.{IsWindow, from_ack};
-ghost use Rattle.link_sender.specs.Answers.{after_accepted, after_retry, after_turn};
-ghost use Rattle.link_sender.specs.Stopped.{unasked};
+ghost use Rattle.link_sender.specs.Answers.{after_accepted, after_retry, after_turn, stopped_state};
 
 use crate::answers::{AfterAccepted, AfterRetry, Started};
 use crate::error_stopped::OutErrorStopped;
@@ -45,8 +44,8 @@ impl OutOk {
         }
     }
 
-    /// Starts the first packet of the highest priority that has one which is not outstanding, where fewer than
-    /// `WINDOW` are outstanding. It takes the next ackID.
+    /// Starts the first packet of the highest priority that has one which is not outstanding (this project's profile),
+    /// where fewer than `WINDOW` are outstanding. It takes the next ackID.
     pub fn turn(self, store: &OutStore) -> (OutOk, Option<Started>)
         requires { Covers self.prios store.now }
         ensures entry { after_turn result.0 result.1 ≡ turns (Sending self) (highest (leave self.prios store.now)) }
@@ -111,7 +110,7 @@ impl OutOk {
 
     /// A packet-not-accepted.
     pub fn not_accepted(self) -> OutErrorStopped
-        ensures { result ≡ unasked self }
+        ensures { (ack : ℕ) → stopped_state result ≡ (hears PacketNotAccepted (Sending self) ack).state }
     {
         OutErrorStopped {
             window: self.window,
@@ -119,9 +118,9 @@ impl OutOk {
         }
     }
 
-    /// A time-out, also where nothing is outstanding.
+    /// A time-out, which is an error also where nothing is outstanding (this project's profile).
     pub fn time_out(self) -> OutErrorStopped
-        ensures { result ≡ unasked self }
+        ensures { stopped_state result ≡ times_out (Sending self) }
     {
         self.not_accepted()
     }
