@@ -17,7 +17,7 @@ use link_receiver::{AfterPacket, InErrorStopped, InOk, InRetryStopped};
 use rio_packets::{Cause, Packet};
 use rio_symbols::Symbol;
 
-/// The input half.
+/// The input half. The head of `link_receiver` draws how one state leads to another.
 #[derive(Drop)]
 pub(crate) enum Input {
     Ok(InOk),

@@ -16,7 +16,7 @@ use link_sender::{
 };
 use rio_packets::Packet;
 
-/// The output half.
+/// The output half. The head of `link_sender` draws how one state leads to another.
 #[derive(Drop)]
 pub(crate) enum Output {
     Ok(OutOk),
