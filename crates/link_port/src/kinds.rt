@@ -9,7 +9,7 @@ pub enum OutKind {
     RetryStopped,
     /// The sender has to ask which packet the far port expects.
     ErrorStopped,
-    /// The far port expects a packet that was never sent: nothing more is sent.
+    /// The far port told an ackID that it cannot expect: nothing more is sent.
     Failed,
 }
 

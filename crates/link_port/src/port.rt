@@ -74,8 +74,9 @@ impl Port {
         })
     }
 
-    /// Takes a character that came. The symbol or the packet that it completes is led through the output half first and
-    /// then through the input half, by the step tables of `link_model`. Packets that it acknowledges are put into `freed`.
+    /// Takes a character that came, and leads what it completes through the step tables of `link_model`: a symbol through
+    /// the output half first and then the input half, a packet and what is neither through the input half alone. Packets
+    /// that a symbol acknowledges are put into `freed`.
     pub fn take(&mut self, c: Char, freed: &mut ArrayVec<Packet, 31>) -> Taken
         requires empty { freed.old.items ≡ [] }
         ensures state { self.new ≡ (takes self.old c).port }
