@@ -17,7 +17,7 @@ other_has_none (Taking expected) = refl
 other_has_none (RetryStopped expected) = refl
 other_has_none (ErrorStopped expected) = refl
 
-start_or_end_has_none : (input : Input) (s1 cmd : ℕ) → (s1 ≡ 0) ⊎ (s1 ≡ 2) → (receives (symbol_arrival s1 cmd) input).reply ≡ None
+pub start_or_end_has_none : (input : Input) (s1 cmd : ℕ) → (s1 ≡ 0) ⊎ (s1 ≡ 2) → (receives (symbol_arrival s1 cmd) input).reply ≡ None
 start_or_end_has_none input s1 cmd (inl is) = subst (λ (s : ℕ). (receives (symbol_arrival s cmd) input).reply ≡ None) (sym is) (other_has_none input)
 start_or_end_has_none input s1 cmd (inr is) = subst (λ (s : ℕ). (receives (symbol_arrival s cmd) input).reply ≡ None) (sym is) (other_has_none input)
 
