@@ -48,5 +48,5 @@ carried_all both [] = both
 carried_all both (c ∷ cs) = carried_all (carried (replied both.near (takes both.far c).reply) (takes both.far c) both.held) cs
 
 -- a turn of the near port
-abbrev pub carries : PortState → PortState → List (List ℕ) → Carried
-carries near far freed = carried_all (both_of (turns_to near) far None freed) (turn_sends near).chars
+abbrev pub carries : PortState → PortState → Carried
+carries near far = carried_all (both_of (turns_to near) far None []) (turn_sends near).chars

@@ -20,14 +20,15 @@ use rio_symbols::Symbol;
 ///  freed
 /// ```
 ///
-/// Returns a copy of the packet that the far port accepted, if it did. The packet that the near port then lets go stands
-/// in `freed`.
+/// Returns a copy of the packet that the far port accepted, if it did. `freed` is cleared, and then takes the packets that
+/// the near port lets go on the reply to the last character: none where nothing is sent, or where no reply comes.
 pub fn carry(near: &mut Port, far: &mut Port, freed: &mut ArrayVec<Packet, 31>) -> Option<Packet>
-    ensures near { near.new ≡ (carries near.old far.old freed.old.items).near }
-    ensures far { far.new ≡ (carries near.old far.old freed.old.items).far }
-    ensures held { result ≡ (carries near.old far.old freed.old.items).held }
-    ensures freed { freed.new.items ≡ (carries near.old far.old freed.old.items).freed }
+    ensures near { near.new ≡ (carries near.old far.old).near }
+    ensures far { far.new ≡ (carries near.old far.old).far }
+    ensures held { result ≡ (carries near.old far.old).held }
+    ensures freed { freed.new.items ≡ (carries near.old far.old).freed }
 {
+    freed.clear();
     let burst = near.turn();
     send(near, far, burst.chars.as_slice(), freed)
 }
