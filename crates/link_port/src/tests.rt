@@ -1,8 +1,9 @@
-//! Ports in each of their states against what may come. The expected states, replies and symbols are those of the
-//! tables of RapidIO Interconnect Specification 1.3, Part 6, packet acknowledgment, packet retry and error recovery.
+//! Ports in each of their states against what may come. The expected states, replies and symbols are those of this
+//! project's step tables (`docs/link.md`), which follow RapidIO Interconnect Specification 1.3, Part 6, packet
+//! acknowledgment, packet retry and error recovery, and have rules of this project's profile.
 ghost use Rattle.std.specs.Prelude.{◌<◌};
 
-use crate::{InKind, OutKind, PlainPort, Port, PortFace, carry, pass};
+use crate::{Burst, InKind, OutKind, PlainPort, Port, PortFace, carry, pass};
 use arrayvec::ArrayVec;
 use link_model::{Event, end_of_packet, start_of_packet};
 use rio_chars::Char;
@@ -58,50 +59,74 @@ fn put(port: &mut Port) {
     }
 }
 
-/// Brings the output half of a new port into a state: OK, retry-stopped, error-stopped, asked, failed.
-fn stop_output(port: &mut Port, state: u8) {
-    if state == 1 {
-        put(port);
-        port.turn();
-        meet_symbol(port, 1, 0, 7, 0);
-    }
-    if state > 1 {
-        port.time_out();
-    }
-    if state > 2 {
-        port.turn();
-    }
-    if state > 3 {
-        meet_symbol(port, 6, 5, 7, 0);
+/// A state that an output half is brought into: `Asked` has sent its link-request, and `ErrorStopped` has not.
+#[derive(Clone, Copy, Debug, PartialEq, Eq)]
+enum OutState {
+    Ok,
+    RetryStopped,
+    ErrorStopped,
+    Asked,
+    Failed,
+}
+
+/// Brings the output half of a new port into a state.
+fn stop_output(port: &mut Port, state: OutState) {
+    match state {
+        OutState::Ok => {}
+        OutState::RetryStopped => {
+            put(port);
+            port.turn();
+            meet_symbol(port, 1, 0, 7, 0);
+        }
+        OutState::ErrorStopped => port.time_out(),
+        OutState::Asked => {
+            port.time_out();
+            port.turn();
+        }
+        OutState::Failed => {
+            port.time_out();
+            port.turn();
+            meet_symbol(port, 6, 5, 7, 0);
+        }
     }
 }
 
-/// Brings the input half of a new port into a state: OK, retry-stopped, error-stopped.
-fn stop_input(port: &mut Port, state: u8) {
-    if state == 1 {
-        meet_packet(port, 0);
-        meet_packet(port, 1);
-    }
-    if state == 2 {
-        meet(port, &[Char::Invalid]);
+/// Brings the input half of a new port into a state, in which one packet is held and ackID 1 is expected.
+fn stop_input(port: &mut Port, state: InKind) {
+    meet_packet(port, 0);
+    match state {
+        InKind::Ok => {}
+        InKind::RetryStopped => {
+            meet_packet(port, 1);
+        }
+        InKind::ErrorStopped => {
+            meet(port, &[Char::Invalid]);
+        }
     }
 }
 
-/// The stype0 and the two parameters of a reply, or zeros and 99 where there is none.
-fn parts(reply: &Option<Symbol>) -> (u8, u8, u8) {
+/// The stype0 and the two parameters of a reply.
+type Parts = (u8, u8, u8);
+
+fn parts(reply: &Option<Symbol>) -> Option<Parts> {
     match reply {
-        Some(symbol) => (symbol.s0, symbol.p0, symbol.p1),
-        None => (0, 0, 99),
+        Some(symbol) => Some((symbol.s0, symbol.p0, symbol.p1)),
+        None => None,
     }
+}
+
+/// The state of the output half, and whether it has asked.
+fn output(port: &Port) -> (OutKind, bool) {
+    (port.out_kind(), port.asked())
 }
 
 /// The states of a port and its reply after a symbol, in a new port that was brought into two states.
 fn after_symbol(
     rt: HostRuntime,
-    states: (u8, u8),
+    states: (OutState, InKind),
     stypes: (u8, u8),
     cmd: u8,
-) -> Option<(OutKind, InKind, (u8, u8, u8))>
+) -> Option<((OutKind, bool), InKind, Option<Parts>)>
     requires s0 { stypes.0 < 8 }
     requires s1 { stypes.1 < 8 }
     requires cmd { cmd < 8 }
@@ -110,58 +135,133 @@ fn after_symbol(
     stop_output(&mut port, states.0);
     stop_input(&mut port, states.1);
     let reply = meet_symbol(&mut port, stypes.0, 0, stypes.1, cmd);
-    Some((port.out_kind(), port.in_kind(), parts(&reply)))
+    Some((output(&port), port.in_kind(), parts(&reply)))
 }
 
 // Each stype0 with each stype1, link-requests with cmd 3 and 4, in each state of the output half beside each of the input
 // half.
 #[test]
 fn each_symbol_meets_each_state(rt: HostRuntime) {
-    let good = OutKind::Ok;
-    let retry = OutKind::RetryStopped;
-    let error = OutKind::ErrorStopped;
-    let failed = OutKind::Failed;
+    let good = (OutKind::Ok, false);
+    let retry = (OutKind::RetryStopped, false);
+    let error = (OutKind::ErrorStopped, false);
+    let asked = (OutKind::ErrorStopped, true);
+    let failed = (OutKind::Failed, false);
     let outputs = [
-        [error, error, error, good, good, good, good, good],
-        [error, error, error, retry, retry, retry, retry, retry],
-        [error, error, error, error, error, error, error, error],
-        [error, error, error, error, error, error, good, error],
-        [
-            failed, failed, failed, failed, failed, failed, failed, failed,
-        ],
+        (
+            OutState::Ok,
+            [error, error, error, good, good, good, good, good],
+        ),
+        (
+            OutState::RetryStopped,
+            [error, error, error, retry, retry, retry, retry, retry],
+        ),
+        (
+            OutState::ErrorStopped,
+            [error, error, error, error, error, error, error, error],
+        ),
+        (
+            OutState::Asked,
+            [asked, asked, asked, asked, asked, asked, good, asked],
+        ),
+        (
+            OutState::Failed,
+            [
+                failed, failed, failed, failed, failed, failed, failed, failed,
+            ],
+        ),
     ];
     let good = InKind::Ok;
     let retry = InKind::RetryStopped;
     let error = InKind::ErrorStopped;
-    let none = (0, 0, 99);
-    let restarted = [(error, (2, 0, 31)), (good, none), (error, none)];
-    let requested = [(good, (6, 0, 16)), (good, (6, 1, 4)), (good, (6, 0, 5))];
-    let unchanged = [(good, none), (retry, none), (error, none)];
-    for (output, row) in outputs.iter().enumerate() {
-        for input in 0..3 {
+    // The state and the reply after restart-from-retry, and after a link-request.
+    let inputs = [
+        (good, (error, Some((2, 1, 31))), (good, Some((6, 1, 16)))),
+        (retry, (good, None), (good, Some((6, 1, 4)))),
+        (error, (error, None), (good, Some((6, 1, 5)))),
+    ];
+    for (before, row) in outputs {
+        for (input, restarted, requested) in inputs {
+            let states = (before, input);
             for s0 in 0..8 {
+                let wanted = row[usize::from(s0)];
                 for s1 in 0..8 {
-                    let states = (output as u8, input);
-                    let wanted = row[usize::from(s0)];
-                    let (after, reply) = match s1 {
-                        3 => restarted[usize::from(input)],
-                        _ => unchanged[usize::from(input)],
-                    };
+                    let (after, reply) = if s1 == 3 { restarted } else { (input, None) };
                     assert_eq!(rt;
                         after_symbol(rt, states, (s0, s1), 3),
                         Some((wanted, after, reply)),
-                        "states {output} {input}, stypes {s0} {s1}"
+                        "states {states:?}, stypes {s0} {s1}"
                     );
                 }
-                let (after, reply) = requested[usize::from(input)];
+                let (after, reply) = requested;
                 assert_eq!(rt;
-                    after_symbol(rt, (output as u8, input), (s0, 4), 4),
-                    Some((row[usize::from(s0)], after, reply)),
-                    "states {output} {input}, stype0 {s0}, link-request"
+                    after_symbol(rt, states, (s0, 4), 4),
+                    Some((wanted, after, reply)),
+                    "states {states:?}, stype0 {s0}, link-request"
                 );
             }
         }
     }
+}
+
+/// The stype1 and cmd of the first symbol that is sent, and the number of events.
+fn sent(burst: &Burst) -> (Option<(u8, u8)>, usize) {
+    let first = match burst.sent.as_slice().first() {
+        Some(Event::Ctl(symbol)) => Some((symbol.s1, symbol.cmd)),
+        _ => None,
+    };
+    (first, burst.sent.len())
+}
+
+// What a turn of each state of the output half sends where a packet waits, and the state after it; and the state after a
+// time-out, and what is sent then.
+#[test]
+fn each_output_state_has_its_turn_and_its_time_out(rt: HostRuntime) {
+    let good = (OutKind::Ok, false);
+    let retry = (OutKind::RetryStopped, false);
+    let error = (OutKind::ErrorStopped, false);
+    let asked = (OutKind::ErrorStopped, true);
+    let failed = (OutKind::Failed, false);
+    let packet = (Some((0, 0)), 3);
+    let restart = (Some((3, 0)), 1);
+    let request = (Some((4, 4)), 1);
+    let nothing = (None, 0);
+    for (state, turn, time_out) in [
+        (OutState::Ok, (packet, good), (error, request)),
+        (OutState::RetryStopped, (restart, good), (retry, restart)),
+        (OutState::ErrorStopped, (request, asked), (error, request)),
+        (OutState::Asked, (nothing, asked), (error, request)),
+        (OutState::Failed, (nothing, failed), (failed, nothing)),
+    ] {
+        let (Ok(mut port), Ok(mut late)) = (Port::new(rt.alloc(), 4), Port::new(rt.alloc(), 4))
+        else {
+            panic!(rt; "no memory");
+        };
+        stop_output(&mut port, state);
+        put(&mut port);
+        assert_eq!(rt;
+            (sent(&port.turn()), output(&port)),
+            turn,
+            "turn in {state:?}"
+        );
+        stop_output(&mut late, state);
+        put(&mut late);
+        late.time_out();
+        assert_eq!(rt;
+            (output(&late), sent(&late.turn())),
+            time_out,
+            "time-out in {state:?}"
+        );
+    }
+}
+
+#[test]
+fn a_turn_without_a_packet_sends_nothing(rt: HostRuntime) {
+    let Ok(mut port) = Port::new(rt.alloc(), 4) else {
+        panic!(rt; "no memory");
+    };
+    assert_eq!(rt; sent(&port.turn()), (None, 0));
+    assert_eq!(rt; output(&port), (OutKind::Ok, false));
 }
 
 /// Data comes between the symbols of a packet.
@@ -173,17 +273,62 @@ fn meet_data(port: &mut Port, bytes: &[u8]) -> Option<Symbol> {
     meet(port, symbol_chars(&end_of_packet(0)).as_slice())
 }
 
-/// Something comes that is no symbol: a packet with the expected ackID and with another, two of which the second has no
-/// room, and one of each of the causes 2, 4, 5 and 31.
-fn meet_any(port: &mut Port, what: u8) -> Option<Symbol> {
-    match what {
-        0 => meet_packet(port, 0),
-        1 => meet_packet(port, 9),
-        2 => {
-            meet_packet(port, 0);
-            meet_packet(port, 1)
+// A packet with the expected ackID, which is 1, and one with another, where priority 0 has room and where it has not.
+#[test]
+fn packets_meet_each_input_state(rt: HostRuntime) {
+    let good = InKind::Ok;
+    let retry = InKind::RetryStopped;
+    let error = InKind::ErrorStopped;
+    let accepted = (good, Some((0, 1, 31)));
+    let retried = (retry, Some((1, 1, 31)));
+    let refused = (error, Some((2, 1, 1)));
+    for (state, expected, room, wanted) in [
+        (good, true, true, accepted),
+        (good, true, false, retried),
+        (good, false, true, refused),
+        (good, false, false, refused),
+        (retry, true, true, (retry, None)),
+        (retry, true, false, (retry, None)),
+        (retry, false, true, (retry, None)),
+        (retry, false, false, (retry, None)),
+        (error, true, true, (error, None)),
+        (error, true, false, (error, None)),
+        (error, false, true, (error, None)),
+        (error, false, false, (error, None)),
+    ] {
+        let Ok(mut port) = Port::new(rt.alloc(), 4) else {
+            panic!(rt; "no memory");
+        };
+        stop_input(&mut port, state);
+        if room {
+            port.in_pop(0);
         }
-        3 => meet(
+        let reply = meet_packet(&mut port, if expected { 1 } else { 9 });
+        assert_eq!(rt;
+            (port.in_kind(), parts(&reply)),
+            wanted,
+            "in {state:?}, expected {expected}, room {room}"
+        );
+        // Where there is room, no other packet is held.
+        if room {
+            assert_eq!(rt; port.in_head(0).is_some(), wanted == accepted);
+        }
+    }
+}
+
+/// Characters that are no symbol and carry no packet.
+#[derive(Clone, Copy, Debug, PartialEq, Eq)]
+enum Damage {
+    Symbol,
+    Packet,
+    Character,
+    ShortPacket,
+}
+
+/// Such characters come.
+fn meet_damage(port: &mut Port, damage: Damage) -> Option<Symbol> {
+    match damage {
+        Damage::Symbol => meet(
             port,
             &[
                 Char::Special(0x1c),
@@ -192,58 +337,35 @@ fn meet_any(port: &mut Port, what: u8) -> Option<Symbol> {
                 Char::Data(0),
             ],
         ),
-        4 => meet_data(port, &[0x00, 0x0f, 0x02, 0x01, 0xde, 0xb2, 0x00, 0x01]),
-        5 => meet(port, &[Char::Invalid]),
-        _ => meet_data(port, &[0x00, 0x0f, 0x02, 0x01]),
+        Damage::Packet => meet_data(port, &[0x00, 0x0f, 0x02, 0x01, 0xde, 0xb2, 0x00, 0x01]),
+        Damage::Character => meet(port, &[Char::Invalid]),
+        Damage::ShortPacket => meet_data(port, &[0x00, 0x0f, 0x02, 0x01]),
     }
 }
 
+// Each cause that characters may have, in each state of the input half.
 #[test]
-fn packets_and_damage_meet_each_input_state(rt: HostRuntime) {
-    let good = InKind::Ok;
-    let retry = InKind::RetryStopped;
-    let error = InKind::ErrorStopped;
-    let none = (0, 0, 99);
-    let table = [
-        [
-            (good, (0, 0, 31)),
-            (error, (2, 0, 1)),
-            (retry, (1, 1, 31)),
-            (error, (2, 0, 2)),
-            (error, (2, 0, 4)),
-            (error, (2, 0, 5)),
-            (error, (2, 0, 31)),
-        ],
-        [
-            (retry, none),
-            (retry, none),
-            (retry, none),
-            (error, (2, 1, 2)),
-            (error, (2, 1, 4)),
-            (error, (2, 1, 5)),
-            (error, (2, 1, 31)),
-        ],
-        [
-            (error, none),
-            (error, none),
-            (error, none),
-            (error, none),
-            (error, none),
-            (error, none),
-            (error, none),
-        ],
-    ];
-    for (state, row) in table.iter().enumerate() {
-        for (what, want) in row.iter().enumerate() {
+fn damage_meets_each_input_state(rt: HostRuntime) {
+    for (damage, cause) in [
+        (Damage::Symbol, 2),
+        (Damage::Packet, 4),
+        (Damage::Character, 5),
+        (Damage::ShortPacket, 31),
+    ] {
+        for (state, reply) in [
+            (InKind::Ok, Some((2, 1, cause))),
+            (InKind::RetryStopped, Some((2, 1, cause))),
+            (InKind::ErrorStopped, None),
+        ] {
             let Ok(mut port) = Port::new(rt.alloc(), 4) else {
                 panic!(rt; "no memory");
             };
-            stop_input(&mut port, state as u8);
-            let reply = meet_any(&mut port, what as u8);
+            stop_input(&mut port, state);
+            let answer = meet_damage(&mut port, damage);
             assert_eq!(rt;
-                (port.in_kind(), parts(&reply)),
-                *want,
-                "state {state}, character {what}"
+                (port.in_kind(), parts(&answer)),
+                (InKind::ErrorStopped, reply),
+                "{damage:?} in {state:?}"
             );
         }
     }
