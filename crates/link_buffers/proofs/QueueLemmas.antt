@@ -2,7 +2,7 @@
 use Rattle.std.proofs.Common.{◌≡◌, ◌≢◌, ℕ, ◌+◌, ◌<◌, ◌≤◌, List, [], ◌∷◌, ◌++◌, length, drop, set, subst, sym, ◌∙◌, ap, inl, inr, refl, All, arith, length-append, length-drop, get_or-set_same, get_or-set_other}
 use Rattle.std.proofs.lemmas.Bool.{cases_eq}
 use Rattle.std.proofs.lemmas.List.{set-get_or, drop_all}
-use Rattle.std.proofs.lemmas.List.Sums.{sum_by-set, get_or-le-sum_by}
+use Rattle.std.proofs.lemmas.List.Sums.{sum_by-cons, sum_by-set, get_or-le-sum_by}
 use Rattle.std.proofs.lemmas.List.Elements.{All-push, All-drop}
 use Rattle.rio_packets.specs.Fields.{prio_of}
 use Rattle.link_buffers.specs.Queues.{list_at, appended, popped, held, Sorted}
@@ -27,6 +27,22 @@ each-set P lists prio packets within put each other few =
           (subst (P prio) (sym (list_at-set_same lists prio packets within)) put)
       | inr different ↦ subst (P other) (sym (list_at-set_other lists prio other packets different)) (each other few)
     ]
+
+-- the packets of four lists
+pub held_four :
+    (lists : List (List (List ℕ))) → length lists ≡ 4
+    → held lists ≡ length (list_at lists 0) + length (list_at lists 1) + length (list_at lists 2) + length (list_at lists 3)
+held_four [] four = cc
+held_four (a ∷ []) four = cc
+held_four (a ∷ b ∷ []) four = cc
+held_four (a ∷ b ∷ c ∷ []) four = cc
+held_four (a ∷ b ∷ c ∷ d ∷ []) four =
+    let first = sum_by-cons length a (b ∷ c ∷ d ∷ []) in
+    let second = sum_by-cons length b (c ∷ d ∷ []) in
+    let third = sum_by-cons length c (d ∷ []) in
+    let fourth = sum_by-cons length d [] in
+    omega arith
+held_four (a ∷ b ∷ c ∷ d ∷ e ∷ more) four = absurd (omega arith)
 
 -- a list is no longer than all lists together
 pub length_list_at-le-held : (lists : List (List (List ℕ))) (prio : ℕ) → prio < length lists → length (list_at lists prio) ≤ held lists

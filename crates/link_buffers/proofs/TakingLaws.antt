@@ -1,5 +1,5 @@
 -- The laws of what priorities take out of the lists, and of what stays.
-use Rattle.std.proofs.Common.{◌≡◌, ℕ, zero, suc, ◌+◌, ◌-◌, ◌<◌, ◌≤◌, lt-ltb, le-ltb, Bool, cond, ◌==◌, List, [], ◌∷◌, ◌++◌, map, length, take, drop, get_or, set, slice_get, Some, None, subst, sym, ◌∙◌, ap, inl, inr, refl, arith, add-zero, append_assoc, length-append, length-drop, length-set, get_or-set_same, get_or-set_other}
+use Rattle.std.proofs.Common.{◌≡◌, ℕ, zero, suc, ◌+◌, ◌-◌, ◌<◌, ◌≤◌, ◌↔◌, lt-ltb, le-ltb, Bool, cond, ◌==◌, List, [], ◌∷◌, ◌++◌, map, length, take, drop, get_or, set, slice_get, Option, Some, None, IsSome, subst, sym, ◌∙◌, ap, inl, inr, refl, arith, add-zero, append_assoc, length-append, length-drop, length-set, get_or-set_same, get_or-set_other}
 use Rattle.std.proofs.Math.ListN.{get_or-eq_default}
 use Rattle.std.proofs.lemmas.Bool.{cases_eq, cases_lt}
 use Rattle.std.proofs.lemmas.Bool.Decides.{eqb_tells}
@@ -10,7 +10,7 @@ use Rattle.circular_buffer.proofs.Places.{slice_get-drop}
 use Rattle.rio_packets.specs.Fields.{prio_of}
 use Rattle.link_buffers.specs.Queues.{list_at, appended, popped, held, Sorted, IsOutStore}
 use Rattle.link_buffers.specs.Taking.{left, leave, count_of, Covers, highest_below, highest}
-use Rattle.link_buffers.proofs.QueueLemmas.{held-popped, Sorted-popped}
+use Rattle.link_buffers.proofs.QueueLemmas.{held_four, length_list_at-le-held, held-popped, Sorted-popped}
 use Rattle.link_buffers.proofs.StoreLemmas.{IsOutStore-popped}
 
 -- a list that is not empty stands at one of the priorities
@@ -301,6 +301,32 @@ highest_below-some (suc n) prio lists is =
           let below = highest_below-some n prio lists (sym (highest_below-passed n (suc n) lists refl none) ∙ is) in
           (omega (arith, below.0), below.1)
     ]
+
+-- one more list has a packet, or one below it
+highest_below-more :
+    (n : ℕ) (lists : List (List (List ℕ))) → (length (list_at lists n) ≤ 0 → IsSome (highest_below n lists)) → IsSome (highest_below (suc n) lists)
+highest_below-more n lists below =
+    elim (cases_lt 0 (length (list_at lists n))) [
+      | inl some ↦ subst IsSome (sym (highest_below-found n (suc n) lists refl some)) refl
+      | inr none ↦ subst IsSome (sym (highest_below-passed n (suc n) lists refl none)) (below none)
+    ]
+
+held-some : (lists : List (List (List ℕ))) → length lists ≡ 4 → 0 < held lists → IsSome (highest lists)
+held-some lists four some =
+    let all = held_four lists four in
+    highest_below-more 3 lists (λ third. highest_below-more 2 lists (λ second. highest_below-more 1 lists (λ first.
+    highest_below-more 0 lists (λ zeroth. absurd (omega arith)))))
+
+some-held : (lists : List (List (List ℕ))) (most : Option ℕ) → length lists ≡ 4 → highest lists ≡ most → IsSome most → 0 < held lists
+some-held lists None four is some = cc
+some-held lists (Some prio) four is some =
+    let has = highest_below-some 4 prio lists is in
+    let most = length_list_at-le-held lists prio (omega (arith, has.0)) in
+    omega (arith, has.1)
+
+-- a packet is held exactly where there is a highest priority that has one
+pub held-highest : (lists : List (List (List ℕ))) → length lists ≡ 4 → (0 < held lists) ↔ IsSome (highest lists)
+held-highest lists four = (held-some lists four, some-held lists (highest lists) four refl)
 
 -- the highest priority that has a packet which stays: there is one at the place that counts the packets that are taken,
 -- and the priority may be added

@@ -1,7 +1,7 @@
 //! The laws of what a list of priorities takes out of a store, for all lists of packets. Each function has an empty
 //! body: its clauses are the laws. With the priorities of the outstanding packets in the order of their ackIDs,
 //! `left` is the outstanding packets, and `leave` is what has still to be sent.
-ghost use Rattle.std.specs.Prelude.{◌≡◌, ℕ, ◌+◌, ◌<◌, List, [], ◌∷◌, ◌++◌, length, map, take, drop, slice_get};
+ghost use Rattle.std.specs.Prelude.{◌≡◌, ℕ, ◌+◌, ◌<◌, ◌↔◌, IsSome, List, [], ◌∷◌, ◌++◌, length, map, take, drop, slice_get};
 ghost use Rattle.rio_packets.specs.Fields.{prio_of};
 ghost use Rattle.link_buffers.specs.Queues.{list_at, appended, popped, held, Sorted, IsOutStore};
 ghost use Rattle.link_buffers.specs.Taking.{left, leave, count_of, highest, Covers};
@@ -51,8 +51,10 @@ pub fn next_is_the_first_that_stays()
 {}
 
 /// The highest priority that has a packet which stays is one of the four, has a packet at the place that counts it,
-/// and may be added.
+/// and may be added. There is one exactly where any packet stays.
 pub fn highest_may_be_next()
+    ensures some { (lists : List (List (List ℕ)))
+        → length lists ≡ 4 → (0 < held lists) ↔ IsSome (highest lists) }
     ensures range { (lists : List (List (List ℕ))) (prio : ℕ)
         → highest lists ≡ Some prio → (prio < 4) × (0 < length (list_at lists prio)) }
     ensures waits { (prios : List ℕ) (prio : ℕ) (lists : List (List (List ℕ)))

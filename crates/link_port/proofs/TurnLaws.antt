@@ -1,7 +1,6 @@
--- What a turn sends, and how many packets four lists have.
-use Rattle.std.proofs.Common.{◌≡◌, ℕ, ◌+◌, List, [], ◌∷◌, length, slice_get, refl, sym, ap, ◌∙◌, arith}
-use Rattle.std.proofs.lemmas.List.Sums.{sum_by-cons}
-use Rattle.link_buffers.specs.Queues.{list_at, held}
+-- What a turn sends.
+use Rattle.std.proofs.Common.{◌≡◌, ℕ, List, slice_get, refl, sym, ap, ◌∙◌}
+use Rattle.link_buffers.specs.Queues.{list_at}
 use Rattle.link_buffers.specs.Taking.{leave, highest}
 use Rattle.link_buffers.proofs.TakingLaws.{slice_get-leave}
 use Rattle.link_model.specs.Output.{Output, Turned, turned, turns}
@@ -29,19 +28,3 @@ pub turn_is :
 turn_is port next sends entry waits =
     sent_by-sending sends (expected_of port.input) (prios_of port.output) port.queued waits
     ∙ ap (λ (t : Turned). sending t.sends (expected_of port.input) (waiting_in port)) entry
-
--- the packets of four lists
-pub held_four :
-    (lists : List (List (List ℕ))) → length lists ≡ 4
-    → held lists ≡ length (list_at lists 0) + length (list_at lists 1) + length (list_at lists 2) + length (list_at lists 3)
-held_four [] four = cc
-held_four (a ∷ []) four = cc
-held_four (a ∷ b ∷ []) four = cc
-held_four (a ∷ b ∷ c ∷ []) four = cc
-held_four (a ∷ b ∷ c ∷ d ∷ []) four =
-    let first = sum_by-cons length a (b ∷ c ∷ d ∷ []) in
-    let second = sum_by-cons length b (c ∷ d ∷ []) in
-    let third = sum_by-cons length c (d ∷ []) in
-    let fourth = sum_by-cons length d [] in
-    omega arith
-held_four (a ∷ b ∷ c ∷ d ∷ e ∷ more) four = absurd (omega arith)

@@ -1,5 +1,8 @@
-use Rattle.link_buffers.proofs.TakingLaws.{highest_below-some, count_of-highest, Covers-highest}
+use Rattle.link_buffers.proofs.TakingLaws.{held-highest, highest_below-some, count_of-highest, Covers-highest}
 use Rattle.link_buffers.proofs.taking.highest_may_be_next.Goals as goal
+
+pub returns-clause-some : goal.returns-clause-some
+returns-clause-some c = held-highest
 
 pub returns-clause-range : goal.returns-clause-range
 returns-clause-range c lists prio = highest_below-some 4 prio lists

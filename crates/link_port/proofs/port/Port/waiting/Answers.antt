@@ -1,9 +1,9 @@
 use Rattle.std.proofs.Common.{length, ap, ◌∙◌, arith}
 use Rattle.link_buffers.specs.Queues.{list_at}
+use Rattle.link_buffers.proofs.QueueLemmas.{held_four}
 use Rattle.link_buffers.proofs.TakingLaws.{held-leave}
 use Rattle.link_port.specs.Windows.{prios_of}
 use Rattle.link_port.specs.Ports.{PortState}
-use Rattle.link_port.proofs.TurnLaws.{held_four}
 use Rattle.link_port.proofs.port.Port.waiting.Goals as goal
 
 pub returns : goal.returns
