@@ -3,3 +3,4 @@ pub mod TurnLaws
 pub mod ActLaws
 pub mod ReplyLaws
 pub mod CarryLaws
+pub mod ArrivalLaws

@@ -1,9 +1,17 @@
 -- What two ports do where one sends in a turn, and each reply comes back.
-use Rattle.std.specs.Prelude.{ℕ, List, [], ◌∷◌, Option, Some, None}
+use Rattle.std.specs.Prelude.{◌≡◌, ℕ, true, slice_get, List, [], ◌∷◌, Option, Some, None}
 use Rattle.std.specs.Option.{option_or}
 use Rattle.rio_chars.specs.declared.chars.Char.{Char}
 use Rattle.rio_symbols.specs.Fields.{Fields}
+use Rattle.rio_packets.specs.Fields.{prio_of}
+use Rattle.rio_packets.specs.LinkForm.{Passes}
+use Rattle.link_buffers.specs.Queues.{list_at, room_for}
+use Rattle.link_buffers.specs.Taking.{highest}
+use Rattle.link_model.specs.Places.{start}
 use Rattle.link_model.specs.ReadingSpelt.{symbol_chars_of}
+use Rattle.link_model.specs.Output.Output.{Sending}
+use Rattle.link_model.specs.Input.Input.{Taking}
+use Rattle.link_model.specs.Window.{from_ack}
 use Rattle.link_port.specs.Ports.{PortState}
 use Rattle.link_port.specs.Steps.{Acted, takes}
 use Rattle.link_port.specs.Turns.{turns_to, turn_sends}
@@ -50,3 +58,19 @@ carried_all both (c ∷ cs) = carried_all (carried (replied both.near (takes bot
 -- a turn of the near port
 abbrev pub carries : PortState → PortState → Carried
 carries near far = carried_all (both_of (turns_to near) far None []) (turn_sends near).chars
+
+-- A near port sends this packet in its turn and a far port takes it: the near one may start packets and has none
+-- outstanding, the packet is the first of the highest priority that has one, and the far one takes packets, expects its
+-- ackID and has room for it. Neither has a symbol or a packet coming in, or skips data. The packet is a link form, as each
+-- packet of a port is.
+pub record IsReady (near far : PortState) (packet : List ℕ) : Type 0 where
+  pub ack : ℕ
+  pub prio : ℕ
+  pub near_place : near.place ≡ start
+  pub far_place : far.place ≡ start
+  pub output : near.output ≡ Sending (from_ack ack)
+  pub first : highest near.queued ≡ Some prio
+  pub waits : slice_get (list_at near.queued prio) 0 ≡ Some packet
+  pub form : Passes packet
+  pub input : far.input ≡ Taking ack
+  pub room : room_for far.received (prio_of packet) ≡ true

@@ -1,6 +1,6 @@
 //! A packet on its way, as an example of the calls of a port.
-ghost use Rattle.std.specs.Prelude.{◌≡◌, None};
-ghost use Rattle.link_port.specs.Carrying.{carries, carried_all, both_of, replied, back, back_all};
+ghost use Rattle.std.specs.Prelude.{◌≡◌, ℕ, List, [], ◌∷◌, Some, None};
+ghost use Rattle.link_port.specs.Carrying.{carries, IsReady, carried_all, both_of, replied, back, back_all};
 
 use crate::port::Port;
 use arrayvec::ArrayVec;
@@ -22,11 +22,16 @@ use rio_symbols::Symbol;
 ///
 /// Returns a copy of the packet that the far port accepted, if it did. `freed` is cleared, and then takes the packets that
 /// the near port lets go on the reply to the last character: none where nothing is sent, or where no reply comes.
+///
+/// The packet that waits first arrives, and stands alone in `freed`, where the near port may start packets and has none
+/// outstanding, the far port takes packets, expects its ackID and has room for it, and nothing else is coming in at either.
 pub fn carry(near: &mut Port, far: &mut Port, freed: &mut ArrayVec<Packet, 31>) -> Option<Packet>
     ensures near { near.new ≡ (carries near.old far.old).near }
     ensures far { far.new ≡ (carries near.old far.old).far }
     ensures held { result ≡ (carries near.old far.old).held }
     ensures freed { freed.new.items ≡ (carries near.old far.old).freed }
+    ensures arrives { (packet : List ℕ) → IsReady near.old far.old packet → result ≡ Some packet }
+    ensures leaves { (packet : List ℕ) → IsReady near.old far.old packet → freed.new.items ≡ packet ∷ [] }
 {
     freed.clear();
     let burst = near.turn();
