@@ -3,7 +3,7 @@ use Rattle.std.proofs.Common.{◌≡◌, ◌≢◌, ℕ, ◌<◌, ◌≤◌, Lis
 use Rattle.std.specs.Io.KnownBytes.{Appends, Consumes, IsAtEnd}
 use Rattle.rio_chars.specs.Faults.{Rose}
 use Rattle.rio_chars.specs.Fronts.{AppendsFront}
-use Rattle.rio_chars.specs.Takings.{ConsumesJust}
+use Rattle.rio_chars.specs.Takings.{ConsumesJust, ConsumesUpTo}
 use Rattle.fabric_model.specs.declared.lines.Numbered.{Numbered}
 use Rattle.fabric_replay.specs.Spelling.{IsScript, RefusedAt}
 use Rattle.fabric_replay.proofs.ReadingLaws.{not_refused}
@@ -33,6 +33,14 @@ took_more bytes left after e took = from after (subst (λ l. Consumes l after to
     from : (after : Option (List ℕ)) → Consumes (Some bytes) after took.taken → 4194305 ≤ length bytes
     from None told = absurd told
     from (Some rest) told = let just = took.just in omega (arith, ap length told, length-append took.taken rest)
+
+-- where nothing was read
+pub took_none : (left : Option (List ℕ)) → ConsumesUpTo left left 4194305
+took_none left = record { taken = []; told = from left; within = omega arith }
+  where
+    from : (left : Option (List ℕ)) → Consumes left left []
+    from None = tt
+    from (Some bytes) = refl
 
 module _ (command : Command) (l l2 : Option (List ℕ)) (r r' : ℕ) (w : Option (List ℕ)) (f : ℕ) (w' : Option (List ℕ)) (f2 : ℕ) where
   pub says_at : (answer status : Status) → SaysOfInput command answer l l2 r r' w f w' f2 → answer ≡ status → SaysOfInput command status l l2 r r' w f w' f2

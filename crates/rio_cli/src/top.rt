@@ -4,7 +4,7 @@ ghost use Rattle.std.specs.String.{string_bytes};
 ghost use Rattle.std.specs.Io.KnownBytes.{Appends, Keeps};
 ghost use Rattle.rio_chars.specs.Faults.{Rose};
 ghost use Rattle.rio_chars.specs.Fronts.{AppendsFront};
-ghost use Rattle.rio_chars.specs.Takings.{ConsumesJust};
+ghost use Rattle.rio_chars.specs.Takings.{ConsumesJust, ConsumesUpTo};
 ghost use Rattle.fabric_model.specs.declared.lines.Numbered.{Numbered};
 ghost use Rattle.fabric_replay.specs.Spelling.{IsScript, RefusedAt};
 ghost use Rattle.rio_chars.specs.declared.chars.Char.{Char};
@@ -51,6 +51,9 @@ pub fn rio<S: Source, K: Sink>(
         ⊎ (IsDecode (map string_bytes words.now) × OfInput (S.left source.old) (S.left source.new) (λ bytes. RefusesWord bytes (K.written sink.old) (K.written sink.new))) }
     ensures too_long { result ≡ Status.TooLong → (IsReplay (map string_bytes words.now) ⊎ IsDecode (map string_bytes words.now)) × ConsumesJust (S.left source.old) (S.left source.new) 4194305 × Appends (K.written sink.old) (K.written sink.new) refused_length }
 
+    // However it ends, one byte more than an input may have is the most that is read.
+    ensures bounded { ConsumesUpTo (S.left source.old) (S.left source.new) 4194305 }
+
     // Faults are told only where they rose, and what was written then is a front of what would have been.
     ensures read_fault { result ≡ Status.ReadFault → Rose (S.faults source.old) (S.faults source.new) × Keeps (K.written sink.old) (K.written sink.new) }
     ensures write_fault { result ≡ Status.WriteFault → Rose (K.faults sink.old) (K.faults sink.new)
@@ -88,6 +91,7 @@ fn run_input<S: Source, K: Sink>(
     sink: &mut K,
 ) -> Status
     ensures says { SaysOfInput command result (S.left source.old) (S.left source.new) (S.faults source.old) (S.faults source.new) (K.written sink.old) (K.faults sink.old) (K.written sink.new) (K.faults sink.new) }
+    ensures bounded { ConsumesUpTo (S.left source.old) (S.left source.new) 4194305 }
     ensures source { S.faults source.old ≤ S.faults source.new }
     ensures sink { K.faults sink.old ≤ K.faults sink.new }
 {

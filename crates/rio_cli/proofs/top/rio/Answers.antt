@@ -5,7 +5,7 @@ use Rattle.rio_cli.specs.declared.command.Command.TheVariants.{Replay, Decode}
 use Rattle.rio_cli.specs.declared.status.Status.TheVariants.{Done, Words, Script, ReadFault, WriteFault, NoMemory, Undetected, TooLong, Locked}
 use Rattle.rio_cli.specs.Outputs.{Completes, Declines, Breaks, OfInput}
 use Rattle.rio_cli.specs.Answers.{SaysOfInput}
-use Rattle.rio_cli.proofs.AnswerLaws.{says_at, accepts, refuses, lengthy, no_other, refusal_told, refusal_failed, refusal_either, script_stays, refused_stays, chars_stay, bad_word_stays, asked, by_command, same_command, broken}
+use Rattle.rio_cli.proofs.AnswerLaws.{says_at, accepts, refuses, lengthy, no_other, refusal_told, refusal_failed, refusal_either, script_stays, refused_stays, chars_stay, bad_word_stays, took_none, asked, by_command, same_command, broken}
 use Rattle.rio_cli.proofs.top.rio.Goals as goal
 
 pub returns-in-Some : goal.returns-in-Some
@@ -29,6 +29,7 @@ returns-in-Some g c =
       done = λ e. by_command Complete command words known (says_at command _ _ _ _ _ _ _ _ answer Done h e);
       script = λ e. by_command Decline command words known (says_at command _ _ _ _ _ _ _ _ answer Script h e);
       too_long = λ e. let t = says_at command _ _ _ _ _ _ _ _ answer TooLong h e in (asked command words known, t.0, t.1);
+      bounded = c.run_input.ensures.bounded;
       read_fault = λ e. says_at command _ _ _ _ _ _ _ _ answer ReadFault h e;
       write_fault = λ e. let t = says_at command _ _ _ _ _ _ _ _ answer WriteFault h e in (t.0, inr (broken Break command words known t.1));
       no_memory = λ e. says_at command _ _ _ _ _ _ _ _ answer NoMemory h e;
@@ -51,6 +52,7 @@ returns-in-None g c =
       done = λ e. absurd (no_other _ _ _ _ _ _ _ Done (λ t. cc) (λ t. cc) h e);
       script = λ e. absurd (no_other _ _ _ _ _ _ _ Script (λ t. cc) (λ t. cc) h e);
       too_long = λ e. absurd (no_other _ _ _ _ _ _ _ TooLong (λ t. cc) (λ t. cc) h e);
+      bounded = took_none (g.S.Source.left c.args.source.now);
       read_fault = λ e. absurd (no_other _ _ _ _ _ _ _ ReadFault (λ t. cc) (λ t. cc) h e);
       write_fault = λ e. let t = refusal_failed _ _ _ _ _ _ _ (λ t. cc) h e in (t.0, inl (unknown, t.1));
       no_memory = λ e. absurd (no_other _ _ _ _ _ _ _ NoMemory (λ t. cc) (λ t. cc) h e);
