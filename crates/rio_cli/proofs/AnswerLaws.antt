@@ -1,5 +1,5 @@
 -- What the answers of a call say, status by status.
-use Rattle.std.proofs.Common.{◌≡◌, ◌≢◌, ℕ, ◌<◌, ◌≤◌, List, [], ◌++◌, length, length-append, Option, Some, None, refl, sym, ap, ◌∙◌, subst, arith, append-nil, ◌⊎◌, inl, inr, Bool, Decides, get_or, map, ◌∷◌}
+use Rattle.std.proofs.Common.{◌≡◌, ◌≢◌, ℕ, ◌+◌, ◌<◌, ◌≤◌, List, [], ◌++◌, length, length-append, Option, Some, None, refl, sym, ap, ◌∙◌, subst, arith, append-nil, ◌⊎◌, inl, inr, Bool, Decides, get_or, map, ◌∷◌}
 use Rattle.std.specs.Io.KnownBytes.{Appends, Consumes, IsAtEnd}
 use Rattle.rio_chars.specs.Faults.{Rose}
 use Rattle.rio_chars.specs.Fronts.{AppendsFront}
@@ -15,6 +15,7 @@ use Rattle.rio_cli.specs.Decoding.{SpellsChars, BadWordAt, Decodes}
 use Rattle.rio_cli.proofs.WordLaws.{no_bad_word}
 use Rattle.rio_cli.specs.declared.status.Status.{Status}
 use Rattle.rio_cli.specs.declared.status.Status.TheVariants.{Done, Words, Script, ReadFault, WriteFault, NoMemory, Undetected, TooLong, Locked}
+use Rattle.rio_cli.specs.Inputs.{most_input}
 use Rattle.rio_cli.specs.Outputs.{Traces, Refuses, RefusesWord, Completes, Declines, Gave}
 use Rattle.rio_cli.specs.Answers.{Answers, SaysOfInput}
 
@@ -27,15 +28,15 @@ gave_all bytes given left after e gave = from after (subst (λ l. Consumes l aft
     from (Some rest) told end = sym (told ∙ ap (λ xs. given ++ xs) end ∙ append-nil given)
 
 -- more bytes than the limit were there
-took_more : (bytes : List ℕ) (left after : Option (List ℕ)) → left ≡ Some bytes → ConsumesJust left after 4194305 → 4194305 ≤ length bytes
+took_more : (bytes : List ℕ) (left after : Option (List ℕ)) → left ≡ Some bytes → ConsumesJust left after (most_input + 1) → most_input < length bytes
 took_more bytes left after e took = from after (subst (λ l. Consumes l after took.taken) e took.told)
   where
-    from : (after : Option (List ℕ)) → Consumes (Some bytes) after took.taken → 4194305 ≤ length bytes
+    from : (after : Option (List ℕ)) → Consumes (Some bytes) after took.taken → most_input < length bytes
     from None told = absurd told
     from (Some rest) told = let just = took.just in omega (arith, ap length told, length-append took.taken rest)
 
 -- where nothing was read
-pub took_none : (left : Option (List ℕ)) → ConsumesUpTo left left 4194305
+pub took_none : (left : Option (List ℕ)) → ConsumesUpTo left left (most_input + 1)
 took_none left = record { taken = []; told = from left; within = omega arith }
   where
     from : (left : Option (List ℕ)) → Consumes left left []
@@ -47,7 +48,7 @@ module _ (command : Command) (l l2 : Option (List ℕ)) (r r' : ℕ) (w : Option
   says_at answer status h e = subst (λ s. SaysOfInput command s l l2 r r' w f w' f2) e h
 
   -- an input that is not to be refused
-  pub accepts : (answer : Status) → SaysOfInput command answer l l2 r r' w f w' f2 → (bytes : List ℕ) → l ≡ Some bytes → length bytes ≤ 4194304 → (Declines command bytes w w' → ⊥)
+  pub accepts : (answer : Status) → SaysOfInput command answer l l2 r r' w f w' f2 → (bytes : List ℕ) → l ≡ Some bytes → length bytes ≤ most_input → (Declines command bytes w w' → ⊥)
       → ¬ Rose r r' → ¬ Rose f f2 → (answer ≡ Done) ⊎ (answer ≡ NoMemory)
   accepts Done h bytes e fits never calm calm2 = inl refl
   accepts Words h bytes e fits never calm calm2 = absurd h
@@ -60,7 +61,7 @@ module _ (command : Command) (l l2 : Option (List ℕ)) (r r' : ℕ) (w : Option
   accepts Locked h bytes e fits never calm calm2 = absurd h
 
   -- an input that is not to be carried out
-  pub refuses : (answer : Status) → SaysOfInput command answer l l2 r r' w f w' f2 → (bytes : List ℕ) → l ≡ Some bytes → length bytes ≤ 4194304 → (Completes command bytes w w' → ⊥)
+  pub refuses : (answer : Status) → SaysOfInput command answer l l2 r r' w f w' f2 → (bytes : List ℕ) → l ≡ Some bytes → length bytes ≤ most_input → (Completes command bytes w w' → ⊥)
       → ¬ Rose r r' → ¬ Rose f f2 → (answer ≡ Script) ⊎ (answer ≡ NoMemory)
   refuses Done h bytes e fits never calm calm2 = absurd (never (subst (λ b. Completes command b w w') (gave_all bytes h.bytes l l2 e h.gave) h.holds))
   refuses Words h bytes e fits never calm calm2 = absurd h
@@ -72,10 +73,10 @@ module _ (command : Command) (l l2 : Option (List ℕ)) (r r' : ℕ) (w : Option
   refuses TooLong h bytes e fits never calm calm2 = let more = took_more bytes l l2 e h.0 in absurd (omega arith)
   refuses Locked h bytes e fits never calm calm2 = absurd h
 
-  is_too_long : (bytes given : List ℕ) → l ≡ Some bytes → 4194304 < length bytes → Gave l l2 given → ⊥
+  is_too_long : (bytes given : List ℕ) → l ≡ Some bytes → most_input < length bytes → Gave l l2 given → ⊥
   is_too_long bytes given e long gave = let within = gave.within in let same = ap length (gave_all bytes given l l2 e gave) in omega arith
 
-  pub lengthy : (answer : Status) → SaysOfInput command answer l l2 r r' w f w' f2 → (bytes : List ℕ) → l ≡ Some bytes → 4194304 < length bytes
+  pub lengthy : (answer : Status) → SaysOfInput command answer l l2 r r' w f w' f2 → (bytes : List ℕ) → l ≡ Some bytes → most_input < length bytes
       → ¬ Rose r r' → ¬ Rose f f2 → (answer ≡ TooLong) ⊎ (answer ≡ NoMemory)
   lengthy Done h bytes e long calm calm2 = absurd (is_too_long bytes h.bytes e long h.gave)
   lengthy Words h bytes e long calm calm2 = absurd h

@@ -1,4 +1,5 @@
 pub mod Words
+pub mod Inputs
 pub mod Outputs
 pub mod Statuses
 pub mod Answers

@@ -7,6 +7,7 @@ use Rattle.fabric_model.specs.declared.lines.Numbered.{Numbered}
 use Rattle.fabric_replay.specs.Spelling.{IsScript, RefusedAt}
 use Rattle.fabric_replay.specs.Replaying.{Replayed, ReplayedFront}
 use Rattle.rio_cli.specs.Decoding.{BadWordAt, Decodes, DecodesFront}
+use Rattle.rio_cli.specs.Inputs.{most_input}
 use Rattle.rio_cli.specs.declared.command.Command.{Command}
 use Rattle.rio_cli.specs.declared.command.Command.TheVariants.{Replay, Decode}
 
@@ -88,7 +89,7 @@ Breaks Decode = DecodesOrRefusesFront
 pub record Gave (left left_after : Option (List ℕ)) (bytes : List ℕ) : Type 0 where
   pub told : Consumes left left_after bytes
   pub end : IsAtEnd left_after
-  pub within : length bytes ≤ 4194304
+  pub within : length bytes ≤ most_input
 
 -- the source was read to its end, and of the bytes that it gave this holds
 pub record OfInput (left left_after : Option (List ℕ)) (Holds : List ℕ → Type 0) : Type 0 where

@@ -14,7 +14,8 @@ pub enum Command {
 
 /// What the words ask for, where the program knows them.
 pub(crate) fn command_of(words: &[String]) -> Option<Command>
-    ensures { MatchOption result (IsNeither (map string_bytes words.now)) (λ command. Asks command (map string_bytes words.now)) }
+    ensures { MatchOption result (IsNeither (map string_bytes words.now))
+        (λ command. Asks command (map string_bytes words.now)) }
 {
     if is_one(words, "replay") {
         Some(Command::Replay)

@@ -4,6 +4,7 @@ ghost use Rattle.std.specs.Io.KnownBytes.{Appends, Keeps};
 ghost use Rattle.rio_chars.specs.Faults.{Rose};
 ghost use Rattle.rio_chars.specs.Fronts.{AppendsFront};
 ghost use Rattle.link_model.specs.Places.{start, run, place_after, at_rest};
+ghost use Rattle.rio_cli.specs.Inputs.{most_input};
 ghost use Rattle.rio_cli.specs.Decoding.{decode_text};
 
 use crate::lines::{put_end, put_events};
@@ -27,11 +28,15 @@ pub(crate) fn decode_chars<K: Sink>(
     chars: &[Char],
     sink: &mut K,
 ) -> Result<(), DecodeEnd>
-    requires { length chars.now ≤ 4194304 }
-    ensures done { OnOk result (Appends (K.written sink.old) (K.written sink.new) (decode_text (run start 0 chars.now) (at_rest (place_after start chars.now)))) }
-    ensures write_fault { IsErrOf result DecodeEnd.WriteFault → Rose (K.faults sink.old) (K.faults sink.new)
-        × AppendsFront (K.written sink.old) (K.written sink.new) (decode_text (run start 0 chars.now) (at_rest (place_after start chars.now))) }
-    ensures no_memory { IsErrOf result DecodeEnd.NoMemory → Keeps (K.written sink.old) (K.written sink.new) }
+    requires { length chars.now ≤ most_input }
+    ensures done { OnOk result (Appends (K.written sink.old) (K.written sink.new)
+        (decode_text (run start 0 chars.now) (at_rest (place_after start chars.now)))) }
+    ensures write_fault { IsErrOf result DecodeEnd.WriteFault
+        → Rose (K.faults sink.old) (K.faults sink.new)
+        × AppendsFront (K.written sink.old) (K.written sink.new)
+        (decode_text (run start 0 chars.now) (at_rest (place_after start chars.now))) }
+    ensures no_memory { IsErrOf result DecodeEnd.NoMemory
+        → Keeps (K.written sink.old) (K.written sink.new) }
     ensures never_falls { K.faults sink.old ≤ K.faults sink.new }
 {
     let Ok(mut outbox) = Outbox::new(alloc) else {

@@ -16,7 +16,9 @@ use rio_symbols::Symbol;
 
 /// Tells the lines of the events that the character at this place completes.
 pub(crate) fn put_events<K: Sink>(outbox: &mut Outbox, sink: &mut K, place: u32, events: Events)
-    ensures { Puts (K.written sink.old) (K.faults sink.old) outbox.old (K.written sink.new) (K.faults sink.new) outbox.new (flat_map event_text (placed place (listed events.first events.second))) }
+    ensures { Puts (K.written sink.old) (K.faults sink.old) outbox.old
+        (K.written sink.new) (K.faults sink.new) outbox.new
+        (flat_map event_text (placed place (listed events.first events.second))) }
 {
     let Events { first, second } = events;
     put_first(outbox, sink, place, first);
@@ -24,7 +26,9 @@ pub(crate) fn put_events<K: Sink>(outbox: &mut Outbox, sink: &mut K, place: u32,
 }
 
 fn put_first<K: Sink>(outbox: &mut Outbox, sink: &mut K, place: u32, first: Option<Event>)
-    ensures { Puts (K.written sink.old) (K.faults sink.old) outbox.old (K.written sink.new) (K.faults sink.new) outbox.new (flat_map event_text (placed place (listed first None))) }
+    ensures { Puts (K.written sink.old) (K.faults sink.old) outbox.old
+        (K.written sink.new) (K.faults sink.new) outbox.new
+        (flat_map event_text (placed place (listed first None))) }
 {
     if let Some(event) = first {
         put_event(outbox, sink, place, &event);
@@ -32,7 +36,9 @@ fn put_first<K: Sink>(outbox: &mut Outbox, sink: &mut K, place: u32, first: Opti
 }
 
 fn put_second<K: Sink>(outbox: &mut Outbox, sink: &mut K, place: u32, second: Option<Symbol>)
-    ensures { Puts (K.written sink.old) (K.faults sink.old) outbox.old (K.written sink.new) (K.faults sink.new) outbox.new (flat_map event_text (placed place (listed None second))) }
+    ensures { Puts (K.written sink.old) (K.faults sink.old) outbox.old
+        (K.written sink.new) (K.faults sink.new) outbox.new
+        (flat_map event_text (placed place (listed None second))) }
 {
     if let Some(symbol) = second {
         put_event(outbox, sink, place, &Event::Ctl(symbol));
@@ -40,14 +46,16 @@ fn put_second<K: Sink>(outbox: &mut Outbox, sink: &mut K, place: u32, second: Op
 }
 
 fn put_event<K: Sink>(outbox: &mut Outbox, sink: &mut K, place: u32, event: &Event)
-    ensures { Puts (K.written sink.old) (K.faults sink.old) outbox.old (K.written sink.new) (K.faults sink.new) outbox.new (event_text (place, event.now)) }
+    ensures { Puts (K.written sink.old) (K.faults sink.old) outbox.old
+        (K.written sink.new) (K.faults sink.new) outbox.new (event_text (place, event.now)) }
 {
     put_decimal(outbox, sink, place);
     put_told(outbox, sink, event);
 }
 
 fn put_told<K: Sink>(outbox: &mut Outbox, sink: &mut K, event: &Event)
-    ensures { Puts (K.written sink.old) (K.faults sink.old) outbox.old (K.written sink.new) (K.faults sink.new) outbox.new (told_text event.now) }
+    ensures { Puts (K.written sink.old) (K.faults sink.old) outbox.old
+        (K.written sink.new) (K.faults sink.new) outbox.new (told_text event.now) }
 {
     match event {
         Event::Ctl(symbol) => put_symbol(outbox, sink, symbol),
@@ -57,7 +65,8 @@ fn put_told<K: Sink>(outbox: &mut Outbox, sink: &mut K, event: &Event)
 }
 
 fn put_symbol<K: Sink>(outbox: &mut Outbox, sink: &mut K, symbol: &Symbol)
-    ensures { Puts (K.written sink.old) (K.faults sink.old) outbox.old (K.written sink.new) (K.faults sink.new) outbox.new (symbol_text symbol.now) }
+    ensures { Puts (K.written sink.old) (K.faults sink.old) outbox.old
+        (K.written sink.new) (K.faults sink.new) outbox.new (symbol_text symbol.now) }
 {
     put(outbox, sink, b" symbol");
     put_number(outbox, sink, symbol.s0);
@@ -69,7 +78,8 @@ fn put_symbol<K: Sink>(outbox: &mut Outbox, sink: &mut K, symbol: &Symbol)
 }
 
 fn put_packet<K: Sink>(outbox: &mut Outbox, sink: &mut K, ack: u8, packet: &Packet)
-    ensures { Puts (K.written sink.old) (K.faults sink.old) outbox.old (K.written sink.new) (K.faults sink.new) outbox.new (packet_text ack packet.now) }
+    ensures { Puts (K.written sink.old) (K.faults sink.old) outbox.old
+        (K.written sink.new) (K.faults sink.new) outbox.new (packet_text ack packet.now) }
 {
     put(outbox, sink, b" packet");
     put_number(outbox, sink, ack);
@@ -79,7 +89,8 @@ fn put_packet<K: Sink>(outbox: &mut Outbox, sink: &mut K, ack: u8, packet: &Pack
 }
 
 fn put_bad<K: Sink>(outbox: &mut Outbox, sink: &mut K, cause: Cause)
-    ensures { Puts (K.written sink.old) (K.faults sink.old) outbox.old (K.written sink.new) (K.faults sink.new) outbox.new (bad_text cause) }
+    ensures { Puts (K.written sink.old) (K.faults sink.old) outbox.old
+        (K.written sink.new) (K.faults sink.new) outbox.new (bad_text cause) }
 {
     put(outbox, sink, b" bad");
     put_number(outbox, sink, cause_number(cause));
@@ -88,7 +99,8 @@ fn put_bad<K: Sink>(outbox: &mut Outbox, sink: &mut K, cause: Cause)
 
 /// Tells the last line, by whether neither a symbol nor a packet is in progress.
 pub(crate) fn put_end<K: Sink>(outbox: &mut Outbox, sink: &mut K, at_rest: bool)
-    ensures { Puts (K.written sink.old) (K.faults sink.old) outbox.old (K.written sink.new) (K.faults sink.new) outbox.new (end_text at_rest) }
+    ensures { Puts (K.written sink.old) (K.faults sink.old) outbox.old
+        (K.written sink.new) (K.faults sink.new) outbox.new (end_text at_rest) }
 {
     if at_rest {
         put(outbox, sink, b"end\n");
@@ -99,26 +111,30 @@ pub(crate) fn put_end<K: Sink>(outbox: &mut Outbox, sink: &mut K, at_rest: bool)
 
 // Tells a number behind a space.
 fn put_number<K: Sink>(outbox: &mut Outbox, sink: &mut K, number: u8)
-    ensures { Puts (K.written sink.old) (K.faults sink.old) outbox.old (K.written sink.new) (K.faults sink.new) outbox.new (spaced number) }
+    ensures { Puts (K.written sink.old) (K.faults sink.old) outbox.old
+        (K.written sink.new) (K.faults sink.new) outbox.new (spaced number) }
 {
     put(outbox, sink, b" ");
     put_decimal(outbox, sink, u32::from(number));
 }
 
 fn put<K: Sink>(outbox: &mut Outbox, sink: &mut K, text: &[u8])
-    ensures { Puts (K.written sink.old) (K.faults sink.old) outbox.old (K.written sink.new) (K.faults sink.new) outbox.new text.now }
+    ensures { Puts (K.written sink.old) (K.faults sink.old) outbox.old
+        (K.written sink.new) (K.faults sink.new) outbox.new text.now }
 {
     outbox.put(sink, text);
 }
 
 fn put_hex<K: Sink>(outbox: &mut Outbox, sink: &mut K, bytes: &[u8])
-    ensures { Puts (K.written sink.old) (K.faults sink.old) outbox.old (K.written sink.new) (K.faults sink.new) outbox.new (hex_of bytes.now) }
+    ensures { Puts (K.written sink.old) (K.faults sink.old) outbox.old
+        (K.written sink.new) (K.faults sink.new) outbox.new (hex_of bytes.now) }
 {
     outbox.put_hex(sink, bytes);
 }
 
 fn put_decimal<K: Sink>(outbox: &mut Outbox, sink: &mut K, number: u32)
-    ensures { Puts (K.written sink.old) (K.faults sink.old) outbox.old (K.written sink.new) (K.faults sink.new) outbox.new (decimal number) }
+    ensures { Puts (K.written sink.old) (K.faults sink.old) outbox.old
+        (K.written sink.new) (K.faults sink.new) outbox.new (decimal number) }
 {
     outbox.put_decimal(sink, number);
 }

@@ -2,6 +2,7 @@
 ghost use Rattle.std.specs.Prelude.{◌≡◌, ◌≤◌, ◌++◌, ℕ, List, length, IfOk, IsErrOf, IsTrue, IsFalse};
 ghost use Rattle.rio_chars.specs.declared.chars.Char.{Char};
 ghost use Rattle.rio_cli.specs.Decoding.{word_in, words_in, AreTexts, AreSpelled, SpellsChars, BadWordAt};
+ghost use Rattle.rio_cli.specs.Inputs.{most_input};
 ghost use Rattle.rio_cli.specs.declared.words.CharsEnd.TheVariants.{NoMemory};
 
 use rio_chars::{Char, read_char};
@@ -26,9 +27,9 @@ impl From<AllocError> for CharsEnd {
 
 /// The characters that the words of the bytes are, or the first line with a word that is none.
 pub(crate) fn read_chars(alloc: Global, bytes: &[u8]) -> Result<Vec<Char>, CharsEnd>
-    requires { length bytes.now ≤ 4194304 }
+    requires { length bytes.now ≤ most_input }
     ensures chars { IfOk result (λ chars. SpellsChars bytes.now chars.items) }
-    ensures count { IfOk result (λ chars. length chars.items ≤ 4194304) }
+    ensures count { IfOk result (λ chars. length chars.items ≤ most_input) }
     ensures bad { (line : ℕ) → IsErrOf result (CharsEnd.BadWord line) → BadWordAt bytes.now line }
 {
     let mut chars = Vec::new(alloc);
@@ -44,7 +45,8 @@ pub(crate) fn read_chars(alloc: Global, bytes: &[u8]) -> Result<Vec<Char>, Chars
 
 // Appends the characters of a line, and answers whether each of its words is one.
 fn read_line(text: &[u8], chars: &mut Vec<Char>) -> Result<bool, AllocError>
-    ensures good { IfOk result (λ good. IsTrue good → (more : List Char) × (chars.new.items ≡ chars.old.items ++ more) × AreTexts (words_in text.now) more) }
+    ensures good { IfOk result (λ good. IsTrue good → (more : List Char)
+        × (chars.new.items ≡ chars.old.items ++ more) × AreTexts (words_in text.now) more) }
     ensures bad { IfOk result (λ good. IsFalse good → ¬ AreSpelled (words_in text.now)) }
 {
     for word in text.split(|byte| *byte == b' ') {
@@ -57,7 +59,8 @@ fn read_line(text: &[u8], chars: &mut Vec<Char>) -> Result<bool, AllocError>
 
 // Appends the character of a word, and answers whether it is one. Between two spaces there may be no word.
 fn read_word(word: &[u8], chars: &mut Vec<Char>) -> Result<bool, AllocError>
-    ensures good { IfOk result (λ good. IsTrue good → (more : List Char) × (chars.new.items ≡ chars.old.items ++ more) × AreTexts (word_in word.now) more) }
+    ensures good { IfOk result (λ good. IsTrue good → (more : List Char)
+        × (chars.new.items ≡ chars.old.items ++ more) × AreTexts (word_in word.now) more) }
     ensures bad { IfOk result (λ good. IsFalse good → ¬ AreSpelled (word_in word.now)) }
 {
     if word.is_empty() {

@@ -35,11 +35,11 @@ returns-in-Some g c =
       no_memory = λ e. says_at command _ _ _ _ _ _ _ _ answer NoMemory h e;
       never = ((λ e. says_at command _ _ _ _ _ _ _ _ answer Undetected h e), (λ e. says_at command _ _ _ _ _ _ _ _ answer Locked h e));
       never_falls = (c.run_input.ensures.source, c.run_input.ensures.sink);
-      accepted = λ bytes names lines is e fits spelled. accepts Replay _ _ _ _ _ _ _ _ answer (subst As (same_command command Replay words known is) h) bytes e fits (script_stays bytes names lines w w' spelled);
-      refused = λ bytes line reason is e fits spelled. refuses Replay _ _ _ _ _ _ _ _ answer (subst As (same_command command Replay words known is) h) bytes e fits (refused_stays bytes line reason w w' spelled);
-      decoded = λ bytes chars is e fits spelled. accepts Decode _ _ _ _ _ _ _ _ answer (subst As (same_command command Decode words known is) h) bytes e fits (chars_stay bytes chars w w' spelled);
-      bad_word = λ bytes line is e fits bad. refuses Decode _ _ _ _ _ _ _ _ answer (subst As (same_command command Decode words known is) h) bytes e fits (bad_word_stays bytes line w w' bad);
-      longer = λ bytes known2. lengthy command _ _ _ _ _ _ _ _ answer h bytes;
+      accepted = λ bytes names lines is has spelled calm. accepts Replay _ _ _ _ _ _ _ _ answer (subst As (same_command command Replay words known is) h) bytes has.told has.within (script_stays bytes names lines w w' spelled) calm.reads calm.writes;
+      refused = λ bytes line reason is has spelled calm. refuses Replay _ _ _ _ _ _ _ _ answer (subst As (same_command command Replay words known is) h) bytes has.told has.within (refused_stays bytes line reason w w' spelled) calm.reads calm.writes;
+      decoded = λ bytes chars is has spelled calm. accepts Decode _ _ _ _ _ _ _ _ answer (subst As (same_command command Decode words known is) h) bytes has.told has.within (chars_stay bytes chars w w' spelled) calm.reads calm.writes;
+      bad_word = λ bytes line is has bad calm. refuses Decode _ _ _ _ _ _ _ _ answer (subst As (same_command command Decode words known is) h) bytes has.told has.within (bad_word_stays bytes line w w' bad) calm.reads calm.writes;
+      longer = λ bytes known2 e long calm. lengthy command _ _ _ _ _ _ _ _ answer h bytes e long calm.reads calm.writes;
     }
 
 pub returns-in-None : goal.returns-in-None
