@@ -14,6 +14,7 @@ const SETUP: &[u8] = b"endpoint A 1\nendpoint B 2\nlink A.0 B.0\n";
 const SCRIPT: &[u8] =
     b"endpoint A 1\nendpoint B 2\nlink A.0 B.0\nsend A 0 15 2 cafe0001\nsettle A.0\ncollect B\n";
 
+/// The events of the script, and what they tell.
 const EVENTS: &[u8] = b"send A 0 15 2 cafe0001\nsettle A.0\ncollect B\n";
 
 const EVENTS_TRACE: &[u8] =
@@ -58,7 +59,7 @@ fn packets(alloc: Global, count: u32) -> Result<Work, Fail> {
     })
 }
 
-/// A packet is read, and then so many statuses.
+/// A packet is read, and then so many statuses, and data outside a packet.
 fn symbols(alloc: Global, count: u32) -> Result<Work, Fail>
     requires { count ≤ 10000 }
 {
@@ -70,7 +71,10 @@ fn symbols(alloc: Global, count: u32) -> Result<Work, Fail>
         input.extend_from_slice(STATUS)?;
         wanted.extend_from_slice(line.as_bytes())?;
     }
-    wanted.extend_from_slice(b"end\n")?;
+    let place = 20 + 4 * count;
+    let last = format!(in alloc; "{place} bad 5\nend\n")?;
+    input.extend_from_slice(b"d00\n")?;
+    wanted.extend_from_slice(last.as_bytes())?;
     Ok(Work {
         word: "decode",
         input,
@@ -183,7 +187,7 @@ fn a_parsed_script_is_replayed(rt: HostRuntime) -> Result<(), Fail> {
 
 #[test]
 fn each_failing_read_is_told_and_nothing_written(rt: HostRuntime) -> Result<(), Fail> {
-    // Eight reads of 64 bytes take in 479 bytes, and nine 560, and one more finds the end.
+    // Eight reads of 64 bytes take in 479 bytes, and nine 564, and one more finds the end.
     assert_eq!(rt;
         failing_reads(&rt, rt.alloc(), &packets(rt.alloc(), 10)?, 64)?,
         9
@@ -197,7 +201,7 @@ fn each_failing_read_is_told_and_nothing_written(rt: HostRuntime) -> Result<(), 
 
 #[test]
 fn each_failing_write_is_told_after_a_front(rt: HostRuntime) -> Result<(), Fail> {
-    // 1,834 bytes are written, and 735.
+    // 1,834 bytes are written, and 745.
     assert_eq!(rt;
         failing_writes(&rt, rt.alloc(), &packets(rt.alloc(), 10)?, 64)?,
         29
@@ -206,7 +210,7 @@ fn each_failing_write_is_told_after_a_front(rt: HostRuntime) -> Result<(), Fail>
         failing_writes(&rt, rt.alloc(), &symbols(rt.alloc(), 30)?, 64)?,
         12
     );
-    // 73,204 bytes are more than wait at once, so that the first 16 writes come before the last event.
+    // More than 65,536 bytes do not wait for the end: the first 16 writes come before the last event.
     assert_eq!(rt;
         failing_writes(&rt, rt.alloc(), &packets(rt.alloc(), 400)?, 4096)?,
         18
