@@ -1,9 +1,9 @@
 -- The two bytes of a CRC, and the register behind them.
 use Rattle.std.proofs.Common.{◌≡◌, ℕ, ◌+◌, ◌*◌, ◌/◌, ◌%◌, ◌^◌, ◌<◌, ◌≤◌, List, [], ◌∷◌, ◌++◌, length, refl, sym, ap, ◌∙◌, arith, lit<}
-use Rattle.rio_packets.specs.Bits.{bits}
+use Rattle.crc_division.specs.Bits.{bits}
 use Rattle.rio_packets.specs.Register.{running}
 use Rattle.rio_packets.specs.LinkForm.{AreBytes, IsCrc}
-use Rattle.rio_packets.proofs.BitsLaws.{bits_cat, same_by_bits}
+use Rattle.crc_division.proofs.BitsLaws.{bits_cat, same_by_bits}
 use Rattle.rio_packets.proofs.Shifts.{fed_all-append}
 use Rattle.rio_packets.proofs.RegisterLaws.{crc16_of-running, fed_all-lt, zero_after_two}
 

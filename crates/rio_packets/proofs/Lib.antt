@@ -1,5 +1,3 @@
-pub mod BitsLaws
-pub mod DivisionLaws
 pub mod RegisterLaws
 pub mod Shifts
 pub mod CrcLaws

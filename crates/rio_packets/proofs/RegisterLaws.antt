@@ -6,12 +6,13 @@ use Rattle.std.proofs.lemmas.Nat.{xor_of_16}
 use Rattle.std.proofs.lemmas.Nat.Bits.{bit_at_xor, bit_at_lowest}
 use Rattle.std.proofs.lemmas.Bool.{cases_lt}
 use Rattle.std.proofs.lemmas.List.Elements.{All-head, All-tail, All-cons, All-nil}
-use Rattle.rio_packets.specs.Bits.{bits, bits_of, complemented}
-use Rattle.rio_packets.specs.Division.{added, division_step, division_steps, remainder, crc16_divisor, crc16_of}
+use Rattle.crc_division.specs.Bits.{bits, bits_of}
+use Rattle.crc_division.specs.Division.{added, division_step, division_steps, remainder, complemented}
+use Rattle.crc_division.proofs.BitsLaws.{length-bits, bits_cat, bits_of_zero, same_by_bits}
+use Rattle.crc_division.proofs.DivisionLaws.{length-added, added_to_zeros, complemented-append, division_steps-add, division_step_low, division_step_high, absorbed}
+use Rattle.rio_packets.specs.Crc16.{crc16_divisor, crc16_of}
 use Rattle.rio_packets.specs.Register.{shifted, shifted_times, fed, fed_all, running}
 use Rattle.rio_packets.specs.LinkForm.{AreBytes}
-use Rattle.rio_packets.proofs.BitsLaws.{length-bits, bits_cat, bits_of_zero, same_by_bits}
-use Rattle.rio_packets.proofs.DivisionLaws.{length-added, added_to_zeros, complemented-append, division_steps-add, division_step_low, division_step_high, absorbed}
 
 shifted_low : (r : ℕ) → r < 0x8000 → shifted r ≡ r * 2
 unfolding shifted

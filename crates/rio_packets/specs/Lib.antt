@@ -1,5 +1,4 @@
-pub mod Bits
-pub mod Division
+pub mod Crc16
 pub mod Register
 pub mod LinkForm
 pub mod Making

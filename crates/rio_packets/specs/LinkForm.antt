@@ -1,8 +1,8 @@
 -- The form in which a packet stands on a link: its body, one CRC or two, and a pad
 -- (RapidIO Interconnect Specification 1.3, Part 6, packet format and packet CRC; the ranges are this project's profile).
 use Rattle.std.specs.Prelude.{◌≡◌, ℕ, ◌%◌, ◌<◌, ◌≤◌, ◌==◌, ◌⊎◌, List, [], ◌∷◌, ◌++◌, length, take, drop, All, slice_index, if◌then◌else◌}
-use Rattle.rio_packets.specs.Bits.{bits}
-use Rattle.rio_packets.specs.Division.{crc16_of}
+use Rattle.crc_division.specs.Bits.{bits}
+use Rattle.rio_packets.specs.Crc16.{crc16_of}
 use Rattle.rio_packets.specs.Register.{running}
 
 -- each number is a byte

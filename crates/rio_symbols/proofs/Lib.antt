@@ -1,3 +1,3 @@
 pub mod BitLaws
-pub mod DivisionLaws
+pub mod CrcLaws
 pub mod SpellingLaws

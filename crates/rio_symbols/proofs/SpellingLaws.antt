@@ -7,12 +7,13 @@ use Rattle.std.proofs.lemmas.List.Elements.{All-nil, All-cons, All-head, All-tai
 use Rattle.std.proofs.lemmas.Bool.{and_parts, eq-eqb, eqb-true, lt-ltb, ltb-true}
 use Rattle.std.specs.Int.Bits.{bit_and, bit_or}
 use Rattle.std.proofs.lemmas.Nat.{and_mask, or_shifted, shl_whole}
-use Rattle.rio_symbols.specs.Bits.{bits}
+use Rattle.crc_division.specs.Bits.{bits}
 use Rattle.rio_symbols.specs.Crc5.{field_bits, crc5_of, crc5_value}
 use Rattle.rio_symbols.specs.Fields.{Fields, InRange}
 use Rattle.rio_symbols.specs.Spelling.{Spells, symbol_bytes, fields_at, is_spelling, spelled, spelled_in}
-use Rattle.rio_symbols.proofs.BitLaws.{bits-join, halves, bits-cancel, same-from-bits}
-use Rattle.rio_symbols.proofs.DivisionLaws.{crc5_value-lt, bits-crc5_value}
+use Rattle.crc_division.proofs.BitsLaws.{bits_cat, same_by_bits}
+use Rattle.rio_symbols.proofs.BitLaws.{halves, bits-cancel}
+use Rattle.rio_symbols.proofs.CrcLaws.{crc5_value-lt, bits-crc5_value}
 
 -- lists of bytes with the same bits are the same
 same_bytes : (xs ys : List ℕ) → All (λ b. b < 256) xs → All (λ b. b < 256) ys → flat_map (bits 8) xs ≡ flat_map (bits 8) ys → xs ≡ ys
@@ -22,7 +23,7 @@ same_bytes [] (y ∷ ys) p q e = cc
 same_bytes (x ∷ xs) [] p q e = cc
 same_bytes (x ∷ xs) (y ∷ ys) p q e =
     let both = bits-cancel 8 x y (flat_map (bits 8) xs) (flat_map (bits 8) ys) e in
-    let first : x ≡ y = same-from-bits 8 x y (All-head (λ b. b < 256) x xs p) (All-head (λ b. b < 256) y ys q) both.0 in
+    let first : x ≡ y = same_by_bits 8 x y (All-head (λ b. b < 256) x xs p) (All-head (λ b. b < 256) y ys q) both.0 in
     let rest : xs ≡ ys = same_bytes xs ys (All-tail (λ b. b < 256) x xs p) (All-tail (λ b. b < 256) y ys q) both.1 in
     cc
 
@@ -43,10 +44,10 @@ spells_own symbol range = record {
       let third : symbol.cmd * 32 + crc5_value symbol < 256 = omega (arith, range.cmd, crc5_value-lt symbol) in
       three_bytes _ _ _ first second third;
   same_bits =
-      let first : bits 8 (symbol.s0 * 32 + symbol.p0) ≡ bits 3 symbol.s0 ++ bits 5 symbol.p0 = bits-join 3 5 symbol.s0 symbol.p0 8 range.p0 refl in
-      let second : bits 8 (symbol.p1 * 8 + symbol.s1) ≡ bits 5 symbol.p1 ++ bits 3 symbol.s1 = bits-join 5 3 symbol.p1 symbol.s1 8 range.s1 refl in
+      let first : bits 8 (symbol.s0 * 32 + symbol.p0) ≡ bits 3 symbol.s0 ++ bits 5 symbol.p0 = bits_cat 3 5 symbol.s0 symbol.p0 8 refl range.p0 in
+      let second : bits 8 (symbol.p1 * 8 + symbol.s1) ≡ bits 5 symbol.p1 ++ bits 3 symbol.s1 = bits_cat 5 3 symbol.p1 symbol.s1 8 refl range.s1 in
       let third : bits 8 (symbol.cmd * 32 + crc5_value symbol) ≡ bits 3 symbol.cmd ++ crc5_of symbol =
-      bits-join 3 5 symbol.cmd (crc5_value symbol) 8 (crc5_value-lt symbol) refl ∙ ap (λ bs. bits 3 symbol.cmd ++ bs) (bits-crc5_value symbol)
+      bits_cat 3 5 symbol.cmd (crc5_value symbol) 8 refl (crc5_value-lt symbol) ∙ ap (λ bs. bits 3 symbol.cmd ++ bs) (bits-crc5_value symbol)
       in
       rw (first, second, third) (simp (append_assoc, append-nil));
 }

@@ -1,8 +1,8 @@
 -- The CRC of a control symbol: the polynomial and the preset are the standard's, the bit that is added
 -- to the nineteen is this project's profile.
 use Rattle.std.specs.Prelude.{ℕ, Bool, true, false, List, [], ◌∷◌, ◌++◌}
-use Rattle.rio_symbols.specs.Bits.{bits, number}
-use Rattle.rio_symbols.specs.Division.{remainder, complemented}
+use Rattle.crc_division.specs.Bits.{bits, number}
+use Rattle.crc_division.specs.Division.{remainder, complemented}
 use Rattle.rio_symbols.specs.Fields.{Fields}
 
 -- x^5 + x^4 + x^2 + 1

@@ -1,7 +1,7 @@
 -- A control symbol and its three bytes.
 use Rattle.std.specs.Prelude.{◌≡◌, ℕ, ◌+◌, ◌*◌, ◌/◌, ◌%◌, ◌<◌, ◌==◌, nat_lt, ◌&&◌, if◌then◌else◌, Bool, List, [], ◌∷◌, ◌++◌, slice_index, All, Option, Some, None}
 use Rattle.std.specs.List.{flat_map}
-use Rattle.rio_symbols.specs.Bits.{bits}
+use Rattle.crc_division.specs.Bits.{bits}
 use Rattle.rio_symbols.specs.Crc5.{field_bits, crc5_of, crc5_value}
 use Rattle.rio_symbols.specs.Fields.{Fields, InRange}
 

@@ -1,5 +1,5 @@
 ghost use Rattle.std.specs.Prelude.{◌≡◌, ◌+◌, ◌*◌, ◌^◌, ◌<◌, ◌≤◌};
-ghost use Rattle.rio_symbols.specs.Bits.{bits};
+ghost use Rattle.crc_division.specs.Bits.{bits};
 ghost use Rattle.rio_symbols.specs.Crc5.{field_bits, crc5_message, crc5_of, crc5_value};
 
 use crate::symbol::Symbol;

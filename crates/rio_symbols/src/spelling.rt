@@ -1,7 +1,7 @@
 ghost use Rattle.std.specs.Prelude.{◌≡◌, ◌↔◌, ◌≢◌, ℕ, ◌%◌, List, [], ◌∷◌, ◌++◌, IsErr, IfErr, IfOk, Ok, Some, None};
 ghost use Rattle.std.specs.List.{flat_map};
 ghost use Rattle.std.specs.Result.{result_ok};
-ghost use Rattle.rio_symbols.specs.Bits.{bits};
+ghost use Rattle.crc_division.specs.Bits.{bits};
 ghost use Rattle.rio_symbols.specs.Crc5.{field_bits};
 ghost use Rattle.rio_symbols.specs.Fields.{Fields, InRange};
 ghost use Rattle.rio_symbols.specs.Spelling.{Spells, symbol_bytes, fields_at, found_crc, computed_crc, spelled, spelled_in};

@@ -1,7 +1,7 @@
 use Rattle.std.proofs.Common.{◌-◌, ◌∙◌, ap, sym, arith}
 use Rattle.rio_symbols.specs.Crc5.{crc5_divisor}
-use Rattle.rio_symbols.specs.Division.{division_steps}
-use Rattle.rio_symbols.proofs.DivisionLaws.{crc5_of-steps, turn_at_one, turn_at_zero, end_bits, end_value}
+use Rattle.crc_division.specs.Division.{division_steps}
+use Rattle.rio_symbols.proofs.CrcLaws.{crc5_of-steps, turn_at_one, turn_at_zero, end_bits, end_value}
 use Rattle.rio_symbols.proofs.crc.crc5.Goals as goal
 
 pub loop-place-init : goal.loop-place-init

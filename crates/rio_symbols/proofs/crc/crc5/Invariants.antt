@@ -1,7 +1,7 @@
 use Rattle.std.proofs.Common.{◌≡◌, ◌+◌}
-use Rattle.rio_symbols.specs.Bits.{bits}
+use Rattle.crc_division.specs.Bits.{bits}
 use Rattle.rio_symbols.specs.Crc5.{crc5_of, crc5_divisor}
-use Rattle.rio_symbols.specs.Division.{division_steps}
+use Rattle.crc_division.specs.Division.{division_steps}
 use Rattle.rio_symbols.proofs.crc.crc5.Given as goal
 
 -- the steps that are left turn what is left of the register into the CRC

@@ -1,7 +1,7 @@
 use Rattle.std.proofs.Common.{◌≡◌, ◌+◌, ◌*◌, ◌∙◌, ap, arith}
-use Rattle.rio_symbols.specs.Bits.{bits}
+use Rattle.crc_division.specs.Bits.{bits}
 use Rattle.rio_symbols.specs.Crc5.{field_bits}
-use Rattle.rio_symbols.proofs.DivisionLaws.{bits-fields}
+use Rattle.rio_symbols.proofs.CrcLaws.{bits-fields}
 use Rattle.rio_symbols.proofs.crc.field_number.Goals as goal
 
 pub returns-clause-bits : goal.returns-clause-bits

@@ -2,8 +2,8 @@ use Rattle.std.proofs.Common.{◌≡◌, ◌*◌, ◌%◌, ◌∙◌, ap}
 use Rattle.std.specs.Int.RustNames.{bit_xor}
 use Rattle.std.proofs.lemmas.Nat.{shl_whole}
 use Rattle.std.proofs.Common.{arith}
-use Rattle.rio_symbols.specs.Bits.{bits}
-use Rattle.rio_symbols.proofs.DivisionLaws.{bits-preset}
+use Rattle.crc_division.specs.Bits.{bits}
+use Rattle.rio_symbols.proofs.CrcLaws.{bits-preset}
 use Rattle.rio_symbols.proofs.crc.preset_message.Goals as goal
 
 -- the shift loses no bit

@@ -1,21 +1,23 @@
 -- What one step of the division does to a register.
-use Rattle.std.proofs.Common.{◌≡◌, ℕ, zero, suc, ◌+◌, ◌-◌, ◌*◌, ◌/◌, ◌%◌, ◌^◌, ◌<◌, ◌≤◌, ◌≢◌, not, Bool, true, false, List, [], ◌∷◌, ◌++◌, length, refl, sym, ◌∙◌, ap, arith}
+use Rattle.std.proofs.Common.{◌≡◌, ℕ, zero, suc, ◌+◌, ◌-◌, ◌*◌, ◌/◌, ◌%◌, ◌^◌, ◌<◌, ◌≤◌, ◌≢◌, Bool, true, false, List, [], ◌∷◌, ◌++◌, length, refl, sym, ◌∙◌, ap, arith}
 use Rattle.std.specs.Int.{bit_at}
 use Rattle.std.specs.Int.RustNames.{bit_xor}
-use Rattle.std.proofs.Common.{append_assoc, length-append, length-drop}
+use Rattle.std.proofs.Common.{append_assoc, length-append}
 use Rattle.std.specs.Int.Bits.{bit_and}
 use Rattle.std.proofs.lemmas.Nat.{and_mask, shl_whole}
 use Rattle.std.proofs.lemmas.Nat.Bits.{bit_at-lt, shr_and_one}
-use Rattle.rio_symbols.specs.Bits.{bits, number}
+use Rattle.crc_division.specs.Bits.{bits, number}
 use Rattle.rio_symbols.specs.Fields.{Fields, InRange}
-use Rattle.rio_symbols.specs.Division.{added, division_step, division_steps, complemented, remainder}
+use Rattle.crc_division.specs.Division.{added, division_steps, complemented}
 use Rattle.rio_symbols.specs.Crc5.{crc5_divisor, field_bits, crc5_message, crc5_of, crc5_value}
-use Rattle.rio_symbols.proofs.BitLaws.{bits-join, bits-xor, bits-mod, length-bits, number-bits, bits-number, number-lt}
+use Rattle.crc_division.proofs.BitsLaws.{length-bits, bits_cat, number-bits, bits-number, number-lt}
+use Rattle.crc_division.proofs.DivisionLaws.{complemented-append, length-division_steps}
+use Rattle.rio_symbols.proofs.BitLaws.{bits-xor, bits-mod}
 
 -- a 1 at the front: the divisor is taken off
 pub step_at_one : (place r width : ℕ) → width ≡ place + 5 → bit_at r width ≡ 1
     → division_steps (suc place) crc5_divisor (bits (suc width) r) ≡ division_steps place crc5_divisor (bits width (bit_xor r (53 * 2 ^ place)))
-unfolding bits added division_steps
+unfolding bits division_steps
 step_at_one place r width e one =
     let taken : added (bits 5 53) (bits width r) ≡ bits width (bit_xor r (53 * 2 ^ place)) = bits-xor 5 place r 53 width (omega arith) in
     rw (one, taken)
@@ -25,26 +27,6 @@ pub step_at_zero : (place r width : ℕ) → bit_at r width ≡ 0
     → division_steps (suc place) crc5_divisor (bits (suc width) r) ≡ division_steps place crc5_divisor (bits width r)
 unfolding bits division_steps
 step_at_zero place r width none = rw none
-
--- what is added at the front leaves the length
-length-added : (xs bs : List Bool) → length (added xs bs) ≡ length bs
-unfolding added
-length-added [] bs = refl
-length-added (x ∷ xs) [] = refl
-length-added (x ∷ xs) (b ∷ bs) = ap suc (length-added xs bs)
-
--- a step takes one bit away
-length-division_step : (divisor bs : List Bool) → length (division_step divisor bs) ≡ length bs - 1
-length-division_step divisor [] = omega arith
-length-division_step divisor (false ∷ bs) = omega arith
-length-division_step divisor (true ∷ bs) = simp (length-drop, length-added) (omega arith)
-
--- and each further step one more
-pub length-division_steps : (count : ℕ) (divisor bs : List Bool) → length (division_steps count divisor bs) ≡ length bs - count
-unfolding division_steps
-length-division_steps zero divisor bs = omega arith
-length-division_steps (suc count) divisor bs =
-    length-division_steps count divisor (division_step divisor bs) ∙ omega (arith, length-division_step divisor bs)
 
 -- bits that are turned over are as many
 length-complemented : (count : ℕ) (bs : List Bool) → length (complemented count bs) ≡ length bs
@@ -64,7 +46,7 @@ length-crc5_message symbol = simp (length-append, length-complemented, length-fi
 
 -- twenty steps are taken
 pub crc5_of-steps : (symbol : Fields) → crc5_of symbol ≡ division_steps 20 crc5_divisor (crc5_message symbol)
-unfolding crc5_of remainder
+unfolding crc5_of
 crc5_of-steps symbol = rw (length-crc5_message symbol)
 
 pub length-crc5_of : (symbol : Fields) → length (crc5_of symbol) ≡ 5
@@ -81,35 +63,18 @@ pub bits-crc5_value : (symbol : Fields) → bits 5 (crc5_value symbol) ≡ crc5_
 unfolding crc5_value
 bits-crc5_value symbol = rw (length-crc5_of symbol) at (bits-number (crc5_of symbol))
 
--- a preset to ones turns the first five bits over
-pub complemented_by_ones : (bs : List Bool) → 5 ≤ length bs → complemented 5 bs ≡ added (true ∷ true ∷ true ∷ true ∷ true ∷ []) bs
-unfolding complemented added
-complemented_by_ones (a ∷ b ∷ c ∷ d ∷ e ∷ bs) h = refl
-complemented_by_ones (a ∷ b ∷ c ∷ d ∷ []) h = absurd (omega arith)
-complemented_by_ones (a ∷ b ∷ c ∷ []) h = absurd (omega arith)
-complemented_by_ones (a ∷ b ∷ []) h = absurd (omega arith)
-complemented_by_ones (a ∷ []) h = absurd (omega arith)
-complemented_by_ones [] h = absurd (omega arith)
-
 -- the nineteen bits, each field written behind the ones before it
 pub bits-fields : (symbol : Fields) → InRange symbol
     → bits 19 ((((symbol.s0 * 32 + symbol.p0) * 32 + symbol.p1) * 8 + symbol.s1) * 8 + symbol.cmd) ≡ field_bits symbol
 unfolding field_bits
 bits-fields symbol range =
-    bits-join 16 3 (((symbol.s0 * 32 + symbol.p0) * 32 + symbol.p1) * 8 + symbol.s1) symbol.cmd 19 range.cmd refl
+    bits_cat 16 3 (((symbol.s0 * 32 + symbol.p0) * 32 + symbol.p1) * 8 + symbol.s1) symbol.cmd 19 refl range.cmd
     ∙ ap (λ front. front ++ bits 3 symbol.cmd)
-    (bits-join 13 3 ((symbol.s0 * 32 + symbol.p0) * 32 + symbol.p1) symbol.s1 16 range.s1 refl
+    (bits_cat 13 3 ((symbol.s0 * 32 + symbol.p0) * 32 + symbol.p1) symbol.s1 16 refl range.s1
     ∙ ap (λ front. front ++ bits 3 symbol.s1)
-    (bits-join 8 5 (symbol.s0 * 32 + symbol.p0) symbol.p1 13 range.p1 refl
-    ∙ ap (λ front. front ++ bits 5 symbol.p1) (bits-join 3 5 symbol.s0 symbol.p0 8 range.p0 refl)))
+    (bits_cat 8 5 (symbol.s0 * 32 + symbol.p0) symbol.p1 13 refl range.p1
+    ∙ ap (λ front. front ++ bits 5 symbol.p1) (bits_cat 3 5 symbol.s0 symbol.p0 8 refl range.p0)))
     ∙ simp append_assoc
-
--- only the front is turned over
-complemented-append : (count : ℕ) (xs ys : List Bool) → count ≤ length xs → complemented count (xs ++ ys) ≡ complemented count xs ++ ys
-unfolding complemented
-complemented-append zero xs ys h = refl
-complemented-append (suc count) [] ys h = absurd (omega arith)
-complemented-append (suc count) (x ∷ xs) ys h = ap (λ bs. not x ∷ bs) (complemented-append count xs ys (omega arith))
 
 -- the preset and the room for the CRC, as numbers
 five_ones : bits 5 31 ≡ true ∷ true ∷ true ∷ true ∷ true ∷ []
@@ -128,15 +93,14 @@ bits-preset symbol number e =
     let room : List Bool = false ∷ false ∷ false ∷ false ∷ false ∷ [] in
     let shifted : bits 25 (number * 64) ≡ front ++ room =
     ap (bits 25) (let same : number * 64 ≡ number * 64 + 0 = omega arith in same)
-    ∙ bits-join 19 6 number 0 25 (omega arith) refl
+    ∙ bits_cat 19 6 number 0 25 refl (omega arith)
     ∙ ap (λ bs. bs ++ bits 6 0) e ∙ ap (λ bs. field_bits symbol ++ bs) six_zeros
     ∙ sym (append_assoc (field_bits symbol) (false ∷ []) room)
     in
     let enough : length front ≡ 20 = simp (length-append, length-field_bits) in
     sym (bits-xor 5 20 (number * 64) 31 25 refl) ∙ ap (λ bs. added bs (bits 25 (number * 64))) five_ones
     ∙ ap (added (true ∷ true ∷ true ∷ true ∷ true ∷ [])) shifted
-    ∙ sym (complemented_by_ones (front ++ room) (simp length-append (omega (arith, enough))))
-    ∙ complemented-append 5 front room (omega (arith, enough))
+    ∙ sym (complemented-append 5 front room (omega (arith, enough)))
 
 -- one turn of the loop, at a 1 and at a 0
 pub turn_at_one : (place left register : ℕ) → place ≡ suc left → left < 20 → bit_and (register / 2 ^ (left + 5)) 1 ≡ 1

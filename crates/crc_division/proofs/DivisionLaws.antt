@@ -1,27 +1,27 @@
 -- Laws of sums without carry and of long division, over any polynomial.
-use Rattle.std.proofs.Common.{◌≡◌, ℕ, zero, suc, ◌+◌, ◌-◌, ◌*◌, ◌^◌, ◌<◌, ◌≤◌, Bool, true, false, List, [], ◌∷◌, ◌++◌, length, replicate, refl, sym, ap, ◌∙◌, arith, bit_xor}
+use Rattle.std.proofs.Common.{◌≡◌, ℕ, zero, suc, ◌+◌, ◌-◌, ◌*◌, ◌^◌, ◌<◌, ◌≤◌, Bool, true, false, List, [], ◌∷◌, ◌++◌, length, replicate, refl, sym, ap, ◌∙◌, arith, bit_xor, length-drop}
 use Rattle.std.specs.Int.{bit_at}
 use Rattle.std.proofs.lemmas.Nat.Bits.{bit_at_above, bit_at_cat_high}
-use Rattle.rio_packets.specs.Bits.{bits, differ, complemented}
-use Rattle.rio_packets.specs.Division.{added, division_step, division_steps}
-use Rattle.rio_packets.proofs.BitsLaws.{bits-suc, length-bits, bits_low, bits_cat, bits_xor, bits_of_zero}
+use Rattle.crc_division.specs.Bits.{bits}
+use Rattle.crc_division.specs.Division.{bit_sum, added, division_step, division_steps, complemented}
+use Rattle.crc_division.proofs.BitsLaws.{bits-suc, length-bits, bits_low, bits_cat, bits_xor, bits_of_zero}
 
-differ-differ : (x y z : Bool) → differ x (differ y z) ≡ differ (differ y x) z
-differ-differ false false z = refl
-differ-differ false true z = refl
-differ-differ true false z = refl
-differ-differ true true false = refl
-differ-differ true true true = refl
+bit_sum-bit_sum : (x y z : Bool) → bit_sum x (bit_sum y z) ≡ bit_sum (bit_sum y x) z
+bit_sum-bit_sum false false z = refl
+bit_sum-bit_sum false true z = refl
+bit_sum-bit_sum true false z = refl
+bit_sum-bit_sum true true false = refl
+bit_sum-bit_sum true true true = refl
 
-differ_swap : (x y z : Bool) → differ x (differ y z) ≡ differ y (differ x z)
-differ_swap false false z = refl
-differ_swap false true z = refl
-differ_swap true false z = refl
-differ_swap true true z = refl
+bit_sum_swap : (x y z : Bool) → bit_sum x (bit_sum y z) ≡ bit_sum y (bit_sum x z)
+bit_sum_swap false false z = refl
+bit_sum_swap false true z = refl
+bit_sum_swap true false z = refl
+bit_sum_swap true true z = refl
 
-differ-false : (x : Bool) → differ x false ≡ x
-differ-false false = refl
-differ-false true = refl
+bit_sum-false : (x : Bool) → bit_sum x false ≡ x
+bit_sum-false false = refl
+bit_sum-false true = refl
 
 pub added-nil : (bs : List Bool) → added [] bs ≡ bs
 added-nil [] = refl
@@ -38,8 +38,8 @@ added_swap xs ys [] = refl
 added_swap [] ys (b ∷ bs) = added-nil _
 added_swap (x ∷ xs) [] (b ∷ bs) = refl
 added_swap (x ∷ xs) (y ∷ ys) (b ∷ bs) =
-    ap (λ t. t ∷ added xs (added ys bs)) (differ_swap x y b)
-    ∙ ap (λ t. differ y (differ x b) ∷ t) (added_swap xs ys bs)
+    ap (λ t. t ∷ added xs (added ys bs)) (bit_sum_swap x y b)
+    ∙ ap (λ t. bit_sum y (bit_sum x b) ∷ t) (added_swap xs ys bs)
 
 -- or as their sum
 pub added-added : (xs ys bs : List Bool) → length ys ≤ length xs → added xs (added ys bs) ≡ added (added ys xs) bs
@@ -47,8 +47,8 @@ added-added xs ys [] h = refl
 added-added xs [] (b ∷ bs) h = rw added-nil refl
 added-added [] (y ∷ ys) (b ∷ bs) h = absurd (omega arith)
 added-added (x ∷ xs) (y ∷ ys) (b ∷ bs) h =
-    ap (λ t. t ∷ added xs (added ys bs)) (differ-differ x y b)
-    ∙ ap (λ t. differ (differ y x) b ∷ t) (added-added xs ys bs (omega arith))
+    ap (λ t. t ∷ added xs (added ys bs)) (bit_sum-bit_sum x y b)
+    ∙ ap (λ t. bit_sum (bit_sum y x) b ∷ t) (added-added xs ys bs (omega arith))
 
 -- zeros change nothing where they are added
 pub added_zeros : (n : ℕ) (bs : List Bool) → added (replicate n false) bs ≡ bs
@@ -57,16 +57,16 @@ added_zeros (suc n) [] = refl
 added_zeros (suc n) (b ∷ bs) = ap (λ t. b ∷ t) (added_zeros n bs)
 
 -- nor at the end of what is added
-pub added_end_zero : (xs bs : List Bool) → added (xs ++ false ∷ []) bs ≡ added xs bs
-added_end_zero xs [] = refl
-added_end_zero [] (b ∷ bs) = ap (λ t. b ∷ t) (added-nil bs)
-added_end_zero (x ∷ xs) (b ∷ bs) = ap (λ t. differ x b ∷ t) (added_end_zero xs bs)
+pub added_end_zeros : (n : ℕ) (xs bs : List Bool) → added (xs ++ replicate n false) bs ≡ added xs bs
+added_end_zeros n xs [] = refl
+added_end_zeros n [] (b ∷ bs) = added_zeros n (b ∷ bs)
+added_end_zeros n (x ∷ xs) (b ∷ bs) = ap (λ t. bit_sum x b ∷ t) (added_end_zeros n xs bs)
 
 -- what is added to zeros stands in their place
 pub added_to_zeros : (xs bs : List Bool) (k : ℕ) → added (xs ++ replicate k false) (replicate (length xs) false ++ bs) ≡ xs ++ bs
 added_to_zeros [] bs k = added_zeros k bs
 added_to_zeros (x ∷ xs) bs k =
-    ap (λ t. t ∷ added (xs ++ replicate k false) (replicate (length xs) false ++ bs)) (differ-false x)
+    ap (λ t. t ∷ added (xs ++ replicate k false) (replicate (length xs) false ++ bs)) (bit_sum-false x)
     ∙ ap (λ t. x ∷ t) (added_to_zeros xs bs k)
 
 -- to complement bits at the front is to add ones there
@@ -93,7 +93,7 @@ division_step_low w r rest bs h =
     let moved : bits (suc w) (r * 2 ^ 1 + 0) ≡ bits w r ++ bits 1 0 = bits_cat w 1 r 0 (suc w) (omega arith) (omega arith) in
     let doubled : r * 2 ^ 1 + 0 ≡ r * 2 = omega arith in
     rw (bits-suc w r, first)
-    (sym (ap (λ n. added (bits (suc w) n) bs) (sym doubled) ∙ ap (λ t. added t bs) (moved ∙ ap (λ t. bits w r ++ t) (bits_of_zero 1)) ∙ added_end_zero (bits w r) bs))
+    (sym (ap (λ n. added (bits (suc w) n) bs) (sym doubled) ∙ ap (λ t. added t bs) (moved ∙ ap (λ t. bits w r ++ t) (bits_of_zero 1)) ∙ added_end_zeros 1 (bits w r) bs))
 
 -- Where its first bit is 1 the divisor is added.
 pub division_step_high : (w r p : ℕ) (bs : List Bool) → 2 ^ w ≤ r → r < 2 * 2 ^ w
@@ -114,7 +114,7 @@ division_step_high w r p bs low high =
     let sum : added (added (bits w s) (bits (suc w) p)) bs ≡ added (bits (suc w) (bit_xor (s * 2) p)) bs =
     ap (λ t. added t bs) (sym (bits_xor (suc w) (s * 2) p
     ∙ ap (λ t. added t (bits (suc w) p)) (ap (bits (suc w)) (sym doubled) ∙ moved ∙ ap (λ t. bits w s ++ t) (bits_of_zero 1))
-    ∙ added_end_zero (bits w s) (bits (suc w) p))) in
+    ∙ added_end_zeros 1 (bits w s) (bits (suc w) p))) in
     step ∙ added-added (bits (suc w) p) (bits w s) bs shorter ∙ sum
 
 -- A register takes in the bits behind it, which leaves zeros in their place.
@@ -128,3 +128,23 @@ absorbed w r v k xs bs e =
     ∙ added_swap (bits w r) (bits w v) zeros
     ∙ added-added (bits w v) (bits w r) zeros size
     ∙ ap (λ t. added t zeros) (sym (bits_xor w r v))
+
+-- a step takes one bit away
+length-division_step : (divisor bs : List Bool) → length (division_step divisor bs) ≡ length bs - 1
+length-division_step divisor [] = omega arith
+length-division_step divisor (false ∷ bs) = omega arith
+length-division_step divisor (true ∷ bs) = simp (length-drop, length-added) (omega arith)
+
+-- and each further step one more
+pub length-division_steps : (count : ℕ) (divisor bs : List Bool) → length (division_steps count divisor bs) ≡ length bs - count
+unfolding division_steps
+length-division_steps zero divisor bs = omega arith
+length-division_steps (suc count) divisor bs =
+    length-division_steps count divisor (division_step divisor bs) ∙ omega (arith, length-division_step divisor bs)
+
+-- bits that are turned over are as many
+length-complemented : (count : ℕ) (bs : List Bool) → length (complemented count bs) ≡ length bs
+unfolding complemented
+length-complemented zero bs = refl
+length-complemented (suc count) [] = refl
+length-complemented (suc count) (b ∷ bs) = ap suc (length-complemented count bs)
