@@ -25,6 +25,8 @@ mod laws;
 mod output_half;
 mod plain;
 mod port;
+#[cfg(test)]
+mod sending_tests;
 mod taken;
 #[cfg(test)]
 mod tests;
