@@ -23,8 +23,9 @@ pub fn worked_run()
     ensures gone { gone pair (steps_of pair_lines) ≡ first ∷ [] }
 {}
 
-/// No law holds of everything. Each fails of steps that are not legal, or of a network where they do not end; settling
-/// is not done while a packet waits that has room, and order fails of legal steps where a port stands in two links.
+/// These laws do not hold of everything. Each fails of steps that are not legal, or of a network where they do not end;
+/// settling is not done while a packet waits that has room, and order fails of legal steps where a port stands in two
+/// links.
 pub fn laws_can_fail()
     ensures holding_exactly { HoldingExactly pair held_once kept_too → ⊥ }
     ensures once { Once pair left_twice → ⊥ }

@@ -5,7 +5,7 @@ ghost use Rattle.std.specs.Prelude.{◌≡◌};
 use arrayvec::ArrayVec;
 use std::marker::Model;
 
-/// The name of a node: a letter and up to seven letters or digits, in ASCII.
+/// The name of a node, of at most eight bytes: in a script a letter and then letters or digits, in ASCII.
 #[derive(Debug, Drop)]
 pub struct Name {
     items: ArrayVec<u8, 8>,

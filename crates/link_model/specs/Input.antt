@@ -1,5 +1,5 @@
 -- The input half of a port: its states and its step table (RapidIO Interconnect Specification 1.3, Part 6, packet
--- retry and error recovery). The rows and columns are in the order of the profile's table.
+-- retry and error recovery). The rows and columns are in the order of the table of docs/link.md.
 use Rattle.std.specs.Prelude.{ℕ, ◌+◌, ◌%◌, ◌==◌, ◌&&◌, Bool, true, false, if◌then◌else◌, Option, Some, None}
 use Rattle.rio_symbols.specs.Fields.{Fields}
 use Rattle.link_model.specs.Symbols.{packet_accepted, packet_retry, packet_not_accepted, link_response}

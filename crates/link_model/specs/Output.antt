@@ -1,5 +1,5 @@
 -- The output half of a port: its states and its step tables (RapidIO Interconnect Specification 1.3, Part 6, packet
--- retry and error recovery). The rows and columns are in the order of the profile's tables.
+-- retry and error recovery). The rows and columns are in the order of the tables of docs/link.md.
 use Rattle.std.specs.Prelude.{ℕ, ◌==◌, Bool, true, false, nat_lt, nat_le, if◌then◌else◌, length, Option, Some, None}
 use Rattle.link_model.specs.Window.{Window, window, next_ack, distance, is_oldest, without_oldest, with_next, from_ack}
 

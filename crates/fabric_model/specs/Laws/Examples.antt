@@ -1,4 +1,4 @@
--- Small lists of steps: a worked run over one link, and for each law a list of which it does not hold.
+-- Small lists of steps: a worked run over one link, and for laws that can fail a list of which each does not hold.
 use Rattle.std.specs.Prelude.{ℕ, List, [], ◌∷◌}
 use Rattle.fabric_model.specs.declared.lines.Line.TheVariants.{Endpoint, Link, Send, Settle, Collect}
 use Rattle.fabric_model.specs.declared.lines.Numbered.{Numbered}
