@@ -1,0 +1,221 @@
+-- What holds after every history of two ports: by one step after another.
+use Rattle.std.proofs.Common.{◌≡◌, ◌≢◌, ℕ, zero, suc, ◌<◌, ◌==◌, Option, Some, None, List, [], ◌∷◌, ◌++◌, map, length, take, drop, slice_get, option_to_list, inl, inr, refl, sym, ap, ◌∙◌, subst, if◌then◌else◌, arith, append_assoc}
+use Rattle.std.proofs.lemmas.Bool.{cases_Bool}
+use Rattle.std.proofs.lemmas.Bool.Decides.{eqb_tells}
+use Rattle.std.proofs.lemmas.List.{append-nil}
+use Rattle.std.proofs.lemmas.List.Elements.{filter-append}
+use Rattle.rio_packets.specs.Fields.{prio_of}
+use Rattle.link_buffers.specs.Queues.{no_packets, list_at, popped, appended}
+use Rattle.link_buffers.specs.Taking.{Covers, highest}
+use Rattle.link_buffers.proofs.TakingLaws.{list_at-appended, list_at-popped, left-appended, leave-appended, Covers-take, length-leave}
+use Rattle.link_model.specs.declared.event.Event.{Event}
+use Rattle.link_model.specs.Output as out
+use Rattle.link_model.specs.Window.{distance}
+use Rattle.link_port.specs.Ports.{PortState, IsPort}
+use Rattle.link_port.specs.Steps.{acts}
+use Rattle.link_port.specs.Turns.{turns_to, timed_out, waiting_in}
+use Rattle.link_port.specs.Windows.{prios_of, expected_of}
+use Rattle.link_sound.specs.Meanings.{forward, backward, oldest_of}
+use Rattle.link_sound.specs.Sound.{IsSound}
+use Rattle.link_sound.specs.Lent.{lent, waiting, Holds, Frees}
+use Rattle.link_sound.specs.Histories.{AreBuffers, Journeys, Link, new_link, turned_round, after_event, IsStep, Turns, Acts, Others, TimesOut, Puts, Loses, Reads, IsHistory, Rests, AtFirst, AtSecond, of_prio, AreCarried}
+use Rattle.link_sound.proofs.Freed.{turn_stays, time_out_stays}
+use Rattle.link_sound.proofs.Steps.{begins, exchanged, turn_keeps, acted_keeps, other_keeps, time_out_keeps, lost_keeps, put_keeps, other_parts}
+use Rattle.link_sound.proofs.Moves.{acted_holds, other_holds, acted_frees, other_frees}
+use Rattle.link_sound.proofs.Promises.{not_failed}
+use Rattle.link_sound.proofs.Plain.{drop_at}
+use Rattle.link_sound.proofs.PortBounds.{new_is_port, turn_port, time_out_port, put_port, read_port, acted_port, other_port}
+
+-- what every history keeps
+pub record IsLawful (l : Link) : Type 0 where
+  pub port_a : IsPort l.a
+  pub port_b : IsPort l.b
+  pub sound : IsSound l.a l.b l.from_a l.from_b
+  pub of_a : AreCarried l.of_a l.a l.b
+  pub of_b : AreCarried l.of_b l.b l.a
+
+-- nothing moves
+stay_carried :
+    (j : Journeys) (p q next_p next_q : PortState) → lent next_p next_q ≡ lent p q → waiting next_p next_q ≡ waiting p q → AreCarried j p q → AreCarried j next_p next_q
+stay_carried j p q next_p next_q same_lent same_waiting c = record {
+  in_order = λ prio. c.in_order prio ∙ ap (λ lists. of_prio prio j.held ++ list_at lists prio) (sym same_waiting);
+  freed_after_held = c.freed_after_held ∙ ap (λ packets. j.freed ++ packets) (sym same_lent);
+}
+
+-- packets are freed
+free_carried : (j : Journeys) (p next q : PortState) (freed : List (List ℕ)) → Frees p next q freed → AreCarried j p q → AreCarried (record j { freed = j.freed ++ freed }) next q
+free_carried j p next q freed f c = record {
+  in_order = λ prio. c.in_order prio ∙ ap (λ lists. of_prio prio j.held ++ list_at lists prio) (sym f.1);
+  freed_after_held = c.freed_after_held ∙ ap (λ packets. j.freed ++ packets) f.0 ∙ sym (append_assoc j.freed freed (lent next q));
+}
+
+-- one packet of its own priority, and of no other
+of_prio_one : (prio : ℕ) (packet : List ℕ) → of_prio prio (packet ∷ []) ≡ (if prio_of packet == prio then packet ∷ [] else [])
+of_prio_one prio packet =
+    elim (cases_Bool (prio_of packet == prio)) [
+      | inl same ↦ rw same refl
+      | inr other ↦ rw other refl
+    ]
+
+-- the packet goes from the front of what waits to the end of what is held
+held_of_prio :
+    (prio : ℕ) (held : List (List ℕ)) (lists : List (List (List ℕ))) (packet : List ℕ) → slice_get (list_at lists (prio_of packet)) 0 ≡ Some packet
+    → of_prio prio held ++ list_at lists prio ≡ of_prio prio (held ++ packet ∷ []) ++ list_at (popped lists (prio_of packet)) prio
+held_of_prio prio held lists packet first =
+    let split : of_prio prio (held ++ packet ∷ []) ≡ of_prio prio held ++ of_prio prio (packet ∷ []) = filter-append (λ p. prio_of p == prio) held (packet ∷ []) in
+    elim (eqb_tells (prio_of packet) prio) [
+      | inl (test, same) ↦
+          let there = subst (λ (r : ℕ). slice_get (list_at lists r) 0 ≡ Some packet) same first in
+          let one : of_prio prio (packet ∷ []) ≡ packet ∷ [] = rw test refl in
+          let rest : list_at (popped lists (prio_of packet)) prio ≡ drop 1 (list_at lists prio) = list_at-popped lists (prio_of packet) prio ∙ rw test refl in
+          ap (λ packets. of_prio prio held ++ packets) (drop_at 0 (list_at lists prio) packet there ∙ ap (λ packets. packet ∷ packets) (sym rest))
+          ∙ sym (append_assoc (of_prio prio held) (packet ∷ []) (list_at (popped lists (prio_of packet)) prio))
+          ∙ ap (λ packets. (of_prio prio held ++ packets) ++ list_at (popped lists (prio_of packet)) prio) (sym one)
+          ∙ ap (λ packets. packets ++ list_at (popped lists (prio_of packet)) prio) (sym split)
+      | inr (test, different) ↦
+          let none : of_prio prio (packet ∷ []) ≡ [] = rw test refl in
+          let rest : list_at (popped lists (prio_of packet)) prio ≡ list_at lists prio = list_at-popped lists (prio_of packet) prio ∙ rw test refl in
+          ap (λ packets. of_prio prio held ++ packets) (sym rest)
+          ∙ ap (λ packets. packets ++ list_at (popped lists (prio_of packet)) prio) (sym (append-nil (of_prio prio held)) ∙ ap (λ packets. of_prio prio held ++ packets) (sym none) ∙ sym split)
+    ]
+
+-- a packet is held, or none
+hold_carried :
+    (j : Journeys) (p q next : PortState) (held : Option (List ℕ)) → Holds p q next held → AreCarried j p q → AreCarried (record j { held = j.held ++ option_to_list held }) p next
+hold_carried j p q next None h c = record {
+  in_order = λ prio. c.in_order prio ∙ ap (λ lists. of_prio prio j.held ++ list_at lists prio) (sym h.1) ∙ ap (λ packets. of_prio prio packets ++ list_at (waiting p next) prio) (sym (append-nil j.held));
+  freed_after_held = append-nil j.held ∙ c.freed_after_held ∙ ap (λ packets. j.freed ++ packets) (sym h.0);
+}
+hold_carried j p q next (Some packet) h c = record {
+  in_order = λ prio. c.in_order prio ∙ held_of_prio prio j.held (waiting p q) packet h.0 ∙ ap (λ lists. of_prio prio (j.held ++ packet ∷ []) ++ list_at lists prio) (sym h.3);
+  freed_after_held = ap (λ packets. packets ++ packet ∷ []) c.freed_after_held ∙ append_assoc j.freed (lent p q) (packet ∷ []) ∙ ap (λ packets. j.freed ++ packets) (sym h.2);
+}
+
+-- a packet is put
+put_of_prio :
+    (prio : ℕ) (put held : List (List ℕ)) (lists : List (List (List ℕ))) (packet : List ℕ) → prio_of packet < length lists → of_prio prio put ≡ of_prio prio held ++ list_at lists prio
+    → of_prio prio (put ++ packet ∷ []) ≡ of_prio prio held ++ list_at (appended lists (prio_of packet) packet) prio
+put_of_prio prio put held lists packet few is =
+    filter-append (λ p. prio_of p == prio) put (packet ∷ [])
+    ∙ ap (λ packets. packets ++ of_prio prio (packet ∷ [])) is
+    ∙ append_assoc (of_prio prio held) (list_at lists prio) (of_prio prio (packet ∷ []))
+    ∙ ap (λ packets. of_prio prio held ++ packets) (ap (λ packets. list_at lists prio ++ packets) (of_prio_one prio packet) ∙ sym (list_at-appended lists (prio_of packet) packet prio few))
+
+put_carried :
+    (j : Journeys) (p q : PortState) (packet : List ℕ) → Covers (prios_of p.output) p.queued → prio_of packet < length p.queued → AreCarried j p q
+    → AreCarried (record j { put = j.put ++ packet ∷ [] }) (record p { queued = appended p.queued (prio_of packet) packet }) q
+put_carried j p q packet covers few c =
+    let count = distance (oldest_of p.output) (expected_of q.input) in
+    let prios = take count (prios_of p.output) in
+    let covered = Covers-take count (prios_of p.output) p.queued covers in
+    let long = length-leave prios p.queued in
+    let within : prio_of packet < length (waiting p q) = omega arith in
+    record {
+      in_order = λ prio. put_of_prio prio j.put j.held (waiting p q) packet within (c.in_order prio)
+          ∙ ap (λ lists. of_prio prio j.held ++ list_at lists prio) (sym (leave-appended prios p.queued (prio_of packet) packet covered few));
+      freed_after_held = c.freed_after_held ∙ ap (λ packets. j.freed ++ packets) (sym (left-appended prios p.queued (prio_of packet) packet covered few));
+    }
+
+event_keeps :
+    (l : Link) (e : Event) (rest : List Event) → IsPort (acts l.a e).port → IsSound (acts l.a e).port l.b (after_event l e rest).from_a rest
+    → Frees l.a (acts l.a e).port l.b (acts l.a e).freed → Holds l.b l.a (acts l.a e).port (acts l.a e).held → IsLawful l → IsLawful (after_event l e rest)
+event_keeps l e rest port sound frees holds is = record {
+  port_a = port;
+  port_b = is.port_b;
+  sound = sound;
+  of_a = free_carried l.of_a l.a (acts l.a e).port l.b (acts l.a e).freed frees is.of_a;
+  of_b = hold_carried l.of_b l.b l.a (acts l.a e).port (acts l.a e).held holds is.of_b;
+}
+
+step_keeps : (l next : Link) → IsStep l next → IsLawful l → IsLawful next
+step_keeps l next (Turns _) is =
+    let stays = turn_stays l.a.output (highest (waiting_in l.a)) l.b.input l.a.queued (map forward l.from_a) (map backward l.from_b) is.port_a.covered is.sound.a_to_b in
+    record {
+      port_a = turn_port l.a is.port_a;
+      port_b = is.port_b;
+      sound = turn_keeps l.a l.b l.from_a l.from_b is.port_a.covered is.sound;
+      of_a = stay_carried l.of_a l.a l.b (turns_to l.a) l.b stays.0 stays.1 is.of_a;
+      of_b = stay_carried l.of_b l.b l.a l.b (turns_to l.a) refl refl is.of_b;
+    }
+step_keeps l next (Acts _ e rest first acted) is =
+    let sound = subst (λ (es : List Event). IsSound l.a l.b l.from_a es) first is.sound in
+    event_keeps l e rest (acted_port l.a l.b l.from_a rest e is.port_a is.port_b acted sound) (acted_keeps l.a l.b l.from_a rest e is.port_a.covered acted sound)
+    (acted_frees l.a l.b l.from_a rest e is.port_a.covered acted sound) (acted_holds l.a l.b l.from_a rest e is.port_b.covered is.port_b.sends acted sound) is
+step_keeps l next (Others _ e other) is =
+    event_keeps l e l.from_b (other_port l.a e is.port_a other) (other_keeps l.a l.b l.from_a l.from_b e other is.sound) (other_frees l.a l.b e other) (other_holds l.a l.b e other) is
+step_keeps l next (TimesOut _) is =
+    let stays = time_out_stays l.a.output (expected_of l.b.input) l.a.queued in
+    record {
+      port_a = time_out_port l.a is.port_a;
+      port_b = is.port_b;
+      sound = time_out_keeps l.a l.b l.from_a l.from_b is.sound;
+      of_a = stay_carried l.of_a l.a l.b (timed_out l.a) l.b stays.0 stays.1 is.of_a;
+      of_b = stay_carried l.of_b l.b l.a l.b (timed_out l.a) refl refl is.of_b;
+    }
+step_keeps l next (Puts _ packet few room) is =
+    let within : prio_of packet < length l.a.queued = omega (arith, is.port_a.sends.four) in
+    record {
+      port_a = put_port l.a packet few room is.port_a;
+      port_b = is.port_b;
+      sound = put_keeps l.a l.b l.from_a l.from_b (prio_of packet) packet is.port_a.covered within is.sound;
+      of_a = put_carried l.of_a l.a l.b packet is.port_a.covered within is.of_a;
+      of_b = stay_carried l.of_b l.b l.a l.b (record l.a { queued = appended l.a.queued (prio_of packet) packet }) refl refl is.of_b;
+    }
+step_keeps l next (Loses _ lost_a from_a lost_b from_b first second) is =
+    let sound = subst (λ (es : List Event). IsSound l.a l.b (lost_a ++ from_a) es) second (subst (λ (es : List Event). IsSound l.a l.b es l.from_b) first is.sound) in
+    record {
+      port_a = is.port_a;
+      port_b = is.port_b;
+      sound = lost_keeps l.a l.b lost_a from_a lost_b from_b sound;
+      of_a = is.of_a;
+      of_b = is.of_b;
+    }
+step_keeps l next (Reads _ received place store bounded) is = record {
+  port_a = read_port l.a received place store bounded is.port_a;
+  port_b = is.port_b;
+  sound = other_parts l.a l.b l.from_a l.from_b received place is.sound;
+  of_a = stay_carried l.of_a l.a l.b (record l.a { received = received; place = place }) l.b refl refl is.of_a;
+  of_b = stay_carried l.of_b l.b l.a l.b (record l.a { received = received; place = place }) refl refl is.of_b;
+}
+
+round_keeps : (l : Link) → IsLawful l → IsLawful (turned_round l)
+round_keeps l is = record { port_a = is.port_b; port_b = is.port_a; sound = exchanged l.a l.b l.from_a l.from_b is.sound; of_a = is.of_b; of_b = is.of_a }
+
+history_keeps : (l end : Link) → IsHistory l end → IsLawful l → IsLawful end
+history_keeps l end (Rests _) is = is
+history_keeps l end (AtFirst {next} _ step more) is = history_keeps next end more (step_keeps l next step is)
+history_keeps l end (AtSecond {next} _ step more) is = history_keeps (turned_round next) end more (round_keeps next (step_keeps (turned_round l) next step (round_keeps l is)))
+
+none_waits : (prio : ℕ) → [] ≡ list_at no_packets prio
+none_waits zero = refl
+none_waits (suc zero) = refl
+none_waits (suc (suc zero)) = refl
+none_waits (suc (suc (suc zero))) = refl
+none_waits (suc (suc (suc (suc prio)))) = refl
+
+new_is_lawful : (m n : ℕ) → AreBuffers m → AreBuffers n → IsLawful (new_link m n)
+new_is_lawful m n first second = record {
+  port_a = new_is_port m first;
+  port_b = new_is_port n second;
+  sound = record { a_to_b = begins _ _ _ refl refl; b_to_a = begins _ _ _ refl refl };
+  of_a = record { in_order = none_waits; freed_after_held = refl };
+  of_b = record { in_order = none_waits; freed_after_held = refl };
+}
+
+-- every history from two new ports
+all_lawful : (m n : ℕ) (l : Link) → AreBuffers m → AreBuffers n → IsHistory (new_link m n) l → IsLawful l
+all_lawful m n l first second history = history_keeps (new_link m n) l history (new_is_lawful m n first second)
+
+pub all_ports : (m n : ℕ) (l : Link) → AreBuffers m → AreBuffers n → IsHistory (new_link m n) l → IsPort l.a × IsPort l.b
+all_ports m n l first second history = let is = all_lawful m n l first second history in (is.port_a, is.port_b)
+
+pub all_sound : (m n : ℕ) (l : Link) → AreBuffers m → AreBuffers n → IsHistory (new_link m n) l → IsSound l.a l.b l.from_a l.from_b
+all_sound m n l first second history = (all_lawful m n l first second history).sound
+
+pub all_carried : (m n : ℕ) (l : Link) → AreBuffers m → AreBuffers n → IsHistory (new_link m n) l → AreCarried l.of_a l.a l.b × AreCarried l.of_b l.b l.a
+all_carried m n l first second history = let is = all_lawful m n l first second history in (is.of_a, is.of_b)
+
+pub none_failed : (m n : ℕ) (l : Link) → AreBuffers m → AreBuffers n → IsHistory (new_link m n) l → (l.a.output ≢ out.Output.Failed) × (l.b.output ≢ out.Output.Failed)
+none_failed m n l first second history =
+    let sound = all_sound m n l first second history in
+    (not_failed l.a l.b l.from_a l.from_b sound, not_failed l.b l.a l.from_b l.from_a (exchanged l.a l.b l.from_a l.from_b sound))

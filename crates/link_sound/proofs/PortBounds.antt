@@ -1,0 +1,202 @@
+-- After each step of a history both ends are ports again.
+use Rattle.std.proofs.Common.{◌≡◌, ℕ, zero, suc, ◌+◌, ◌-◌, ◌<◌, ◌≤◌, ◌==◌, Bool, true, false, Some, List, [], ◌∷◌, length, take, slice_get, inl, inr, refl, sym, ap, subst, if◌then◌else◌, arith}
+use Rattle.std.proofs.lemmas.Bool.{eq-eqb, ltb-true, cases_lt}
+use Rattle.std.proofs.lemmas.List.Elements.{All-nil}
+use Rattle.std.proofs.lemmas.Option.{slice_get_within}
+use Rattle.std.proofs.Math.ListN.{get_or-eq_default}
+use Rattle.rio_packets.specs.CauseNumbers.{number_of}
+use Rattle.rio_packets.specs.Fields.{prio_of}
+use Rattle.link_buffers.specs.Queues.{no_packets, Sorted, list_at, appended, Buffered, room_for, stored, held, IsInStore, IsOutStore}
+use Rattle.link_buffers.specs.Taking.{Covers}
+use Rattle.link_buffers.proofs.StoreLemmas.{IsInStore-appended, IsOutStore-appended}
+use Rattle.link_buffers.proofs.TakingLaws.{Covers-appended, Covers-take, IsOutStore-leave, length-leave}
+use Rattle.link_model.specs.declared.event.Event.{Event}
+use Rattle.link_model.specs.declared.event.Event.TheVariants.{Ctl, Pkt, Bad}
+use Rattle.link_model.specs.Input.{Input, Arrival, packet_arrival, symbol_arrival, receives}
+use Rattle.link_model.specs.Input.Input.{Taking, RetryStopped, ErrorStopped}
+use Rattle.link_model.specs.Input.Arrival.{ExpectedWithRoom, ExpectedWithoutRoom, UnexpectedAck, Damaged, RestartFromRetry, LinkRequest, OtherStype1}
+use Rattle.link_model.specs.Output.{Output, stype0}
+use Rattle.link_model.specs.Places.{Place, IsBounded}
+use Rattle.link_model.specs.Window.{distance}
+use Rattle.link_port.specs.Windows.{prios_of, expected_of, expects}
+use Rattle.link_port.specs.Ports.{PortState, IsPort, new_port}
+use Rattle.link_port.specs.Steps.{heard, acts, is_acted}
+use Rattle.link_port.specs.Turns.{turns_to, timed_out}
+use Rattle.link_sound.specs.Marks.{Forward, Backward, Packet}
+use Rattle.link_sound.specs.Direction.{IsShut}
+use Rattle.link_sound.specs.Meanings.{takes_of, oldest_of}
+use Rattle.link_sound.specs.Between.{IsBetween}
+use Rattle.link_sound.specs.Sound.{IsSound}
+use Rattle.link_sound.specs.Lent.{waiting_from}
+use Rattle.link_sound.specs.Histories.{AreBuffers}
+use Rattle.link_sound.proofs.Bounds.{covers_none, nothing_from, turn_sends, time_out_sends, heard_sends}
+use Rattle.link_sound.proofs.Plain.{held_is}
+use Rattle.link_sound.proofs.Steps.{is_expected}
+
+-- the expected ackID stays one of five bits
+expected_below : (what : Arrival) (input : Input) → expected_of input < 32 → expected_of (receives what input).state < 32
+expected_below ExpectedWithRoom (Taking expected) below = omega arith
+expected_below ExpectedWithRoom (RetryStopped expected) below = below
+expected_below ExpectedWithRoom (ErrorStopped expected) below = below
+expected_below ExpectedWithoutRoom (Taking expected) below = below
+expected_below ExpectedWithoutRoom (RetryStopped expected) below = below
+expected_below ExpectedWithoutRoom (ErrorStopped expected) below = below
+expected_below UnexpectedAck (Taking expected) below = below
+expected_below UnexpectedAck (RetryStopped expected) below = below
+expected_below UnexpectedAck (ErrorStopped expected) below = below
+expected_below (Damaged cause) (Taking expected) below = below
+expected_below (Damaged cause) (RetryStopped expected) below = below
+expected_below (Damaged cause) (ErrorStopped expected) below = below
+expected_below RestartFromRetry (Taking expected) below = below
+expected_below RestartFromRetry (RetryStopped expected) below = below
+expected_below RestartFromRetry (ErrorStopped expected) below = below
+expected_below LinkRequest (Taking expected) below = below
+expected_below LinkRequest (RetryStopped expected) below = below
+expected_below LinkRequest (ErrorStopped expected) below = below
+expected_below OtherStype1 (Taking expected) below = below
+expected_below OtherStype1 (RetryStopped expected) below = below
+expected_below OtherStype1 (ErrorStopped expected) below = below
+
+-- a list that has a packet is one of the lists
+list_within : (lists : List (List (List ℕ))) (prio : ℕ) (packet : List ℕ) → slice_get (list_at lists prio) 0 ≡ Some packet → prio < length lists
+list_within lists prio packet is =
+    let some = slice_get_within (list_at lists prio) 0 packet is in
+    elim (cases_lt prio (length lists)) [
+      | inl within ↦ within
+      | inr beyond ↦ let none = ap length (get_or-eq_default lists [] beyond) in absurd (omega arith)
+    ]
+
+-- a packet with room is put into the store
+roomy : (store : Buffered) (packet : List ℕ) → prio_of packet < 4 → room_for store (prio_of packet) ≡ true → IsInStore store → IsInStore (stored true store packet)
+roomy store packet few room is =
+    let less = ltb-true (held store.lists + (3 - prio_of packet)) store.buffers room in
+    IsInStore-appended store.lists store.buffers packet is few (omega arith)
+
+expected_store :
+    (output : Output) (queued : List (List (List ℕ))) (store : Buffered) (ack : ℕ) (packet : List ℕ) (ahead : List Forward) (back : List Backward) (room : Bool)
+    → room_for store (prio_of packet) ≡ room → Covers (prios_of output) queued → IsOutStore queued → IsBetween output (Taking ack) queued (Packet ack packet ∷ ahead) back → IsInStore store
+    → IsInStore (stored (receives (packet_arrival ack ack room) (Taking ack)).held store packet)
+expected_store output queued store ack packet ahead back true room covers four b is =
+    let first = (held_is output ack queued packet ahead back covers four b).first in
+    let long = length-leave (take (distance (oldest_of output) ack) (prios_of output)) queued in
+    let few = list_within (waiting_from output ack queued) (prio_of packet) packet first in
+    rw (eq-eqb ack ack refl) (roomy store packet (omega (arith, four.four)) room is)
+expected_store output queued store ack packet ahead back false room covers four b is = rw (eq-eqb ack ack refl) is
+
+packet_store :
+    (output : Output) (queued : List (List (List ℕ))) (store : Buffered) (input : Input) (ack : ℕ) (packet : List ℕ) (ahead : List Forward) (back : List Backward)
+    → input ≡ Taking ack → Covers (prios_of output) queued → IsOutStore queued → IsBetween output input queued (Packet ack packet ∷ ahead) back → IsInStore store
+    → IsInStore (stored (receives (packet_arrival (expected_of input) ack (room_for store (prio_of packet))) input).held store packet)
+packet_store output queued store input ack packet ahead back same covers four b is =
+    subst (λ (i : Input). IsInStore (stored (receives (packet_arrival (expected_of i) ack (room_for store (prio_of packet))) i).held store packet)) (sym same)
+    (expected_store output queued store ack packet ahead back (room_for store (prio_of packet)) refl covers four
+    (subst (λ (i : Input). IsBetween output i queued (Packet ack packet ∷ ahead) back) same b) is)
+
+shut_store :
+    (same room : Bool) (store : Buffered) (input : Input) (packet : List ℕ) → IsShut (takes_of input)
+    → stored (receives (if same then (if room then ExpectedWithRoom else ExpectedWithoutRoom) else UnexpectedAck) input).held store packet ≡ store
+shut_store same room store (Taking expected) packet shut = absurd shut
+shut_store true true store (RetryStopped expected) packet shut = refl
+shut_store true false store (RetryStopped expected) packet shut = refl
+shut_store false room store (RetryStopped expected) packet shut = refl
+shut_store true true store (ErrorStopped expected) packet shut = refl
+shut_store true false store (ErrorStopped expected) packet shut = refl
+shut_store false room store (ErrorStopped expected) packet shut = refl
+
+dropped_store :
+    (store : Buffered) (input : Input) (ack : ℕ) (packet : List ℕ) (room : Bool) → expects input ack ≡ false
+    → stored (receives (packet_arrival (expected_of input) ack room) input).held store packet ≡ store
+dropped_store store (Taking expected) ack packet room other = rw other refl
+dropped_store store (RetryStopped expected) ack packet room other = shut_store (ack == expected) room store (RetryStopped expected) packet tt
+dropped_store store (ErrorStopped expected) ack packet room other = shut_store (ack == expected) room store (ErrorStopped expected) packet tt
+
+pub turn_port : (a : PortState) → IsPort a → IsPort (turns_to a)
+turn_port a is =
+    let sends = turn_sends a.output a.queued (record { window_is = is.window; covered = is.covered }) in
+    record { window = sends.window_is; covered = sends.covered; expected_ack = is.expected_ack; sends = is.sends; receives = is.receives; bounded = is.bounded }
+
+pub time_out_port : (a : PortState) → IsPort a → IsPort (timed_out a)
+time_out_port a is =
+    let sends = time_out_sends a.output a.queued (record { window_is = is.window; covered = is.covered }) in
+    record { window = sends.window_is; covered = sends.covered; expected_ack = is.expected_ack; sends = is.sends; receives = is.receives; bounded = is.bounded }
+
+pub put_port :
+    (a : PortState) (packet : List ℕ) → prio_of packet < 4 → length (list_at a.queued (prio_of packet)) < 16 → IsPort a → IsPort (record a { queued = appended a.queued (prio_of packet) packet })
+put_port a packet few room is = record {
+  window = is.window;
+  covered = Covers-appended (prios_of a.output) a.queued (prio_of packet) packet is.covered (omega (arith, is.sends.four));
+  expected_ack = is.expected_ack;
+  sends = IsOutStore-appended a.queued packet is.sends few room;
+  receives = is.receives;
+  bounded = is.bounded;
+}
+
+pub read_port : (a : PortState) (received : Buffered) (place : Place) → IsInStore received → IsBounded place.text → IsPort a → IsPort (record a { received = received; place = place })
+read_port a received place store bounded is = record { window = is.window; covered = is.covered; expected_ack = is.expected_ack; sends = is.sends; receives = store; bounded = bounded }
+
+pub acted_port :
+    (a b : PortState) (from_a from_b : List Event) (e : Event) → IsPort a → IsPort b → is_acted a e ≡ true → IsSound a b from_a (e ∷ from_b) → IsPort (acts a e).port
+acted_port a b from_a from_b (Ctl symbol) is far acted s =
+    let sends = heard_sends (stype0 symbol.s0) symbol.p0 a.output b.input a.queued _ _ s.a_to_b (record { window_is = is.window; covered = is.covered }) in
+    record {
+      window = sends.window_is;
+      covered = sends.covered;
+      expected_ack = expected_below (symbol_arrival symbol.s1 symbol.cmd) a.input is.expected_ack;
+      sends = IsOutStore-leave (take (heard a symbol).freed (prios_of a.output)) a.queued (Covers-take (heard a symbol).freed (prios_of a.output) a.queued is.covered) is.sends;
+      receives = is.receives;
+      bounded = is.bounded;
+    }
+acted_port a b from_a from_b (Pkt ack packet) is far acted s = record {
+  window = is.window;
+  covered = is.covered;
+  expected_ack = expected_below (packet_arrival (expected_of a.input) ack (room_for a.received (prio_of packet))) a.input is.expected_ack;
+  sends = is.sends;
+  receives = packet_store b.output b.queued a.received a.input ack packet _ _ (is_expected a.input ack acted) far.covered far.sends s.b_to_a is.receives;
+  bounded = is.bounded;
+}
+acted_port a b from_a from_b (Bad cause) is far acted s = absurd cc
+
+pub other_port : (a : PortState) (e : Event) → IsPort a → is_acted a e ≡ false → IsPort (acts a e).port
+other_port a (Ctl symbol) is other = absurd cc
+other_port a (Pkt ack packet) is other = record {
+  window = is.window;
+  covered = is.covered;
+  expected_ack = expected_below (packet_arrival (expected_of a.input) ack (room_for a.received (prio_of packet))) a.input is.expected_ack;
+  sends = is.sends;
+  receives = subst (λ (store : Buffered). IsInStore store) (sym (dropped_store a.received a.input ack packet (room_for a.received (prio_of packet)) other)) is.receives;
+  bounded = is.bounded;
+}
+other_port a (Bad cause) is other = record {
+  window = is.window;
+  covered = is.covered;
+  expected_ack = expected_below (Damaged (number_of cause)) a.input is.expected_ack;
+  sends = is.sends;
+  receives = is.receives;
+  bounded = is.bounded;
+}
+
+-- a store without a packet
+none_sorted : Sorted no_packets
+none_sorted zero few = All-nil _
+none_sorted (suc zero) few = All-nil _
+none_sorted (suc (suc zero)) few = All-nil _
+none_sorted (suc (suc (suc zero))) few = All-nil _
+none_sorted (suc (suc (suc (suc prio)))) few = absurd (omega arith)
+
+none_within : (prio : ℕ) → prio < 4 → length (list_at no_packets prio) ≤ 16
+none_within zero few = omega arith
+none_within (suc zero) few = omega arith
+none_within (suc (suc zero)) few = omega arith
+none_within (suc (suc (suc zero))) few = omega arith
+none_within (suc (suc (suc (suc prio)))) few = absurd (omega arith)
+
+-- a new port
+pub new_is_port : (buffers : ℕ) → AreBuffers buffers → IsPort (new_port buffers)
+new_is_port buffers is = record {
+  window = nothing_from 0 (omega arith);
+  covered = covers_none no_packets;
+  expected_ack = omega arith;
+  sends = record { four = refl; sorted = none_sorted; within = none_within };
+  receives = record { four = refl; sorted = none_sorted; within = omega (arith, is.0); least = is.0; most = is.1 };
+  bounded = tt;
+}

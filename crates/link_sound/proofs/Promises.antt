@@ -1,0 +1,77 @@
+-- What soundness promises of a sender, and what is not sound.
+use Rattle.std.proofs.Common.{ap, ◌∙◌, [], ◌∷◌, drop, length-drop, ◌≡◌, ◌≢◌, ℕ, ◌≤◌, List, length, subst, arith, map}
+use Rattle.std.proofs.lemmas.Option.{slice_get_within}
+use Rattle.link_buffers.specs.Queues.{no_packets}
+use Rattle.link_buffers.specs.Taking.{Covers}
+use Rattle.link_model.specs.declared.event.Event.{Event}
+use Rattle.link_model.specs.Input.{Input}
+use Rattle.link_model.specs.Output.{Output}
+use Rattle.link_model.specs.Output.Output.{Sending, RetryStopped, Failed}
+use Rattle.link_model.specs.Input.Input.{Taking}
+use Rattle.link_model.specs.Window.{Window, distance, from_ack}
+use Rattle.link_sound.specs.Marks.{Forward, Packet, Backward, Accept, Response}
+use Rattle.link_sound.specs.Kept.{AcceptsInTurn, PacketsInTurn}
+use Rattle.link_port.specs.Ports.{PortState}
+use Rattle.link_port.specs.Windows.{prios_of, expected_of}
+use Rattle.link_sound.specs.Meanings.{forward, backward, oldest_of}
+use Rattle.link_sound.specs.Between.{IsBetween}
+use Rattle.link_sound.specs.Sound.{IsSound}
+use Rattle.link_sound.proofs.Turning.{count_is}
+use Rattle.link_sound.proofs.Plain.{lent_count}
+use Rattle.link_sound.proofs.Freed.{none_lent}
+
+none_failed : (input : Input) (queued : List (List (List ℕ))) (ahead : List Forward) (back : List Backward) → IsBetween Failed input queued ahead back → ⊥
+none_failed input queued ahead back b = b.is.sender
+
+pub not_failed : (a b : PortState) (from_a from_b : List Event) → IsSound a b from_a from_b → a.output ≢ Failed
+not_failed a b from_a from_b s fails =
+    none_failed b.input a.queued (map forward from_a) (map backward from_b)
+    (subst (λ (o : Output). IsBetween o b.input a.queued (map forward from_a) (map backward from_b)) fails s.a_to_b)
+
+lent_within :
+    (output : Output) (input : Input) (queued : List (List (List ℕ))) (ahead : List Forward) (back : List Backward) → Covers (prios_of output) queued
+    → IsBetween output input queued ahead back → distance (oldest_of output) (expected_of input) ≤ length (prios_of output)
+lent_within output input queued ahead back covers b =
+    let total = count_is (prios_of output) queued b.freed b.sent covers (omega (arith, b.is.held_first, b.is.sent_first)) b.outstanding in
+    let far = lent_count output input queued ahead back b in
+    omega (arith, b.is.sent_first)
+
+pub lent_is_outstanding :
+    (a b : PortState) (from_a from_b : List Event) → Covers (prios_of a.output) a.queued → IsSound a b from_a from_b
+    → distance (oldest_of a.output) (expected_of b.input) ≤ length (prios_of a.output)
+lent_is_outstanding a b from_a from_b covers s = lent_within a.output b.input a.queued (map forward from_a) (map backward from_b) covers s.a_to_b
+
+pub none_lent_at_retry :
+    (a b : PortState) (from_a from_b : List Event) (w : Window) → a.output ≡ RetryStopped w → IsSound a b from_a from_b
+    → distance w.oldest (expected_of b.input) ≡ 0
+none_lent_at_retry a b from_a from_b w is s =
+    none_lent w b.input a.queued (map forward from_a) (map backward from_b)
+    (subst (λ (o : Output). IsBetween o b.input a.queued (map forward from_a) (map backward from_b)) is s.a_to_b)
+
+-- a new sender and a new receiver
+abbrev IsNew : List Forward → List Backward → Type 0
+IsNew ahead back = IsBetween (Sending (from_ack 0)) (Taking 0) no_packets ahead back
+
+-- nothing was sent, so none is outstanding
+sent_none : (freed : ℕ) (sent : List (List ℕ)) → freed ≤ length sent → [] ≡ drop freed sent → length sent ≡ freed
+sent_none freed sent below same = let rest = ap length same ∙ length-drop freed sent in omega arith
+
+held_none : {ahead : List Forward} {back : List Backward} (b : IsNew ahead back) → (length b.sent ≡ b.freed) × (b.held ≡ b.freed)
+held_none b =
+    let all = sent_none b.freed b.sent (omega (arith, b.is.held_first, b.is.sent_first)) b.outstanding in
+    (all, omega (arith, b.is.held_first, b.is.sent_first))
+
+no_acks : (freed held ack : ℕ) (back : List Backward) → held ≡ freed → AcceptsInTurn freed held (Accept ack ∷ back) → ⊥
+no_acks freed held ack back same (n, is, from, within, rest) = omega arith
+
+pub none_accepted : (ack : ℕ) → IsNew [] (Accept ack ∷ []) → ⊥
+none_accepted ack b = no_acks b.freed b.held ack [] (held_none b).1 b.is.accepts
+
+pub none_answered : (ack : ℕ) → IsNew [] (Response ack ∷ []) → ⊥
+none_answered ack b = let none = b.is.sender.1.0 in absurd cc
+
+no_flight : (sent : List (List ℕ)) (held ack : ℕ) (packet : List ℕ) → length sent ≡ held → PacketsInTurn sent held (Packet ack packet ∷ []) → ⊥
+no_flight sent held ack packet all (n, is, from, found, rest) = let within = slice_get_within sent n packet found in omega arith
+
+pub none_sent : (packet : List ℕ) → IsNew (Packet 0 packet ∷ []) [] → ⊥
+none_sent packet b = no_flight b.sent b.held 0 packet (omega (arith, (held_none b).0, (held_none b).1)) b.is.receiver.1

@@ -1,0 +1,14 @@
+use Rattle.link_sound.proofs.Steps.{turn_keeps, acted_keeps, other_keeps, time_out_keeps}
+use Rattle.link_sound.proofs.laws.steps_keep_it.Goals as goal
+
+pub returns-clause-turn : goal.returns-clause-turn
+returns-clause-turn c = turn_keeps
+
+pub returns-clause-acted : goal.returns-clause-acted
+returns-clause-acted c = acted_keeps
+
+pub returns-clause-other : goal.returns-clause-other
+returns-clause-other c = other_keeps
+
+pub returns-clause-time_out : goal.returns-clause-time_out
+returns-clause-time_out c = time_out_keeps

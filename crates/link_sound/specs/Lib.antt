@@ -1,0 +1,9 @@
+pub mod Marks
+pub mod Kept
+pub mod Direction
+pub mod Meanings
+pub mod Between
+pub mod Sound
+pub mod Lent
+pub mod Histories
+pub mod Worked

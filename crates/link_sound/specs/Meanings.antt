@@ -1,0 +1,66 @@
+-- What events and the states of a port mean for a direction (RapidIO Interconnect Specification 1.3, Part 6, control
+-- symbols): packets and stype1 of a symbol go to the receiver, stype0 goes back to the sender.
+use Rattle.std.specs.Prelude.{ℕ, true, false, Option, Some, None, List, [], ◌∷◌}
+use Rattle.rio_symbols.specs.Fields.{Fields}
+use Rattle.link_model.specs.declared.event.Event.{Event}
+use Rattle.link_model.specs.declared.event.Event.TheVariants.{Ctl, Pkt, Bad}
+use Rattle.link_model.specs.Input as in_half
+use Rattle.link_model.specs.Output as out
+use Rattle.link_sound.specs.Marks.{Forward, Packet, Restart, Request, Other, Backward, Accept, Retry, Response, Neutral}
+use Rattle.link_sound.specs.Direction as way
+
+abbrev pub asks : in_half.Arrival → Forward
+asks in_half.Arrival.ExpectedWithRoom = Other
+asks in_half.Arrival.ExpectedWithoutRoom = Other
+asks in_half.Arrival.UnexpectedAck = Other
+asks (in_half.Arrival.Damaged cause) = Other
+asks in_half.Arrival.RestartFromRetry = Restart
+asks in_half.Arrival.LinkRequest = Request
+asks in_half.Arrival.OtherStype1 = Other
+
+abbrev pub tells : out.Stype0 → ℕ → Backward
+tells out.Stype0.PacketAccepted ack = Accept ack
+tells out.Stype0.PacketRetry ack = Retry ack
+tells out.Stype0.PacketNotAccepted ack = Neutral
+tells out.Stype0.LinkResponse ack = Response ack
+tells out.Stype0.OtherStype0 ack = Neutral
+
+-- what an event means on its way to the receiver
+abbrev pub forward : Event → Forward
+forward (Ctl symbol) = asks (in_half.symbol_arrival symbol.s1 symbol.cmd)
+forward (Pkt ack packet) = Packet ack packet
+forward (Bad cause) = Other
+
+-- what an event means on its way back to the sender
+abbrev pub backward : Event → Backward
+backward (Ctl symbol) = tells (out.stype0 symbol.s0) symbol.p0
+backward (Pkt ack packet) = Neutral
+backward (Bad cause) = Neutral
+
+abbrev pub sends_of : out.Output → way.Sends
+sends_of (out.Output.Sending w) = way.Sends.Sending
+sends_of (out.Output.RetryStopped w) = way.Sends.RetryStopped
+sends_of (out.Output.ErrorStopped false w) = way.Sends.Unasked
+sends_of (out.Output.ErrorStopped true w) = way.Sends.Asked
+sends_of out.Output.Failed = way.Sends.Failed
+
+abbrev pub takes_of : in_half.Input → way.Takes
+takes_of (in_half.Input.Taking expected) = way.Takes.Taking
+takes_of (in_half.Input.RetryStopped expected) = way.Takes.Refusing
+takes_of (in_half.Input.ErrorStopped expected) = way.Takes.Broken
+
+-- the ackID of the oldest packet that is not acknowledged; a sender that has failed knows of none
+abbrev pub oldest_of : out.Output → ℕ
+oldest_of (out.Output.Sending w) = w.oldest
+oldest_of (out.Output.RetryStopped w) = w.oldest
+oldest_of (out.Output.ErrorStopped asked w) = w.oldest
+oldest_of out.Output.Failed = 0
+
+-- what a reply means, on its way to the receiver and on its way back to the sender
+abbrev pub reply_forward : Option Fields → List Forward
+reply_forward None = []
+reply_forward (Some symbol) = forward (Ctl symbol) ∷ []
+
+abbrev pub reply_backward : Option Fields → List Backward
+reply_backward None = []
+reply_backward (Some symbol) = backward (Ctl symbol) ∷ []

@@ -1,0 +1,11 @@
+-- A packet's way between two ports, worked through.
+use Rattle.std.specs.Prelude.{ℕ, List, [], ◌∷◌}
+use Rattle.link_sound.specs.Histories.{Journeys}
+
+-- a packet of priority 0
+abbrev pub packet : List ℕ
+packet = 0x00 ∷ 0x0f ∷ 0x02 ∷ 0x01 ∷ 0xde ∷ 0xb2 ∷ 0x00 ∷ 0x00 ∷ []
+
+-- it was put, held and freed
+abbrev pub arrived : Journeys
+arrived = record { put = packet ∷ []; held = packet ∷ []; freed = packet ∷ [] }

@@ -1,0 +1,29 @@
+//! Whole histories of two ports of a link.
+
+ghost use Rattle.std.specs.Prelude.{◌≡◌, ◌≢◌, ℕ};
+ghost use Rattle.link_model.specs.Output as out;
+ghost use Rattle.link_port.specs.Ports.{IsPort};
+ghost use Rattle.link_sound.specs.Histories.{Link, AreBuffers, new_link, IsHistory, AreCarried};
+ghost use Rattle.link_sound.specs.Sound.{IsSound};
+ghost use Rattle.link_sound.specs.Worked.{arrived};
+
+/// After every history from two new ports, of any number of turns, events, losses, time-outs and packets put and taken, where each
+/// event that is acted on is one that the far port has sent: both are as every port is, they are sound, and no sender has
+/// failed. Of each priority the packets put at one port are those that
+/// the other has held, in order and each once, and then those that still wait; and those held are the packets that the
+/// first has freed, in order, and then those lent. So no packet is held twice, none is lost, and none is freed before it
+/// is held.
+pub fn every_history_carries_packets()
+    ensures carried { (m n : ℕ) (l : Link) → AreBuffers m → AreBuffers n → IsHistory (new_link m n) l
+        → AreCarried l.of_a l.a l.b × AreCarried l.of_b l.b l.a }
+    ensures sound { (m n : ℕ) (l : Link) → AreBuffers m → AreBuffers n → IsHistory (new_link m n) l → IsSound l.a l.b l.from_a l.from_b }
+    ensures ports { (m n : ℕ) (l : Link) → AreBuffers m → AreBuffers n → IsHistory (new_link m n) l → IsPort l.a × IsPort l.b }
+    ensures failed { (m n : ℕ) (l : Link) → AreBuffers m → AreBuffers n → IsHistory (new_link m n) l
+        → (l.a.output ≢ out.Output.Failed) × (l.b.output ≢ out.Output.Failed) }
+{}
+
+/// A history of two new ports, so that the law above is not empty: a packet is put at the one, sent between its two
+/// symbols, held by the other and accepted, and freed.
+pub fn worked_history()
+    ensures { (end : Link) × IsHistory (new_link 4 4) end × (end.of_a ≡ arrived) }
+{}
