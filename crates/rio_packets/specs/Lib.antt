@@ -5,3 +5,4 @@ pub mod Making
 pub mod Fields
 pub mod Carries
 pub mod CauseNumbers
+pub mod Hops

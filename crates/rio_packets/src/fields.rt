@@ -1,6 +1,7 @@
 //! The fields at the front of a packet.
 ghost use Rattle.std.specs.Prelude.{◌≡◌, ◌-◌, ◌<◌, ◌≤◌, IsSomeAnd, take};
 ghost use Rattle.rio_packets.specs.Fields.{prio_of, tt_of, ftype_of, dest_of, source_of, hop_of, is_maintenance, Lowered};
+ghost use Rattle.rio_packets.specs.Hops.{lowered};
 ghost use Rattle.arrayvec.specs.ArrayVec.{array_vec_len};
 ghost use Rattle.rio_packets.specs.Making.{with_crc};
 
@@ -84,7 +85,8 @@ impl Packet {
     /// Lowers the hop count of a maintenance packet by one, and makes the CRC at its end again.
     pub fn lower_hop(&mut self)
         requires { IsSomeAnd (hop_of self.old) (λ hop. 1 ≤ hop) }
-        ensures { Lowered self.old self.new }
+        ensures lowers { Lowered self.old self.new }
+        ensures value { self.new ≡ lowered self.old }
     {
         self.form[6] -= 1;
         renew_crc(&mut self.form);

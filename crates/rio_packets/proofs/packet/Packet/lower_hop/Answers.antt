@@ -1,6 +1,8 @@
 use Rattle.std.proofs.Common.{◌≡◌, ℕ, ◌-◌, List, set, get_or, length, take, drop, ap, ◌∙◌, subst, length-set, take_at}
 use Rattle.std.specs.List.{refill}
 use Rattle.rio_packets.specs.Making.{with_crc}
+use Rattle.rio_packets.specs.Hops.{closed}
+use Rattle.rio_packets.proofs.StepLaws.{with_crc-is}
 use Rattle.rio_packets.specs.LinkForm.{Passes}
 use Rattle.rio_packets.proofs.LowerLaws.{hop_known, Passes-lowered, Lowered-renewed}
 use Rattle.rio_packets.proofs.packet.Packet.lower_hop.Goals as goal
@@ -28,10 +30,17 @@ invariant_of-self c =
     Passes-lowered old passing known.0 known.1 c.renew_crc.new.form.items
     (renewed old c.self.inside.form.items c.deref_mut.result.now c.renew_crc.new.form.items c.self.view_is c.deref_mut.ensures.value c.renew_crc.ensures)
 
-pub returns : goal.returns
-returns c =
+pub returns-clause-lowers : goal.returns-clause-lowers
+returns-clause-lowers c =
     let old = c.args.self.now in
     let known = hop_known old c.requires in
     let passing : Passes old = subst Passes c.self.view_is c.self.invariant in
     Lowered-renewed old passing known.0 known.1 c.renew_crc.new.form.items
     (renewed old c.self.inside.form.items c.deref_mut.result.now c.renew_crc.new.form.items c.self.view_is c.deref_mut.ensures.value c.renew_crc.ensures)
+
+pub returns-clause-value : goal.returns-clause-value
+unfolding closed
+returns-clause-value c =
+    let old = c.args.self.now in
+    renewed old c.self.inside.form.items c.deref_mut.result.now c.renew_crc.new.form.items c.self.view_is c.deref_mut.ensures.value c.renew_crc.ensures
+    ∙ with_crc-is (take (length old - 2) (with_less old))
