@@ -2,6 +2,7 @@
 use Rattle.std.specs.Prelude.{◌≡◌, ℕ, suc, ◌⊎◌, ◌≤◌, nat_lt, Bool, true, false, List, [], ◌∷◌, ◌++◌, length, Option, Some, None}
 use Rattle.rio_chars.specs.declared.chars.Char.{Char}
 use Rattle.rio_symbols.specs.declared.characters.Delimiter.{Delimiter}
+use Rattle.rio_symbols.specs.declared.stype1.TheConstants.{START_OF_PACKET, END_OF_PACKET}
 use Rattle.rio_symbols.specs.Delimiters.{allowed}
 use Rattle.rio_symbols.specs.Fields.{Fields}
 use Rattle.rio_symbols.specs.Spelling.{spelled}
@@ -120,7 +121,8 @@ abbrev pub AreGiven : List Event → Type 0
 AreGiven [] = Unit {0}
 AreGiven (e ∷ []) = Unit {0}
 AreGiven (e ∷ x ∷ []) =
-    (bytes : List ℕ) × (symbol : Fields) × (e ≡ packet_event bytes) × (x ≡ Ctl symbol) × ((symbol.s1 ≡ 0) ⊎ (symbol.s1 ≡ 2))
+    (bytes : List ℕ) × (symbol : Fields) × (e ≡ packet_event bytes) × (x ≡ Ctl symbol)
+    × ((symbol.s1 ≡ START_OF_PACKET) ⊎ (symbol.s1 ≡ END_OF_PACKET))
 AreGiven (e ∷ x ∷ y ∷ es) = ⊥
 
 -- a packet in progress has at most 276 bytes

@@ -4,6 +4,7 @@
 use Rattle.std.specs.Prelude.{◌≡◌, ℕ, suc, ◌+◌, ◌<◌, ◌≤◌, ◌==◌, nat_le, Bool, true, false, IsTrue, List, [], ◌∷◌, ◌++◌, length, map, if◌then◌else◌, ◌||◌}
 use Rattle.rio_chars.specs.declared.chars.Char.{Char}
 use Rattle.rio_symbols.specs.declared.characters.Delimiter.{Delimiter}
+use Rattle.rio_symbols.specs.declared.stype1.TheConstants.{START_OF_PACKET, END_OF_PACKET, LINK_REQUEST}
 use Rattle.rio_symbols.specs.Delimiters.{allowed}
 use Rattle.rio_symbols.specs.Fields.{Fields}
 use Rattle.rio_symbols.specs.Spelling.{Spells}
@@ -29,7 +30,8 @@ IsOpen (Within bytes) = Unit {0}
 -- The text after a symbol, by its stype1: start-of-packet begins a packet; stomp, end-of-packet, restart-from-retry and
 -- link-request end one; any other symbol may stand in a packet, which goes on.
 abbrev pub text_after : Text → ℕ → Text
-text_after text s1 = if s1 == 0 then Within [] else (if nat_le s1 4 then Plain else text)
+text_after text s1 =
+    if s1 == START_OF_PACKET then Within [] else (if nat_le s1 LINK_REQUEST then Plain else text)
 
 -- the event of a packet that ends here
 abbrev pub ended : Text → List Event
@@ -39,7 +41,7 @@ ended (Within bytes) = packet_event bytes ∷ []
 
 -- whether a symbol ends a packet that is to be delivered: start-of-packet and end-of-packet do
 abbrev pub ends_packet : ℕ → Bool
-ends_packet s1 = (s1 == 0) || (s1 == 2)
+ends_packet s1 = (s1 == START_OF_PACKET) || (s1 == END_OF_PACKET)
 
 -- The events of a symbol: that of the packet that it ends, and its own.
 abbrev pub told : Text → Fields → List Event

@@ -1,6 +1,7 @@
 //! What holds of every reading of characters. The calls do nothing: their clauses are the laws.
 ghost use Rattle.std.specs.Prelude.{◌≡◌, ℕ, ◌+◌, ◌<◌, ◌↔◌, nat_lt, true, false, List, [], ◌∷◌, ◌++◌, length, filter, map, ◌≤◌};
 ghost use Rattle.rio_chars.specs.declared.chars.Char.{Char};
+ghost use Rattle.rio_symbols.specs.declared.stype1.TheConstants.{START_OF_PACKET, END_OF_PACKET};
 ghost use Rattle.rio_symbols.specs.Fields.{Fields, InRange};
 ghost use Rattle.rio_packets.specs.LinkForm.{Passes};
 ghost use Rattle.rio_packets.specs.Carries.{Carries};
@@ -55,11 +56,11 @@ pub fn spelling_is_read()
         → place_after (place text Pending.Nothing) (symbol_chars_of s) ≡ place (text_after text s.s1) Pending.Nothing }
 
     ensures packet { (text : Text) (at n : ℕ) (first : Fields) (ack : ℕ) (packet : List ℕ) (last : Fields) → IsOpen text
-        → InRange first → first.s1 ≡ 0 → ack < 32 → Passes packet → InRange last → last.s1 ≡ 2 → n ≡ at + 7 + length packet
+        → InRange first → first.s1 ≡ START_OF_PACKET → ack < 32 → Passes packet → InRange last → last.s1 ≡ END_OF_PACKET → n ≡ at + 7 + length packet
         → run (place text Pending.Nothing) at (packet_chars_of first ack packet last)
         ≡ placed (at + 3) (told text first) ++ (n, Event.Pkt ack packet) ∷ (n, Event.Ctl last) ∷ [] }
     ensures after_packet { (text : Text) (first : Fields) (ack : ℕ) (packet : List ℕ) (last : Fields) → IsOpen text
-        → InRange first → first.s1 ≡ 0 → ack < 32 → Passes packet → InRange last → last.s1 ≡ 2
+        → InRange first → first.s1 ≡ START_OF_PACKET → ack < 32 → Passes packet → InRange last → last.s1 ≡ 2
         → place_after (place text Pending.Nothing) (packet_chars_of first ack packet last) ≡ start }
 {}
 

@@ -5,7 +5,7 @@ ghost use Rattle.link_model.specs.Symbols as symbols;
 ghost use Rattle.link_model.specs.PortStatuses.{status_of};
 
 use rio_packets::{Cause, cause_number};
-use rio_symbols::Symbol;
+use rio_symbols::{Symbol, cmd, stype0, stype1};
 
 /// The buffer status of a port that does not tell its free buffers: receiver-controlled flow control.
 const UNTOLD: u8 = 31;
@@ -26,7 +26,7 @@ pub fn packet_accepted(ack: u8) -> Symbol
     requires { ack < 32 }
     ensures { result ≡ symbols.packet_accepted ack }
 {
-    answer(0, ack, UNTOLD)
+    answer(stype0::PACKET_ACCEPTED, ack, UNTOLD)
 }
 
 /// The packet with this ackID has to be sent again.
@@ -34,7 +34,7 @@ pub fn packet_retry(ack: u8) -> Symbol
     requires { ack < 32 }
     ensures { result ≡ symbols.packet_retry ack }
 {
-    answer(1, ack, UNTOLD)
+    answer(stype0::PACKET_RETRY, ack, UNTOLD)
 }
 
 /// An error, where the next packet that is expected has this ackID.
@@ -42,7 +42,7 @@ pub fn packet_not_accepted(expected: u8, cause: Cause) -> Symbol
     requires { expected < 32 }
     ensures { result ≡ symbols.packet_not_accepted expected (number_of cause) }
 {
-    answer(2, expected, cause_number(cause))
+    answer(stype0::PACKET_NOT_ACCEPTED, expected, cause_number(cause))
 }
 
 /// The answer to a link-request: the ackID that is expected next, and the state of the input before it.
@@ -55,7 +55,7 @@ pub fn link_response(expected: u8, status: PortStatus) -> Symbol
         PortStatus::ErrorStopped => 5,
         PortStatus::Ok => 16,
     };
-    answer(6, expected, port_status)
+    answer(stype0::LINK_RESPONSE, expected, port_status)
 }
 
 /// Status with start-of-packet, from a port that expects this ackID.
@@ -63,7 +63,7 @@ pub fn start_of_packet(expected: u8) -> Symbol
     requires { expected < 32 }
     ensures { result ≡ symbols.start_of_packet expected }
 {
-    status_with(expected, 0, 0)
+    status_with(expected, stype1::START_OF_PACKET, 0)
 }
 
 /// Status with end-of-packet.
@@ -71,7 +71,7 @@ pub fn end_of_packet(expected: u8) -> Symbol
     requires { expected < 32 }
     ensures { result ≡ symbols.end_of_packet expected }
 {
-    status_with(expected, 2, 0)
+    status_with(expected, stype1::END_OF_PACKET, 0)
 }
 
 /// Status with restart-from-retry.
@@ -79,7 +79,7 @@ pub fn restart_from_retry(expected: u8) -> Symbol
     requires { expected < 32 }
     ensures { result ≡ symbols.restart_from_retry expected }
 {
-    status_with(expected, 3, 0)
+    status_with(expected, stype1::RESTART_FROM_RETRY, 0)
 }
 
 /// Status with link-request input-status.
@@ -87,7 +87,7 @@ pub fn link_request(expected: u8) -> Symbol
     requires { expected < 32 }
     ensures { result ≡ symbols.link_request expected }
 {
-    status_with(expected, 4, 4)
+    status_with(expected, stype1::LINK_REQUEST, cmd::INPUT_STATUS)
 }
 
 /// A symbol with this stype0 and its parameters, and NOP.
@@ -101,7 +101,7 @@ fn answer(s0: u8, p0: u8, p1: u8) -> Symbol
         s0,
         p0,
         p1,
-        s1: 7,
+        s1: stype1::NOP,
         cmd: 0,
     }
 }
@@ -114,7 +114,7 @@ fn status_with(expected: u8, s1: u8, cmd: u8) -> Symbol
     ensures { result ≡ symbols.status_with expected s1 cmd }
 {
     Symbol {
-        s0: 4,
+        s0: stype0::STATUS,
         p0: expected,
         p1: UNTOLD,
         s1,

@@ -1,5 +1,6 @@
 -- The events of one character, as a list of at most two.
 use Rattle.std.specs.Prelude.{◌≡◌, ℕ, ◌⊎◌, List, [], ◌∷◌, Option, Some, None}
+use Rattle.rio_symbols.specs.declared.stype1.TheConstants.{START_OF_PACKET, END_OF_PACKET}
 use Rattle.rio_symbols.specs.Fields.{Fields}
 use Rattle.link_model.specs.declared.event.Event.{Event}
 use Rattle.link_model.specs.declared.event.Event.TheVariants.{Ctl, Pkt, Bad}
@@ -28,4 +29,5 @@ events_of (e ∷ x ∷ es) = record { first = Some e; second = symbol_of x }
 abbrev pub IsPaired : Option Event → Option Fields → Type 0
 IsPaired first None = Unit {0}
 IsPaired None (Some symbol) = ⊥
-IsPaired (Some event) (Some symbol) = ((bytes : List ℕ) × (event ≡ packet_event bytes)) × ((symbol.s1 ≡ 0) ⊎ (symbol.s1 ≡ 2))
+IsPaired (Some event) (Some symbol) =
+    ((bytes : List ℕ) × (event ≡ packet_event bytes)) × ((symbol.s1 ≡ START_OF_PACKET) ⊎ (symbol.s1 ≡ END_OF_PACKET))

@@ -1,6 +1,5 @@
 //! The framer.
 ghost use Rattle.std.specs.Prelude.{◌≡◌, ◌≤◌, ℕ, List, [], ◌∷◌, if◌then◌else◌};
-ghost use Rattle.rio_symbols.specs.Delimiters.{allowed};
 ghost use Rattle.link_model.specs.ReadingKinds.{kind as kind_of};
 
 use crate::events::{Events, packet_event};
@@ -8,7 +7,7 @@ use arrayvec::ArrayVec;
 use link_model::{Event, Kind, Pending, char_kind};
 use rio_chars::Char;
 use rio_packets::{Cause, MAX_BYTES};
-use rio_symbols::{Delimiter, Symbol, from_bytes};
+use rio_symbols::{Delimiter, Symbol, from_bytes, stype1};
 use std::marker::Model;
 
 /// What is read, apart from a symbol in progress.
@@ -252,7 +251,7 @@ impl Framer {
     {
         match from_bytes(&bytes) {
             Ok(symbol) => {
-                if allows(delimiter, &symbol) {
+                if symbol.may_follow(delimiter) {
                     self.read(symbol)
                 } else {
                     self.skip(Cause::General)
@@ -285,8 +284,10 @@ impl Framer {
     fn ended_by(&self, s1: u8) -> Option<Event>
         ensures { option_to_list result ≡ (if ends_packet s1 then ended_in self.now.text else []) }
     {
-        match self.mode {
-            Mode::InPacket if s1 == 0 || s1 == 2 => Some(packet_event(self.bytes.as_slice())),
+        match (self.mode, s1) {
+            (Mode::InPacket, stype1::START_OF_PACKET | stype1::END_OF_PACKET) => {
+                Some(packet_event(self.bytes.as_slice()))
+            }
             _ => None,
         }
     }
@@ -297,11 +298,11 @@ impl Framer {
     {
         self.pending = Pending::Nothing;
         match s1 {
-            0 => {
+            stype1::START_OF_PACKET => {
                 self.bytes.clear();
                 self.mode = Mode::InPacket;
             }
-            1..=4 => self.mode = Mode::Outside,
+            stype1::STOMP..=stype1::LINK_REQUEST => self.mode = Mode::Outside,
             _ => {}
         }
     }
@@ -319,15 +320,5 @@ impl Framer {
             bytes,
             pending: self.pending,
         }
-    }
-}
-
-/// Whether a symbol is taken after this delimiter.
-fn allows(delimiter: Delimiter, symbol: &Symbol) -> bool
-    ensures { result ≡ allowed delimiter symbol.now }
-{
-    match delimiter {
-        Delimiter::Pd => symbol.s1 <= 4,
-        Delimiter::Sc => 3 <= symbol.s1 && symbol.s1 <= 7,
     }
 }

@@ -1,6 +1,7 @@
 //! What is sent.
 ghost use Rattle.std.specs.Prelude.{◌≡◌, ◌+◌, ◌<◌, ◌≤◌, ◌++◌, length};
 ghost use Rattle.arrayvec.specs.ArrayVec.{array_vec_len};
+ghost use Rattle.rio_symbols.specs.declared.stype1.TheConstants.{START_OF_PACKET, END_OF_PACKET};
 ghost use Rattle.link_model.specs.ReadingSpelt.{delimiter_char, data_chars, symbol_chars_of, packet_chars_of};
 
 use arrayvec::ArrayVec;
@@ -26,8 +27,8 @@ pub fn symbol_chars(symbol: &Symbol) -> ArrayVec<Char, 4>
 /// (RapidIO Interconnect Specification 1.3, Part 6, packet delimiting): 16 to 284 characters.
 pub fn packet_chars(start: &Symbol, ack: u8, packet: &Packet, end: &Symbol) -> ArrayVec<Char, 284>
     requires ack { ack < 32 }
-    requires start { start.now.s1 ≡ 0 }
-    requires end { end.now.s1 ≡ 2 }
+    requires start { start.now.s1 ≡ START_OF_PACKET }
+    requires end { end.now.s1 ≡ END_OF_PACKET }
     ensures { result.items ≡ packet_chars_of start.now ack packet.now end.now }
 {
     let mut chars = ArrayVec::new();

@@ -2,13 +2,15 @@
 use Rattle.std.specs.Prelude.{nat_le, ◌&&◌, if◌then◌else◌, Bool}
 use Rattle.rio_symbols.specs.declared.characters.Delimiter.{Delimiter}
 use Rattle.rio_symbols.specs.declared.characters.Delimiter.TheVariants.{Sc, Pd}
+use Rattle.rio_symbols.specs.declared.stype1.TheConstants.{LINK_REQUEST, RESTART_FROM_RETRY, NOP}
 use Rattle.rio_symbols.specs.Fields.{Fields}
 
--- what a receiver takes: PD with stype1 0 to 4, and SC with stype1 3 to 7
+-- Which symbols may follow a delimiter: PD is for the bounds of packets, up to link-request, and SC for the
+-- rest, from restart-from-retry on. Restart-from-retry and link-request may follow either.
 abbrev pub allowed : Delimiter → Fields → Bool
-allowed Pd symbol = nat_le symbol.s1 4
-allowed Sc symbol = nat_le 3 symbol.s1 && nat_le symbol.s1 7
+allowed Pd symbol = nat_le symbol.s1 LINK_REQUEST
+allowed Sc symbol = nat_le RESTART_FROM_RETRY symbol.s1 && nat_le symbol.s1 NOP
 
--- what this project's sender puts before a symbol: PD up to stype1 2, else SC
+-- what this project's sender puts before a symbol: SC where it may stand, else PD
 abbrev pub delimiter_of : Fields → Delimiter
-delimiter_of symbol = if (nat_le symbol.s1 2) then Pd else Sc
+delimiter_of symbol = if allowed Sc symbol then Sc else Pd

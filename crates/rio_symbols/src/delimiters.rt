@@ -3,20 +3,36 @@ ghost use Rattle.rio_symbols.specs.Delimiters.{allowed, delimiter_of};
 ghost use Rattle.rio_symbols.specs.Fields.{Fields, InRange};
 
 use crate::characters::Delimiter;
+use crate::stype1;
 use crate::symbol::Symbol;
 
-/// The delimiter that this project's sender puts before a symbol: PD for stype1 0 to 2, and SC for 3
-/// to 7. That a symbol of stype1 3 or 4 always comes with SC is this project's profile.
+impl Symbol {
+    /// Whether a receiver takes the symbol behind this delimiter, within a packet or not: PD with stype1 0
+    /// to 4, SC with 3 to 7. That both may come with 3 and 4 is this project's profile.
+    pub fn may_follow(&self, delimiter: Delimiter) -> bool
+        ensures value { result ≡ allowed delimiter self.now }
+        ensures pd { delimiter ≡ Delimiter.Pd → (IsTrue result ↔ (self.now.s1 ≤ 4)) }
+        ensures sc { delimiter ≡ Delimiter.Sc → (IsTrue result ↔ (3 ≤ self.now.s1)) }
+    {
+        match delimiter {
+            Delimiter::Pd => self.s1 <= stype1::LINK_REQUEST,
+            Delimiter::Sc => stype1::RESTART_FROM_RETRY <= self.s1 && self.s1 <= stype1::NOP,
+        }
+    }
+}
+
+/// The delimiter that this project's sender puts before a symbol: SC where it may stand, which is with stype1
+/// 3 to 7, and else PD.
 pub fn delimiter(symbol: &Symbol) -> Delimiter
     ensures value { result ≡ delimiter_of symbol.now }
     ensures pd { (result ≡ Delimiter.Pd) ↔ (symbol.now.s1 ≤ 2) }
     ensures sc { (result ≡ Delimiter.Sc) ↔ (3 ≤ symbol.now.s1) }
     ensures is_allowed { IsTrue (allowed result symbol.now) }
 {
-    if symbol.s1 <= 2 {
-        Delimiter::Pd
-    } else {
+    if symbol.may_follow(Delimiter::Sc) {
         Delimiter::Sc
+    } else {
+        Delimiter::Pd
     }
 }
 

@@ -6,6 +6,7 @@
 //! changed symbol is always refused (five bits of CRC cannot promise it).
 //!
 //! - `Symbol`: the five fields, each within its width.
+//! - `stype0`, `stype1`, `cmd`: the names of what these fields say.
 //! - `crc5`: the CRC of the fields.
 //! - `to_bytes`, `from_bytes`, `BadCrc`: the spelling, in both directions.
 //! - `Delimiter`, `delimiter`: the special character that is sent before a symbol.
@@ -15,9 +16,12 @@
 #![tactic(auto)]
 
 mod characters;
+pub mod cmd;
 mod crc;
 mod delimiters;
 mod spelling;
+pub mod stype0;
+pub mod stype1;
 mod symbol;
 #[cfg(test)]
 mod tests;
