@@ -1,0 +1,45 @@
+-- What is read in a register, and what a write makes of it.
+use Rattle.std.specs.Prelude.{ℕ, ◌+◌, ◌*◌, ◌/◌, ◌%◌, ◌==◌, Option, Some, None, option_map, slice_index, slice_set, if◌then◌else◌}
+use Rattle.std.specs.Option.{option_and_then}
+use Rattle.maint_registers.specs.declared.table.Register.{Register}
+use Rattle.maint_registers.specs.declared.table.Register.TheVariants.{Fixed, PortInformation, BaseId, HostLock, ComponentTag, RouteSelect, RouteEntry, DefaultPort}
+use Rattle.maint_registers.specs.Devices.{Device}
+use Rattle.maint_registers.specs.Table.{register_at}
+
+-- what a request that came to a port reads in a register; bits without a meaning are 0
+abbrev pub value_of : Device → ℕ → Register → ℕ
+value_of device port (Fixed value) = value
+value_of device port PortInformation = device.ports * 0x100 + port
+value_of device port BaseId = device.base_id * 0x10000
+value_of device port HostLock = device.lock
+value_of device port ComponentTag = device.tag
+value_of device port RouteSelect = device.select
+value_of device port RouteEntry = slice_index device.routes device.select
+value_of device port DefaultPort = device.default_port
+
+-- what it reads at an offset, if a register stands there
+abbrev pub value_at : Device → ℕ → ℕ → Option ℕ
+value_at device offset port = option_map (value_of device port) (register_at device offset)
+
+-- The lock after the ID of a host is written to it: a free lock is taken, the holder's own ID frees it, and any other ID
+-- leaves it.
+abbrev pub locked : ℕ → ℕ → ℕ
+locked lock id = if lock == 0xffff then id else (if lock == id then 0xffff else lock)
+
+-- the device after a write to a register, if that can be written
+abbrev pub written_to : Device → ℕ → Register → Option Device
+written_to device value (Fixed shown) = None
+written_to device value PortInformation = None
+written_to device value BaseId = Some (record device { base_id = value / 0x10000 % 0x100 })
+written_to device value HostLock =
+    Some (record device { lock = locked device.lock (value % 0x10000) })
+written_to device value ComponentTag = Some (record device { tag = value })
+written_to device value RouteSelect = Some (record device { select = value % 0x100 })
+written_to device value RouteEntry =
+    Some (record device { routes = slice_set device.routes device.select (value % 0x100) })
+written_to device value DefaultPort = Some (record device { default_port = value % 0x100 })
+
+-- the device after a write to an offset, if a register stands there that can be written
+abbrev pub written_at : Device → ℕ → ℕ → Option Device
+written_at device offset value =
+    option_and_then (written_to device value) (register_at device offset)

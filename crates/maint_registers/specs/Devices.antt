@@ -1,0 +1,64 @@
+-- What the registers of a device hold, as contracts see them.
+use Rattle.std.specs.Prelude.{◌≡◌, ℕ, ◌<◌, ◌≤◌, Bool, true, false, List, length, replicate, if◌then◌else◌}
+use Rattle.maint_registers.specs.declared.registers.Kind.{Kind}
+use Rattle.maint_registers.specs.declared.registers.Kind.TheVariants.{Endpoint, Switch}
+
+-- `ports` is how many ports there are, 1 for an endpoint. Bit n of `linked`, from the lowest, tells whether port n has a
+-- link. `base_id` is an endpoint's own ID. `lock` is the ID of the host that holds the device, or 0xffff where none does.
+-- `routes` has the entry of each destination from 0 to 255; entry and default port count for a switch alone, and `select`
+-- is the destination whose entry can be read and written.
+pub record Device : Type 0 where
+  pub kind : Kind
+  pub ports : ℕ
+  pub linked : ℕ
+  pub base_id : ℕ
+  pub lock : ℕ
+  pub tag : ℕ
+  pub select : ℕ
+  pub routes : List ℕ
+  pub default_port : ℕ
+
+-- what is true of the registers of every device
+pub record IsDevice (device : Device) : Type 0 where
+  pub most_ports : device.ports ≤ 16
+  pub destinations : length device.routes ≡ 256
+  pub selected : device.select < 256
+
+abbrev pub is_switch : Device → Bool
+is_switch device = is_kind device.kind
+  where
+    is_kind : Kind → Bool
+    is_kind Endpoint = false
+    is_kind Switch = true
+
+-- no destination has an entry
+unfoldable pub no_routes : List ℕ
+no_routes = replicate 256 255
+
+-- an endpoint at first: nobody holds it, and its tag is 0
+abbrev pub new_endpoint : ℕ → Bool → Device
+new_endpoint id linked = record {
+  kind = Endpoint;
+  ports = 1;
+  linked = (if linked then 1 else 0);
+  base_id = id;
+  lock = 0xffff;
+  tag = 0;
+  select = 0;
+  routes = no_routes;
+  default_port = 255;
+}
+
+-- a switch at first: nobody holds it, its tag is 0, and it discards every packet
+abbrev pub new_switch : ℕ → ℕ → Device
+new_switch ports linked = record {
+  kind = Switch;
+  ports = ports;
+  linked = linked;
+  base_id = 0;
+  lock = 0xffff;
+  tag = 0;
+  select = 0;
+  routes = no_routes;
+  default_port = 255;
+}

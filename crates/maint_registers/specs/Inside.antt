@@ -1,0 +1,29 @@
+-- The fields of `Registers`, which hold what contracts see.
+use Rattle.maint_registers.specs.declared.registers.Registers.TheInside.{Inside}
+use Rattle.maint_registers.specs.Devices.{Device}
+
+abbrev pub device_of : Inside → Device
+device_of fields = record {
+  kind = fields.kind;
+  ports = fields.ports;
+  linked = fields.linked;
+  base_id = fields.base_id;
+  lock = fields.lock;
+  tag = fields.tag;
+  select = fields.select;
+  routes = fields.routes;
+  default_port = fields.default_port;
+}
+
+abbrev pub fields_of : Device → Inside
+fields_of device = record {
+  kind = device.kind;
+  ports = device.ports;
+  linked = device.linked;
+  base_id = device.base_id;
+  lock = device.lock;
+  tag = device.tag;
+  select = device.select;
+  routes = device.routes;
+  default_port = device.default_port;
+}

@@ -1,0 +1,45 @@
+-- What writes do, in the words of the table: which bits they change, and who holds a device.
+use Rattle.std.specs.Prelude.{◌≡◌, ◌≢◌, ℕ, ◌*◌, ◌/◌, ◌%◌, ◌^◌, ◌<◌, ◌↔◌, Option, Some, None}
+use Rattle.maint_registers.specs.declared.table.Register.{Register}
+use Rattle.maint_registers.specs.declared.table.Register.TheVariants.{Fixed, PortInformation, BaseId, HostLock, ComponentTag, RouteSelect, RouteEntry, DefaultPort}
+use Rattle.maint_registers.specs.Devices.{Device, IsDevice}
+use Rattle.maint_registers.specs.Table.{register_at}
+use Rattle.maint_registers.specs.Access.{value_at, written_at, locked}
+
+-- some bits of a register: the lowest of them, and how many they are
+pub record Bits : Type 0 where
+  pub lowest : ℕ
+  pub count : ℕ
+
+-- the bits that a write to a register changes, the others being 0; the lock has a rule of its own
+abbrev pub written_bits : Register → Option Bits
+written_bits (Fixed value) = None
+written_bits PortInformation = None
+written_bits BaseId = Some record { lowest = 16; count = 8 }
+written_bits HostLock = None
+written_bits ComponentTag = Some record { lowest = 0; count = 32 }
+written_bits RouteSelect = Some record { lowest = 0; count = 8 }
+written_bits RouteEntry = Some record { lowest = 0; count = 8 }
+written_bits DefaultPort = Some record { lowest = 0; count = 8 }
+
+-- a value with these bits alone, where they stand
+abbrev pub only : Bits → ℕ → ℕ
+only bits value = value / 2 ^ bits.lowest % 2 ^ bits.count * 2 ^ bits.lowest
+
+-- Whoever writes to a register then reads there what was written in the bits that the register has, and 0 in all others.
+abbrev pub ShowsWritten : Type 0
+ShowsWritten = (device next : Device) (offset value port : ℕ) (register : Register) (bits : Bits)
+    → IsDevice device
+    → register_at device offset ≡ Some register
+    → written_bits register ≡ Some bits
+    → value < 2 ^ 32
+    → written_at device offset value ≡ Some next
+    → value_at next offset port ≡ Some (only bits value)
+
+-- A host that writes its ID to a lock holds the device afterwards exactly if the lock was free.
+abbrev pub IsTakenIfFree : Type 0
+IsTakenIfFree = (lock id : ℕ) → id ≢ 0xffff → (locked lock id ≡ id) ↔ (lock ≡ 0xffff)
+
+-- Nobody but its holder frees a lock or takes it.
+abbrev pub StaysForOthers : Type 0
+StaysForOthers = (lock id : ℕ) → lock ≢ 0xffff → lock ≢ id → locked lock id ≡ lock

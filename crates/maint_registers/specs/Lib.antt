@@ -1,0 +1,6 @@
+pub mod Devices
+pub mod Table
+pub mod Access
+pub mod Routes
+pub mod Laws
+pub mod Inside

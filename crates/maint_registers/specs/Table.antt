@@ -1,0 +1,56 @@
+-- Which register stands at which offset of an endpoint and of a switch. `docs/registers.md` has the same table, with the
+-- public source of each row and what is this project's own.
+use Rattle.std.specs.Prelude.{ℕ, zero, suc, ◌+◌, ◌*◌, ◌/◌, ◌%◌, ◌^◌, ◌==◌, List, [], ◌∷◌, Option, Some, None, option_map, if◌then◌else◌}
+use Rattle.std.specs.Option.{option_or}
+use Rattle.maint_registers.specs.declared.registers.Kind.{Kind}
+use Rattle.maint_registers.specs.declared.registers.Kind.TheVariants.{Endpoint, Switch}
+use Rattle.maint_registers.specs.declared.table.Register.{Register}
+use Rattle.maint_registers.specs.declared.table.Register.TheVariants.{Fixed, PortInformation, BaseId, HostLock, ComponentTag, RouteSelect, RouteEntry, DefaultPort}
+use Rattle.maint_registers.specs.Devices.{Device}
+
+-- an offset, the register of an endpoint there, and that of a switch
+abbrev pub Row : Type 0
+Row = ℕ × Option Register × Option Register
+
+abbrev pub table : List Row
+table =
+    (0x000000, Some (Fixed 0x0001ffff), Some (Fixed 0x0002ffff))  -- identity
+    ∷ (0x00000c, Some (Fixed 0x00000100), Some (Fixed 0x00000100))  -- assembly information
+    ∷ (0x000010, Some (Fixed 0x00000008), Some (Fixed 0x10000108))  -- features
+    ∷ (0x000014, None, Some PortInformation)
+    ∷ (0x000034, None, Some (Fixed 0x000000ff))  -- route limit
+    ∷ (0x000060, Some BaseId, None)
+    ∷ (0x000068, Some HostLock, Some HostLock)
+    ∷ (0x00006c, Some ComponentTag, Some ComponentTag)
+    ∷ (0x000070, None, Some RouteSelect)
+    ∷ (0x000074, None, Some RouteEntry)
+    ∷ (0x000078, None, Some DefaultPort)
+    ∷ []
+
+-- the column of a kind of device
+abbrev pub column : Kind → Row → Option Register
+column Endpoint row = row.1
+column Switch row = row.2
+
+-- the register at an offset in these rows
+abbrev pub in_rows : Kind → List Row → ℕ → Option Register
+in_rows kind [] offset = None
+in_rows kind (row ∷ rows) offset = if row.0 == offset then column kind row else in_rows kind rows offset
+
+-- where the error and status register of port n stands
+abbrev pub status_offset : ℕ → ℕ
+status_offset n = 0x158 + 0x20 * n
+
+-- the port below a number whose error and status register stands at an offset
+unfoldable pub status_port : ℕ → ℕ → Option ℕ
+status_port zero offset = None
+status_port (suc n) offset = if status_offset n == offset then Some n else status_port n offset
+
+-- 2 with a link, 1 without
+abbrev pub status_of : Device → ℕ → ℕ
+status_of device n = if device.linked / 2 ^ n % 2 == 1 then 2 else 1
+
+-- the register that stands at an offset of a device, if one does
+abbrev pub register_at : Device → ℕ → Option Register
+register_at device offset =
+    option_or (in_rows device.kind table offset) (option_map (λ n. Fixed (status_of device n)) (status_port device.ports offset))

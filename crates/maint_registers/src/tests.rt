@@ -1,0 +1,148 @@
+//! The registers of both kinds of device, by the table of `docs/registers.md`, whose values are those of RapidIO
+//! Interconnect Specification 1.3 and this project's profile.
+ghost use Rattle.std.specs.Prelude.{IsTrue};
+ghost use Rattle.maint_registers.specs.Devices.{is_switch};
+
+use crate::Registers;
+use std::process::Abort;
+
+/// What an offset shows at first, and after a write of [`WRITTEN`] if it can be written.
+#[derive(Clone, Copy)]
+struct Row {
+    offset: u32,
+    first: u32,
+    after: Option<u32>,
+}
+
+/// The value that is written to each offset.
+const WRITTEN: u32 = 0x1234_5678;
+
+const fn shown(offset: u32, first: u32) -> Row {
+    Row {
+        offset,
+        first,
+        after: None,
+    }
+}
+
+const fn written(offset: u32, first: u32, after: u32) -> Row {
+    Row {
+        offset,
+        first,
+        after: Some(after),
+    }
+}
+
+/// An endpoint with ID 5 and a link.
+fn endpoint() -> Registers {
+    Registers::endpoint(5, true)
+}
+
+/// A switch with four ports, of which 0 and 2 have links.
+fn switch() -> Registers
+    ensures { IsTrue (is_switch result) }
+{
+    Registers::switch(4, 0b0101)
+}
+
+/// What a new device shows and takes at an offset, asked on port 3: what its row says, or nothing without a row.
+fn has_row(rt: &impl Abort, mut registers: Registers, rows: &[Row], offset: u32) {
+    let row = rows.iter().find(|row| row.offset == offset);
+    let first = row.map(|row| row.first);
+    let after = row.and_then(|row| row.after);
+    assert_eq!(rt; registers.read(offset, 3), first, "{offset:x}");
+    assert_eq!(rt;
+        registers.write(offset, WRITTEN),
+        after.is_some(),
+        "{offset:x}"
+    );
+    assert_eq!(rt; registers.read(offset, 3), after.or(first), "{offset:x}");
+}
+
+#[test]
+fn an_endpoint_has_its_column(rt: HostRuntime) {
+    let rows = [
+        shown(0x00, 0x0001_ffff),
+        shown(0x0c, 0x0000_0100),
+        shown(0x10, 0x0000_0008),
+        written(0x60, 0x0005_0000, 0x0034_0000),
+        written(0x68, 0x0000_ffff, 0x0000_5678),
+        written(0x6c, 0x0000_0000, 0x1234_5678),
+        shown(0x158, 0x0000_0002),
+    ];
+    for offset in 0..0x400 {
+        has_row(&rt, endpoint(), &rows, offset);
+    }
+    has_row(&rt, endpoint(), &rows, 0xff_fffc);
+}
+
+#[test]
+fn a_switch_has_its_column(rt: HostRuntime) {
+    let rows = [
+        shown(0x00, 0x0002_ffff),
+        shown(0x0c, 0x0000_0100),
+        shown(0x10, 0x1000_0108),
+        shown(0x14, 0x0000_0403),
+        shown(0x34, 0x0000_00ff),
+        written(0x68, 0x0000_ffff, 0x0000_5678),
+        written(0x6c, 0x0000_0000, 0x1234_5678),
+        written(0x70, 0x0000_0000, 0x0000_0078),
+        written(0x74, 0x0000_00ff, 0x0000_0078),
+        written(0x78, 0x0000_00ff, 0x0000_0078),
+        shown(0x158, 0x0000_0002),
+        shown(0x178, 0x0000_0001),
+        shown(0x198, 0x0000_0002),
+        shown(0x1b8, 0x0000_0001),
+    ];
+    for offset in 0..0x400 {
+        has_row(&rt, switch(), &rows, offset);
+    }
+    has_row(&rt, switch(), &rows, 0xff_fffc);
+}
+
+#[test]
+fn a_lock_is_taken_freed_or_left(rt: HostRuntime) {
+    for (lock, written, after) in [
+        (0xffff, 0xabcd_0009, 9),
+        (9, 0x0000_0009, 0xffff),
+        (9, 0x0000_0008, 9),
+    ] {
+        let mut registers = switch();
+        registers.set_lock(lock);
+        assert!(rt; registers.write(0x68, written));
+        assert_eq!(rt; registers.lock(), after);
+    }
+}
+
+#[test]
+fn a_route_is_an_entry_or_the_default(rt: HostRuntime) {
+    for (entry, default, port) in [
+        (255, 255, None),
+        (1, 3, Some(1)),
+        (255, 3, Some(3)),
+        (4, 3, None),
+        (255, 4, None),
+    ] {
+        let mut registers = switch();
+        registers.set_route(2, entry);
+        registers.set_default(default);
+        assert_eq!(rt; registers.next_port(2), port);
+    }
+}
+
+#[test]
+fn an_entry_is_written_for_the_destination_selected(rt: HostRuntime) {
+    let mut registers = switch();
+    assert!(rt; registers.write(0x70, 200));
+    assert!(rt; registers.write(0x74, 2));
+    assert_eq!(rt; registers.next_port(200), Some(2));
+    assert_eq!(rt; registers.next_port(0), None);
+}
+
+#[test]
+fn an_endpoint_routes_nothing(rt: HostRuntime) {
+    assert!(rt; !endpoint().is_switch());
+    assert_eq!(rt; endpoint().ports(), 1);
+    assert_eq!(rt; endpoint().base_id(), 5);
+    assert_eq!(rt; endpoint().next_port(5), None);
+}
