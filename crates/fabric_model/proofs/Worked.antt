@@ -1,9 +1,14 @@
 -- The worked run, and lists of steps of which the laws do not hold.
-use Rattle.std.proofs.Common.{◌≡◌, inl, inr, ℕ, ◌<◌, zero, suc, false, List, [], ◌∷◌, ◌++◌, Some, refl, sym, subst, arith}
+use Rattle.std.proofs.Common.{true, nat_lt, ◌≡◌, inl, inr, ℕ, ◌<◌, zero, suc, false, List, [], ◌∷◌, ◌++◌, Some, refl, sym, subst, arith}
+use Rattle.std.specs.List.{list_all}
 use Rattle.std.proofs.lemmas.Bool.{false≢true}
+use Rattle.std.proofs.lemmas.Bool.Decides.{Decides-by_and, Decides-ltb}
 use Rattle.std.proofs.lemmas.Option.{none-some}
 use Rattle.rio_packets.specs.Fields.{prio_of, body_of}
-use Rattle.rio_packets.specs.LinkForm.{LinkForm}
+use Rattle.rio_packets.specs.LinkForm.{LinkForm, IsBody, AreBytes}
+use Rattle.rio_packets.specs.Making.{made, with_crc, with_more}
+use Rattle.rio_packets.specs.Register.{fed, shifted, shifted_times}
+use Rattle.rio_packets.proofs.FormLaws.{LinkForm-made}
 use Rattle.fabric_model.specs.declared.lines.Line.TheVariants.{Settle, Collect}
 use Rattle.fabric_model.specs.Network.{Item, port_of, first_packet, room_in}
 use Rattle.fabric_model.specs.Steps.{Hold, Free, Take, Leave, Linked, AtNode, after_all, LegalFrom}
@@ -28,12 +33,34 @@ pair_gone = refl
 abbrev passed : List TraceLine
 passed = Stepped (Linked (Hold (port_of 1) packet)) ∷ Stepped (Linked (Free (port_of 0) packet)) ∷ []
 
-pub pair_runs : LinkForm (body_of 0 15 2 1 rest_of_body) packet → Runs pair_script pair_lines
-pair_runs form = (
+body_is_made : made (body_of 0 15 2 1 rest_of_body) ≡ packet
+unfolding with_crc with_more fed shifted_times shifted
+body_is_made = refl
+
+are_bytes : (bytes : List ℕ) → list_all (λ b. nat_lt b 256) bytes ≡ true → AreBytes bytes
+are_bytes bytes =
+    (Decides-by_and (λ b. nat_lt b 256) (λ b. b < 256) (list_all (λ b. nat_lt b 256)) (λ b. Decides-ltb b 256) refl (λ _ _. refl) bytes).0
+
+body_is_one : IsBody (body_of 0 15 2 1 rest_of_body)
+body_is_one = record {
+  even = refl;
+  least = omega arith;
+  most = omega arith;
+  range = are_bytes (body_of 0 15 2 1 rest_of_body) refl;
+  origin = omega arith;
+}
+
+packet_is_its_form : LinkForm (body_of 0 15 2 1 rest_of_body) packet
+packet_is_its_form =
+    subst (LinkForm (body_of 0 15 2 1 rest_of_body)) body_is_made
+    (LinkForm-made (body_of 0 15 2 1 rest_of_body) body_is_one)
+
+pub pair_runs : Runs pair_script pair_lines
+pair_runs = (
   Stepped (AtNode (Take 0 packet)) ∷ [],
   Begun (Settle (port_of 0)) ∷ (passed ++ (Begun (Collect 1) ∷ Stepped (AtNode (Leave 1 packet)) ∷ Ended ∷ [])),
   refl,
-  (packet, form, refl),
+  (packet, packet_is_its_form, refl),
   (
     passed,
     Begun (Collect 1) ∷ Stepped (AtNode (Leave 1 packet)) ∷ Ended ∷ [],

@@ -1,8 +1,6 @@
 //! Small lists of steps: that the definitions say what they should of a worked run, and that each law can fail.
 
 ghost use Rattle.std.specs.Prelude.{[], ◌∷◌, ◌≡◌};
-ghost use Rattle.rio_packets.specs.Fields.{body_of};
-ghost use Rattle.rio_packets.specs.LinkForm.{LinkForm};
 ghost use Rattle.fabric_model.specs.Network.{port_of};
 ghost use Rattle.fabric_model.specs.Steps.{LegalFrom, after_all};
 ghost use Rattle.fabric_model.specs.Lines.{steps_of};
@@ -13,12 +11,12 @@ ghost use Rattle.fabric_model.specs.Laws.Leaving.{Once, Unchanged};
 ghost use Rattle.fabric_model.specs.Laws.Freeing.{FreedAfterHeld};
 ghost use Rattle.fabric_model.specs.Laws.Flows.{InOrder};
 ghost use Rattle.fabric_model.specs.Laws.Settling.{IsSettled};
-ghost use Rattle.fabric_model.specs.Laws.Examples.{rest_of_body, packet, pair_script, pair_lines, pair, first, held_once, kept_too, left_twice, left_as_other, freed_too_early, not_passed, fork, overtaking};
+ghost use Rattle.fabric_model.specs.Laws.Examples.{pair_script, pair_lines, pair, first, held_once, kept_too, left_twice, left_as_other, freed_too_early, not_passed, fork, overtaking};
 
-/// A packet is sent over the one link of two endpoints and collected. The lines are the trace of the script where the
-/// packet is the link form of the body that the script spells, and their steps are legal.
+/// A packet is sent over the one link of two endpoints and collected. The lines are the trace of the script, and their
+/// steps are legal.
 pub fn worked_run()
-    ensures runs { LinkForm (body_of 0 15 2 1 rest_of_body) packet → Runs pair_script pair_lines }
+    ensures runs { Runs pair_script pair_lines }
     ensures legal { LegalFrom pair (steps_of pair_lines) (after_all pair (steps_of pair_lines)) }
     ensures gone { gone pair (steps_of pair_lines) ≡ first ∷ [] }
 {}
