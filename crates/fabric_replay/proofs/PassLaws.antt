@@ -3,7 +3,7 @@ use Rattle.std.proofs.Common.{◌≡◌, ℕ, ◌+◌, ◌-◌, ◌<◌, true, f
 use Rattle.std.proofs.lemmas.List.{length-map}
 use Rattle.std.proofs.lemmas.List.Elements.{All-drop, All-push}
 use Rattle.rio_packets.specs.Fields.{prio_of, is_request}
-use Rattle.link_buffers.specs.Queues.{list_at, appended, popped, held, Buffered, IsInStore, IsOutStore}
+use Rattle.link_buffers.specs.Queues.{list_at, appended, popped, packet_count, Buffered, IsInStore, IsOutStore}
 use Rattle.link_buffers.proofs.QueueLemmas.{each-set}
 use Rattle.fabric_model.specs.declared.lines.PortRef.{PortRef}
 use Rattle.fabric_model.specs.Network.{Item, Registers, Network, with_lane, peer_in, first_packet, in_turn, next_packet, room_in}
@@ -18,7 +18,7 @@ pub lane_length : (lists : List (List (List ℕ))) (lanes : ℕ → List Item) (
 lane_length lists lanes prio few shows = sym (length-map (lanes prio) (λ i. i.now)) ∙ ap length (shows prio few)
 
 -- as many packets are held as the lists have
-pub held-shows : (lists : List (List (List ℕ))) (lanes : ℕ → List Item) → length lists ≡ 4 → ShowsLanes lists lanes → length (in_turn lanes) ≡ held lists
+pub held-shows : (lists : List (List (List ℕ))) (lanes : ℕ → List Item) → length lists ≡ 4 → ShowsLanes lists lanes → length (in_turn lanes) ≡ packet_count lists
 held-shows [] lanes four shows = absurd (omega arith)
 held-shows (a ∷ []) lanes four shows = absurd (omega arith)
 held-shows (a ∷ b ∷ []) lanes four shows = absurd (omega arith)
@@ -85,7 +85,7 @@ module _ (waiting : List (List (List ℕ))) (received : Buffered) (p : PortRef) 
 
   has_room : Pass → room_in net q (prio_of packet) ≡ true
   has_room c = ap (λ n. nat_lt (n + (3 - prio_of packet)) (net.buffers q)) (held-shows received_there.lists (net.received q) c.inn.four c.shows.there.holds)
-      ∙ ap (nat_lt (held received_there.lists + (3 - prio_of packet))) c.shows.there.has ∙ c.room
+      ∙ ap (nat_lt (packet_count received_there.lists + (3 - prio_of packet))) c.shows.there.has ∙ c.room
 
   lent_then : Pass → (held_net net p q packet).lent p ≡ only_first (net.waiting p (prio_of packet))
   lent_then c = with_lent-same net.lent p (net.lent p ++ only_first (net.waiting p (prio_of packet))) ∙ ap (λ xs. xs ++ only_first (net.waiting p (prio_of packet))) c.shows.here.lends
@@ -154,4 +154,4 @@ can_pass-shows waiting received p waiting_there received_there q links registers
     by_packet : (o : Option (List ℕ)) → has_room_at net q o ≡ admits received_there o
     by_packet None = refl
     by_packet (Some packet) = ap (λ n. nat_lt (n + (3 - prio_of packet)) (net.buffers q)) (held-shows received_there.lists (net.received q) inn.four shows.there.holds)
-        ∙ ap (nat_lt (held received_there.lists + (3 - prio_of packet))) shows.there.has
+        ∙ ap (nat_lt (packet_count received_there.lists + (3 - prio_of packet))) shows.there.has

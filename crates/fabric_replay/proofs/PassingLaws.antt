@@ -5,8 +5,8 @@ use Rattle.std.proofs.lemmas.List.Concat.{flat_map-append}
 use Rattle.rio_packets.specs.Fields.{prio_of}
 use Rattle.rio_chars.specs.Telling.{Pending, Puts}
 use Rattle.rio_chars.proofs.TellingLaws.{Puts-nil, Puts-trans}
-use Rattle.link_buffers.specs.Queues.{list_at, appended, popped, held}
-use Rattle.link_buffers.proofs.QueueLemmas.{held-popped}
+use Rattle.link_buffers.specs.Queues.{list_at, appended, popped, packet_count}
+use Rattle.link_buffers.proofs.QueueLemmas.{packet_count-popped}
 use Rattle.fabric_model.specs.declared.lines.PortRef.{PortRef}
 use Rattle.fabric_model.specs.Network.{Registers, Network}
 use Rattle.fabric_model.specs.Steps.{Hold, Free, Linked, LegalFrom}
@@ -95,11 +95,11 @@ has_first [] x e = absurd cc
 has_first (y ∷ ys) x e = omega arith
 
 -- fewer packets wait
-pub held-passed : (from to from2 to2 : Queues) (prio : ℕ) → IsTurn from.waiting prio → IfSome (next_of from.waiting) (PassedOne from to from2 to2) → held from2.waiting < held from.waiting
+pub held-passed : (from to from2 to2 : Queues) (prio : ℕ) → IsTurn from.waiting prio → IfSome (next_of from.waiting) (PassedOne from to from2 to2) → packet_count from2.waiting < packet_count from.waiting
 held-passed from to from2 to2 prio turn one =
     let done : PassedOne from to from2 to2 turn.packet = subst (λ o. IfSome o (PassedOne from to from2 to2)) turn.next one in
     let same : from2.waiting ≡ popped from.waiting prio = done.popped ∙ ap (popped from.waiting) turn.same in
     let four = from.sends.four in
     let few = turn.few in
-    let fewer = held-popped from.waiting prio (omega arith) (has_first (list_at from.waiting prio) turn.packet turn.first) in
+    let fewer = packet_count-popped from.waiting prio (omega arith) (has_first (list_at from.waiting prio) turn.packet turn.first) in
     rw same (omega arith)

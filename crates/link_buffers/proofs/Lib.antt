@@ -1,3 +1,3 @@
 pub mod QueueLemmas
 pub mod StoreLemmas
-pub mod TakingLaws
+pub mod PriorityLaws

@@ -5,7 +5,7 @@ use Rattle.std.proofs.lemmas.List.{set-get_or, drop_all}
 use Rattle.std.proofs.lemmas.List.Sums.{sum_by-cons, sum_by-set, get_or-le-sum_by}
 use Rattle.std.proofs.lemmas.List.Elements.{All-push, All-drop}
 use Rattle.rio_packets.specs.Fields.{prio_of}
-use Rattle.link_buffers.specs.Queues.{list_at, appended, popped, held, Sorted}
+use Rattle.link_buffers.specs.Queues.{list_at, appended, popped, packet_count, Sorted}
 
 -- the list that was put in the place of another
 pub list_at-set_same : (lists : List (List (List ℕ))) (prio : ℕ) (packets : List (List ℕ)) → prio < length lists → list_at (set lists prio packets) prio ≡ packets
@@ -29,33 +29,33 @@ each-set P lists prio packets within put each other few =
     ]
 
 -- the packets of four lists
-pub held_four :
+pub packet_count_four :
     (lists : List (List (List ℕ))) → length lists ≡ 4
-    → held lists ≡ length (list_at lists 0) + length (list_at lists 1) + length (list_at lists 2) + length (list_at lists 3)
-held_four [] four = cc
-held_four (a ∷ []) four = cc
-held_four (a ∷ b ∷ []) four = cc
-held_four (a ∷ b ∷ c ∷ []) four = cc
-held_four (a ∷ b ∷ c ∷ d ∷ []) four =
+    → packet_count lists ≡ length (list_at lists 0) + length (list_at lists 1) + length (list_at lists 2) + length (list_at lists 3)
+packet_count_four [] four = cc
+packet_count_four (a ∷ []) four = cc
+packet_count_four (a ∷ b ∷ []) four = cc
+packet_count_four (a ∷ b ∷ c ∷ []) four = cc
+packet_count_four (a ∷ b ∷ c ∷ d ∷ []) four =
     let first = sum_by-cons length a (b ∷ c ∷ d ∷ []) in
     let second = sum_by-cons length b (c ∷ d ∷ []) in
     let third = sum_by-cons length c (d ∷ []) in
     let fourth = sum_by-cons length d [] in
     omega arith
-held_four (a ∷ b ∷ c ∷ d ∷ e ∷ more) four = absurd (omega arith)
+packet_count_four (a ∷ b ∷ c ∷ d ∷ e ∷ more) four = absurd (omega arith)
 
 -- a list is no longer than all lists together
-pub length_list_at-le-held : (lists : List (List (List ℕ))) (prio : ℕ) → prio < length lists → length (list_at lists prio) ≤ held lists
-length_list_at-le-held lists prio within = get_or-le-sum_by length lists prio [] within
+pub length_list_at-le-packet_count : (lists : List (List (List ℕ))) (prio : ℕ) → prio < length lists → length (list_at lists prio) ≤ packet_count lists
+length_list_at-le-packet_count lists prio within = get_or-le-sum_by length lists prio [] within
 
-pub held-appended : (lists : List (List (List ℕ))) (prio : ℕ) (packet : List ℕ) → prio < length lists → held (appended lists prio packet) ≡ held lists + 1
-held-appended lists prio packet within =
+pub packet_count-appended : (lists : List (List (List ℕ))) (prio : ℕ) (packet : List ℕ) → prio < length lists → packet_count (appended lists prio packet) ≡ packet_count lists + 1
+packet_count-appended lists prio packet within =
     let moved = sum_by-set length lists prio (list_at lists prio ++ packet ∷ []) [] within in
     let longer = length-append (list_at lists prio) (packet ∷ []) in
     omega arith
 
-pub held-popped : (lists : List (List (List ℕ))) (prio : ℕ) → prio < length lists → 0 < length (list_at lists prio) → held (popped lists prio) + 1 ≡ held lists
-held-popped lists prio within some =
+pub packet_count-popped : (lists : List (List (List ℕ))) (prio : ℕ) → prio < length lists → 0 < length (list_at lists prio) → packet_count (popped lists prio) + 1 ≡ packet_count lists
+packet_count-popped lists prio within some =
     let moved = sum_by-set length lists prio (drop 1 (list_at lists prio)) [] within in
     let shorter = length-drop 1 (list_at lists prio) in
     omega arith

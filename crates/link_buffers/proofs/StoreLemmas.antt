@@ -1,15 +1,15 @@
 -- What is true of every store stays true where a packet is put or popped.
 use Rattle.std.proofs.Common.{ℕ, ◌+◌, ◌-◌, ◌<◌, ◌≤◌, List, [], ◌∷◌, length, ◌∙◌, arith, length-set, length-append, length-drop}
 use Rattle.rio_packets.specs.Fields.{prio_of}
-use Rattle.link_buffers.specs.Queues.{list_at, appended, popped, held, IsCounted, IsInStore, IsOutStore}
-use Rattle.link_buffers.proofs.QueueLemmas.{each-set, held-appended, held-popped, Sorted-appended, Sorted-popped}
+use Rattle.link_buffers.specs.Queues.{list_at, appended, popped, packet_count, IsCounted, IsInStore, IsOutStore}
+use Rattle.link_buffers.proofs.QueueLemmas.{each-set, packet_count-appended, packet_count-popped, Sorted-appended, Sorted-popped}
 
 pub IsInStore-appended :
     (lists : List (List (List ℕ))) (buffers : ℕ) (packet : List ℕ) → IsInStore (record { lists = lists; buffers = buffers })
-    → prio_of packet < 4 → held lists < buffers → IsInStore (record { lists = appended lists (prio_of packet) packet; buffers = buffers })
+    → prio_of packet < 4 → packet_count lists < buffers → IsInStore (record { lists = appended lists (prio_of packet) packet; buffers = buffers })
 IsInStore-appended lists buffers packet is few room =
     let within : prio_of packet < length lists = omega arith in
-    let more = held-appended lists (prio_of packet) packet within in
+    let more = packet_count-appended lists (prio_of packet) packet within in
     record {
       four = length-set lists (prio_of packet) _ ∙ is.four;
       sorted = Sorted-appended lists packet is.four few is.sorted;
@@ -23,7 +23,7 @@ pub IsInStore-popped :
     → prio < 4 → 0 < length (list_at lists prio) → IsInStore (record { lists = popped lists prio; buffers = buffers })
 IsInStore-popped lists buffers prio is few some =
     let within : prio < length lists = omega arith in
-    let fewer = held-popped lists prio within some in
+    let fewer = packet_count-popped lists prio within some in
     record {
       four = length-set lists prio _ ∙ is.four;
       sorted = Sorted-popped lists prio is.four few is.sorted;
@@ -34,11 +34,11 @@ IsInStore-popped lists buffers prio is few some =
 
 pub IsCounted-appended :
     (lists : List (List (List ℕ))) (buffers free : ℕ) (packet : List ℕ) → IsCounted (record { lists = lists; buffers = buffers }) free
-    → prio_of packet < 4 → held lists < buffers
+    → prio_of packet < 4 → packet_count lists < buffers
     → IsCounted (record { lists = appended lists (prio_of packet) packet; buffers = buffers }) (free - 1)
 IsCounted-appended lists buffers free packet is few room =
     let within : prio_of packet < length lists = omega (arith, is.store_is.four) in
-    let more = held-appended lists (prio_of packet) packet within in
+    let more = packet_count-appended lists (prio_of packet) packet within in
     record { exact = omega arith; store_is = IsInStore-appended lists buffers packet is.store_is few room }
 
 pub IsCounted-popped :
@@ -46,7 +46,7 @@ pub IsCounted-popped :
     → prio < 4 → 0 < length (list_at lists prio) → IsCounted (record { lists = popped lists prio; buffers = buffers }) (free + 1)
 IsCounted-popped lists buffers free prio is few some =
     let within : prio < length lists = omega (arith, is.store_is.four) in
-    let fewer = held-popped lists prio within some in
+    let fewer = packet_count-popped lists prio within some in
     record { exact = omega arith; store_is = IsInStore-popped lists buffers prio is.store_is few some }
 
 pub IsOutStore-appended :

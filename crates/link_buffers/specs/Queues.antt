@@ -15,8 +15,8 @@ abbrev pub popped : List (List (List ℕ)) → ℕ → List (List (List ℕ))
 popped lists prio = slice_set lists prio (drop 1 (list_at lists prio))
 
 -- how many packets there are in all lists
-abbrev pub held : List (List (List ℕ)) → ℕ
-held lists = sum_by length lists
+abbrev pub packet_count : List (List (List ℕ)) → ℕ
+packet_count lists = sum_by length lists
 
 -- the lists of a store without a packet
 abbrev pub no_packets : List (List (List ℕ))
@@ -34,7 +34,7 @@ pub record Buffered : Type 0 where
 -- whether a packet of a priority may be put: more buffers are free than there are higher priorities (this project's
 -- profile)
 abbrev pub room_for : Buffered → ℕ → Bool
-room_for store prio = nat_lt (held store.lists + (3 - prio)) store.buffers
+room_for store prio = nat_lt (packet_count store.lists + (3 - prio)) store.buffers
 
 -- a packet is put, or not
 abbrev pub stored : Bool → Buffered → List ℕ → Buffered
@@ -45,13 +45,13 @@ stored false store packet = store
 pub record IsInStore (store : Buffered) : Type 0 where
   pub four : length store.lists ≡ 4
   pub sorted : Sorted store.lists
-  pub within : held store.lists ≤ store.buffers
+  pub within : packet_count store.lists ≤ store.buffers
   pub least : 4 ≤ store.buffers
   pub most : store.buffers ≤ 30
 
 -- the buffers without a packet are counted
 pub record IsCounted (store : Buffered) (free : ℕ) : Type 0 where
-  pub exact : free + held store.lists ≡ store.buffers
+  pub exact : free + packet_count store.lists ≡ store.buffers
   pub store_is : IsInStore store
 
 -- what is true of every store of packets to be sent

@@ -1,7 +1,7 @@
 //! `InStore`: the packets that came in, in shared receive buffers.
 ghost use Rattle.std.specs.Prelude.{◌≡◌, ◌+◌, ◌-◌, ◌<◌, ◌≤◌, ◌↔◌, length, slice_get, option_copied, IsTrue, IfOk, IfNone};
 ghost use Rattle.rio_packets.specs.Fields.{prio_of};
-ghost use Rattle.link_buffers.specs.Queues.{list_at, appended, popped, held, no_packets, room_for, IsInStore};
+ghost use Rattle.link_buffers.specs.Queues.{list_at, appended, popped, packet_count, no_packets, room_for, IsInStore};
 
 use crate::lists::PriorityLists;
 use rio_chars::NoMemory;
@@ -45,7 +45,7 @@ impl InStore {
 
     /// Returns the number of buffers without a packet.
     pub fn free(&self) -> u8
-        ensures value { result + held self.now.lists ≡ self.now.buffers }
+        ensures value { result + packet_count self.now.lists ≡ self.now.buffers }
         ensures store { IsInStore self.now }
     {
         self.free
@@ -55,7 +55,7 @@ impl InStore {
     /// so that each higher priority has a buffer left (this project's profile).
     pub fn has_room(&self, prio: u8) -> bool
         requires { prio < 4 }
-        ensures exact { IsTrue result ↔ (held self.now.lists + (3 - prio) < self.now.buffers) }
+        ensures exact { IsTrue result ↔ (packet_count self.now.lists + (3 - prio) < self.now.buffers) }
         ensures test { result ≡ room_for self.now prio }
         ensures store { IsInStore self.now }
     {
@@ -64,12 +64,12 @@ impl InStore {
 
     /// Appends a packet to the list of its priority, which has room.
     pub fn put(&mut self, packet: Packet)
-        requires room { held self.old.lists + (3 - prio_of packet) < self.old.buffers }
+        requires room { packet_count self.old.lists + (3 - prio_of packet) < self.old.buffers }
         ensures appended { self.new ≡ record self.old { lists = appended self.old.lists (prio_of packet) packet } }
         ensures prio { prio_of packet < 4 }
         ensures store { IsInStore self.new }
     {
-        self.lists.push(packet);
+        self.lists.put(packet);
         self.free -= 1;
     }
 

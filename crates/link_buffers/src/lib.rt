@@ -9,20 +9,20 @@
 //!
 //! - `in_store`: `InStore`, whose lists share a number of receive buffers
 //! - `out_store`: `OutStore`, whose lists have room for 16 packets each
-//! - `taking`: the laws of what a list of priorities takes out of a store, as the acknowledgements of a link do
+//! - `priorities`: the laws of what a list of priorities takes out of a store, as the acknowledgements of a link do
 //! - `lists`: the four rings under both
 #![tactic(auto)]
 
 mod in_store;
 mod lists;
 mod out_store;
-mod taking;
+mod priorities;
 #[cfg(test)]
 mod tests;
 
 pub use in_store::InStore;
 pub use out_store::OutStore;
-pub use taking::{
+pub use priorities::{
     each_takes_its_own, first_take_the_first, highest_may_be_next, next_is_the_first_that_stays,
     oldest_leaves_first, put_comes_last, taken_in_turn,
 };

@@ -57,7 +57,7 @@ impl OutStore {
         ensures prio { prio_of packet < 4 }
         ensures store { IsOutStore self.new }
     {
-        self.lists.push(packet);
+        self.lists.put(packet);
     }
 
     /// Returns the packet at `place` of the list of a priority, counted from 0. `None` exactly past the end.

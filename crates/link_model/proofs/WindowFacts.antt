@@ -1,6 +1,7 @@
 -- The window, and what it lets a turn start.
 use Rattle.std.proofs.Common.{◌≡◌, ℕ, ◌<◌, ◌≤◌, Bool, cond, length, Option, None, ap, refl, le-ltb, lt-ltb, lit≤}
-use Rattle.link_model.specs.Window.{Window, window}
+use Rattle.link_model.specs.Outstanding.{Outstanding}
+use Rattle.link_model.specs.Window.{window}
 use Rattle.link_model.specs.Output.{startable}
 
 -- fewer than the ackIDs are outstanding, so that the next ackID is none of theirs
@@ -13,8 +14,8 @@ pub window_is : window ≡ 31
 unfolding window
 window_is = refl
 
-pub startable-full : (w : Window) (waiting : Option ℕ) → window ≤ length w.prios → startable w waiting ≡ None
+pub startable-full : (w : Outstanding) (waiting : Option ℕ) → window ≤ length w.prios → startable w waiting ≡ None
 startable-full w waiting full = ap (λ (b : Bool). cond b waiting None) (le-ltb (length w.prios) window full)
 
-pub startable-open : (w : Window) (waiting : Option ℕ) → length w.prios < window → startable w waiting ≡ waiting
+pub startable-open : (w : Outstanding) (waiting : Option ℕ) → length w.prios < window → startable w waiting ≡ waiting
 startable-open w waiting few = ap (λ (b : Bool). cond b waiting None) (lt-ltb (length w.prios) window few)

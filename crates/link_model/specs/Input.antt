@@ -6,7 +6,7 @@ use Rattle.link_model.specs.Symbols.{packet_accepted, packet_retry, packet_not_a
 
 -- a state, with the next expected ackID
 pub data Input : Type 0 where
-  Taking : ℕ → Input
+  Ok : ℕ → Input
   RetryStopped : ℕ → Input
   ErrorStopped : ℕ → Input
 
@@ -45,7 +45,7 @@ silent state = record { state = state; reply = None; held = false }
 
 -- the packet of the expected ackID is accepted
 abbrev pub accepted : ℕ → Received
-accepted expected = record { state = Taking ((expected + 1) % 32); reply = Some (packet_accepted expected); held = true }
+accepted expected = record { state = Ok ((expected + 1) % 32); reply = Some (packet_accepted expected); held = true }
 
 -- an error: the far port has to ask which packet is expected
 abbrev pub error : ℕ → ℕ → Received
@@ -53,24 +53,24 @@ error expected cause = replied (ErrorStopped expected) (packet_not_accepted expe
 
 -- what an arrival does: one clause for each entry of the table
 abbrev pub receives : Arrival → Input → Received
-receives ExpectedWithRoom (Taking expected) = accepted expected
+receives ExpectedWithRoom (Ok expected) = accepted expected
 receives ExpectedWithRoom (RetryStopped expected) = silent (RetryStopped expected)
 receives ExpectedWithRoom (ErrorStopped expected) = silent (ErrorStopped expected)
-receives ExpectedWithoutRoom (Taking expected) = replied (RetryStopped expected) (packet_retry expected)
+receives ExpectedWithoutRoom (Ok expected) = replied (RetryStopped expected) (packet_retry expected)
 receives ExpectedWithoutRoom (RetryStopped expected) = silent (RetryStopped expected)
 receives ExpectedWithoutRoom (ErrorStopped expected) = silent (ErrorStopped expected)
-receives UnexpectedAck (Taking expected) = error expected 1
+receives UnexpectedAck (Ok expected) = error expected 1
 receives UnexpectedAck (RetryStopped expected) = silent (RetryStopped expected)
 receives UnexpectedAck (ErrorStopped expected) = silent (ErrorStopped expected)
-receives (Damaged cause) (Taking expected) = error expected cause
+receives (Damaged cause) (Ok expected) = error expected cause
 receives (Damaged cause) (RetryStopped expected) = error expected cause
 receives (Damaged cause) (ErrorStopped expected) = silent (ErrorStopped expected)
-receives RestartFromRetry (Taking expected) = error expected 31
-receives RestartFromRetry (RetryStopped expected) = silent (Taking expected)
+receives RestartFromRetry (Ok expected) = error expected 31
+receives RestartFromRetry (RetryStopped expected) = silent (Ok expected)
 receives RestartFromRetry (ErrorStopped expected) = silent (ErrorStopped expected)
-receives LinkRequest (Taking expected) = replied (Taking expected) (link_response expected 16)
-receives LinkRequest (RetryStopped expected) = replied (Taking expected) (link_response expected 4)
-receives LinkRequest (ErrorStopped expected) = replied (Taking expected) (link_response expected 5)
-receives OtherStype1 (Taking expected) = silent (Taking expected)
+receives LinkRequest (Ok expected) = replied (Ok expected) (link_response expected 16)
+receives LinkRequest (RetryStopped expected) = replied (Ok expected) (link_response expected 4)
+receives LinkRequest (ErrorStopped expected) = replied (Ok expected) (link_response expected 5)
+receives OtherStype1 (Ok expected) = silent (Ok expected)
 receives OtherStype1 (RetryStopped expected) = silent (RetryStopped expected)
 receives OtherStype1 (ErrorStopped expected) = silent (ErrorStopped expected)

@@ -1,4 +1,5 @@
 pub mod Window
+pub mod Outstanding
 pub mod Symbols
 pub mod Output
 pub mod Input

@@ -11,7 +11,7 @@ use Rattle.link_model.specs.Events.{packet_event, packet_or_cause}
 use Rattle.rio_framer.specs.Giving.{listed, IsPaired}
 use Rattle.link_port.specs.Ports.{PortState}
 use Rattle.link_port.specs.Steps.{Acted, idle, acts, acts_all, acts_symbol, joined, first_acted}
-use Rattle.link_port.specs.Acting.{acts_first, acts_second, is_first_acted}
+use Rattle.link_port.specs.Acts.{acts_first, acts_second, is_first_acted}
 
 option_or-none : {A : Type 0} (o : Option A) → option_or o None ≡ o
 option_or-none None = refl

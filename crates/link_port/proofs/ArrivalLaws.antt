@@ -22,22 +22,22 @@ use Rattle.link_model.proofs.ReadingSpeltLaws.{own_is_allowed}
 use Rattle.rio_packets.specs.Fields.{prio_of}
 use Rattle.rio_packets.specs.LinkForm.{Passes}
 use Rattle.link_buffers.specs.Queues.{list_at, room_for}
-use Rattle.link_buffers.specs.Taking.{left, leave, highest}
+use Rattle.link_buffers.specs.Priorities.{packets_of, lists_without, highest}
 use Rattle.link_model.specs.declared.event.Event.{Event}
 use Rattle.link_model.specs.declared.event.Event.TheVariants.{Ctl, Pkt}
 use Rattle.link_model.specs.Events.{packet_event}
 use Rattle.link_model.specs.Symbols.{status_with, start_of_packet, end_of_packet, packet_accepted}
-use Rattle.link_model.specs.Window.{Window, window, from_ack, next_ack, without_oldest}
+use Rattle.link_model.specs.Outstanding.{Outstanding, from_ack, next_ack, without_oldest}
+use Rattle.link_model.specs.Window.{window}
 use Rattle.link_model.specs.Output.{Output, Heard, Turned, hears, heard, ignored, error, turned, turns, started}
-use Rattle.link_model.specs.Output.Output.{Sending, RetryStopped, ErrorStopped, Failed}
 use Rattle.link_model.specs.Output.Stype0.{PacketAccepted, OtherStype0}
-use Rattle.link_model.specs.Output.Burst.{Starts}
+use Rattle.link_model.specs.Output.{Sends}
 use Rattle.link_model.specs.Input as in_half
 use Rattle.link_model.specs.ReadingSpelt.{bytes_with_ack, packet_chars_of}
 use Rattle.link_model.proofs.ReadingSpeltLaws.{event-bytes_with_ack, length-bytes_with_ack}
 use Rattle.link_model.proofs.WindowFacts.{window_is, startable-open}
-use Rattle.link_port.specs.Windows.{prios_of, expected_of, IsOutput}
-use Rattle.link_port.specs.Turns.{packet_sent, sending, turn_of, turn_sends, turns_to, waiting_in}
+use Rattle.link_port.specs.States.{prios_of, expected_of, IsOutput}
+use Rattle.link_port.specs.Turns.{packet_burst, burst_of, turn_of, turn_sends, turns_to, waiting_in}
 use Rattle.link_port.specs.Ports.{PortState, IsPort}
 use Rattle.link_port.specs.Steps.{Acted, acted, idle, acts, acts_all, acts_symbol, arrived, joined}
 use Rattle.link_port.specs.Carrying.{Back, back, back_all, replied, Carried, both_of, carried, carried_all, carries, IsReady}
@@ -130,21 +130,21 @@ symbol_back near freed s cs range =
 
 -- a status symbol
 other_is_ignored : (o : Output) (ack : ℕ) → hears OtherStype0 o ack ≡ ignored o
-other_is_ignored (Sending w) ack = refl
-other_is_ignored (RetryStopped w) ack = refl
-other_is_ignored (ErrorStopped asked w) ack = refl
-other_is_ignored Failed ack = refl
+other_is_ignored (Output.Ok w) ack = refl
+other_is_ignored (Output.RetryStopped w) ack = refl
+other_is_ignored (Output.ErrorStopped asked w) ack = refl
+other_is_ignored Output.Failed ack = refl
 
 other_is_silent : (i : in_half.Input) → in_half.receives in_half.Arrival.OtherStype1 i ≡ in_half.silent i
-other_is_silent (in_half.Input.Taking expected) = refl
+other_is_silent (in_half.Input.Ok expected) = refl
 other_is_silent (in_half.Input.RetryStopped expected) = refl
 other_is_silent (in_half.Input.ErrorStopped expected) = refl
 
 -- what a symbol does, by what the two halves make of it
 abbrev hearing : PortState → Heard → in_half.Received → Acted
 hearing port h r =
-    acted (record port { output = h.state; queued = leave (take h.freed (prios_of port.output)) port.queued; input = r.state })
-    r.reply None (left (take h.freed (prios_of port.output)) port.queued)
+    acted (record port { output = h.state; queued = lists_without (take h.freed (prios_of port.output)) port.queued; input = r.state })
+    r.reply None (packets_of (take h.freed (prios_of port.output)) port.queued)
 
 status_is_idle : (port : PortState) (e s1 : ℕ) → in_half.symbol_arrival s1 0 ≡ in_half.Arrival.OtherStype1 → acts_symbol port (status_with e s1 0) ≡ idle port
 status_is_idle port e s1 other =
@@ -158,16 +158,16 @@ start_done far e = ap (λ (a : Acted). joined a (idle a.port)) (status_is_idle (
 same : (n : ℕ) → (n == n) ≡ true
 same n = grind arith
 
-arrived_is : (far : PortState) (ack : ℕ) (packet : List ℕ) → far.input ≡ in_half.Input.Taking ack → room_for far.received (prio_of packet) ≡ true
+arrived_is : (far : PortState) (ack : ℕ) (packet : List ℕ) → far.input ≡ in_half.Input.Ok ack → room_for far.received (prio_of packet) ≡ true
     → arrived far ack packet ≡ in_half.accepted ack
 arrived_is far ack packet input room =
     ap (λ (i : in_half.Input). in_half.receives (in_half.packet_arrival (expected_of i) ack (room_for far.received (prio_of packet))) i) input
-    ∙ ap (λ (r : Bool). in_half.receives (in_half.packet_arrival ack ack r) (in_half.Input.Taking ack)) room
-    ∙ ap (λ (b : Bool). in_half.receives (if b then in_half.Arrival.ExpectedWithRoom else in_half.Arrival.UnexpectedAck) (in_half.Input.Taking ack)) (same ack)
+    ∙ ap (λ (r : Bool). in_half.receives (in_half.packet_arrival ack ack r) (in_half.Input.Ok ack)) room
+    ∙ ap (λ (b : Bool). in_half.receives (if b then in_half.Arrival.ExpectedWithRoom else in_half.Arrival.UnexpectedAck) (in_half.Input.Ok ack)) (same ack)
 
 -- the last character of a packet
 end_replies : (far : PortState) (e ack : ℕ) (packet bytes : List ℕ) → packet_event bytes ≡ Pkt ack packet
-    → far.input ≡ in_half.Input.Taking ack → room_for far.received (prio_of packet) ≡ true
+    → far.input ≡ in_half.Input.Ok ack → room_for far.received (prio_of packet) ≡ true
     → (done far (taken (Within bytes) (end_of_packet e) true)).reply ≡ Some (packet_accepted ack)
 unfolding acts_all
 end_replies far e ack packet bytes event input room =
@@ -177,7 +177,7 @@ end_replies far e ack packet bytes event input room =
     ∙ ap (λ (r : in_half.Received). option_or r.reply rest) (arrived_is x ack packet input room)
 
 end_holds : (far : PortState) (e ack : ℕ) (packet bytes : List ℕ) → packet_event bytes ≡ Pkt ack packet
-    → far.input ≡ in_half.Input.Taking ack → room_for far.received (prio_of packet) ≡ true
+    → far.input ≡ in_half.Input.Ok ack → room_for far.received (prio_of packet) ≡ true
     → (done far (taken (Within bytes) (end_of_packet e) true)).held ≡ Some packet
 unfolding acts_all
 end_holds far e ack packet bytes event input room =
@@ -191,15 +191,15 @@ take_one [] packet is = cc
 take_one (x ∷ xs) packet is = cc
 
 -- one packet is outstanding
-abbrev one_out : ℕ → ℕ → Window
+abbrev one_out : ℕ → ℕ → Outstanding
 one_out ack prio = record { oldest = ack; prios = prio ∷ [] }
 
-accept_frees : (near : PortState) (ack prio : ℕ) (packet : List ℕ) → near.output ≡ Sending (one_out ack prio)
+accept_frees : (near : PortState) (ack prio : ℕ) (packet : List ℕ) → near.output ≡ Output.Ok (one_out ack prio)
     → slice_get (list_at near.queued prio) 0 ≡ Some packet → (done near (taken Plain (packet_accepted ack) true)).freed ≡ packet ∷ []
 unfolding acts_all
 accept_frees near ack prio packet output first =
-    ap (λ (o : Output). left (take (hears PacketAccepted o ack).freed (prios_of o)) near.queued ++ []) output
-    ∙ ap (λ (b : Bool). left (take (if (true && b) then heard (Sending (without_oldest (one_out ack prio))) 1 else error (one_out ack prio)).freed (prio ∷ [])) near.queued ++ []) (same ack)
+    ap (λ (o : Output). packets_of (take (hears PacketAccepted o ack).freed (prios_of o)) near.queued ++ []) output
+    ∙ ap (λ (b : Bool). packets_of (take (if (true && b) then heard (Output.Ok (without_oldest (one_out ack prio))) 1 else error (one_out ack prio)).freed (prio ∷ [])) near.queued ++ []) (same ack)
     ∙ ap (λ (packets : List (List ℕ)). (packets ++ []) ++ []) (take_one (list_at near.queued prio) packet first)
 
 symbol_in_range : (e s1 : ℕ) → e < 32 → s1 < 8 → InRange (status_with e s1 0)
@@ -227,7 +227,7 @@ packet_comes near far e ack packet rests few passes =
     ∙ carried_all-none (carried (replied near (done far (taken (Within bytes) last true)).reply) (done far (taken (Within bytes) last true)) None)
 
 -- the reply
-reply_comes : (near : PortState) (ack prio : ℕ) (packet : List ℕ) → near.place ≡ start → ack < 32 → near.output ≡ Sending (one_out ack prio)
+reply_comes : (near : PortState) (ack prio : ℕ) (packet : List ℕ) → near.place ≡ start → ack < 32 → near.output ≡ Output.Ok (one_out ack prio)
     → slice_get (list_at near.queued prio) 0 ≡ Some packet → (replied near (Some (packet_accepted ack))).freed ≡ packet ∷ []
 reply_comes near ack prio packet rests few output first =
     let s = packet_accepted ack in
@@ -238,16 +238,16 @@ reply_comes near ack prio packet rests few output first =
     ∙ accept_frees near ack prio packet output first
 
 -- the turn of a port that has nothing outstanding
-ready_state : (near far : PortState) (packet : List ℕ) (r : IsReady near far packet) → turn_of near ≡ turned (Sending (one_out r.ack r.prio)) (Starts (next_ack (from_ack r.ack)) r.prio)
+ready_state : (near far : PortState) (packet : List ℕ) (r : IsReady near far packet) → turn_of near ≡ turned (Output.Ok (one_out r.ack r.prio)) (Sends.Packet (next_ack (from_ack r.ack)) r.prio)
 ready_state near far packet r =
     let w = from_ack r.ack in
     let room : length w.prios < window = omega (arith, window_is) in
-    ap (λ (o : Output). turns o (highest (leave (prios_of o) near.queued))) r.output
+    ap (λ (o : Output). turns o (highest (lists_without (prios_of o) near.queued))) r.output
     ∙ ap (started w) (startable-open w (highest near.queued) room ∙ r.first)
 
 ready_ack : (near far : PortState) (packet : List ℕ) (r : IsReady near far packet) → IsPort (turns_to near) → r.ack < 32
 ready_ack near far packet r port =
-    (subst (λ (o : Output). IsOutput o) (ap (λ (t : Turned). t.state) (ready_state near far packet r)) port.window).oldest
+    (subst (λ (o : Output). IsOutput o) (ap (λ (t : Turned). t.state) (ready_state near far packet r)) port.outstanding).oldest
 
 ready_chars : (near far : PortState) (packet : List ℕ) (r : IsReady near far packet) → IsPort (turns_to near)
     → (turn_sends near).chars ≡ packet_chars_of (start_of_packet (expected_of near.input)) r.ack packet (end_of_packet (expected_of near.input))
@@ -255,10 +255,10 @@ ready_chars near far packet r port =
     let e = expected_of near.input in
     let few = ready_ack near far packet r port in
     let next : next_ack (from_ack r.ack) ≡ r.ack = omega arith in
-    ap (λ (t : Turned). (sending t.sends e (waiting_in near)).chars) (ready_state near far packet r)
-    ∙ ap (λ (o : Output). (packet_sent e (next_ack (from_ack r.ack)) (slice_get (list_at (leave (prios_of o) near.queued) r.prio) 0)).chars) r.output
-    ∙ ap (λ (p : Option (List ℕ)). (packet_sent e (next_ack (from_ack r.ack)) p).chars) r.waits
-    ∙ ap (λ (a : ℕ). (packet_sent e a (Some packet)).chars) next
+    ap (λ (t : Turned). (burst_of t.sends e (waiting_in near)).chars) (ready_state near far packet r)
+    ∙ ap (λ (o : Output). (packet_burst e (next_ack (from_ack r.ack)) (slice_get (list_at (lists_without (prios_of o) near.queued) r.prio) 0)).chars) r.output
+    ∙ ap (λ (p : Option (List ℕ)). (packet_burst e (next_ack (from_ack r.ack)) p).chars) r.waits
+    ∙ ap (λ (a : ℕ). (packet_burst e a (Some packet)).chars) next
 
 ready_comes : (near far : PortState) (packet : List ℕ) (r : IsReady near far packet) → IsPort (turns_to near)
     → carries near far ≡ carried (replied (turns_to near) (done far (taken (Within (bytes_with_ack r.ack packet)) (end_of_packet (expected_of near.input)) true)).reply)

@@ -4,18 +4,17 @@ use Rattle.rio_chars.specs.declared.chars.Char.{Char}
 use Rattle.rio_symbols.specs.Fields.{Fields}
 use Rattle.link_model.specs.declared.event.Event.{Event}
 use Rattle.link_model.specs.Input.{Input, receives, symbol_arrival}
-use Rattle.link_model.specs.Input.Input.{Taking, RetryStopped, ErrorStopped}
 use Rattle.link_model.specs.Input.Arrival.{OtherStype1}
 use Rattle.link_model.specs.Places.{AreGiven}
 use Rattle.link_model.proofs.PlacesLaws.{given}
 use Rattle.link_port.specs.Ports.{PortState}
 use Rattle.link_port.specs.Steps.{acts, read, after_reading}
-use Rattle.link_port.specs.Acting.{replies}
+use Rattle.link_port.specs.Acts.{replies}
 
 other_has_none : (input : Input) → (receives OtherStype1 input).reply ≡ None
-other_has_none (Taking expected) = refl
-other_has_none (RetryStopped expected) = refl
-other_has_none (ErrorStopped expected) = refl
+other_has_none (Input.Ok expected) = refl
+other_has_none (Input.RetryStopped expected) = refl
+other_has_none (Input.ErrorStopped expected) = refl
 
 pub start_or_end_has_none : (input : Input) (s1 cmd : ℕ) → (s1 ≡ 0) ⊎ (s1 ≡ 2) → (receives (symbol_arrival s1 cmd) input).reply ≡ None
 start_or_end_has_none input s1 cmd (inl is) = subst (λ (s : ℕ). (receives (symbol_arrival s cmd) input).reply ≡ None) (sym is) (other_has_none input)

@@ -4,7 +4,7 @@ use Rattle.link_buffers.specs.Queues.{list_at}
 use Rattle.link_model.specs.Symbols.{restart_from_retry, link_request}
 use Rattle.link_port.specs.declared.output_half.Sends.{Sends}
 use Rattle.link_port.specs.declared.output_half.Sends.TheVariants as Sent
-use Rattle.link_port.specs.Turns.{Sending, nothing_sent, symbol_sent, packet_sent}
+use Rattle.link_port.specs.Turns.{Burst, no_burst, symbol_burst, packet_burst}
 
 -- the ackID and the priority of a packet that starts are in range
 abbrev pub HasRange : Sends → Type 0
@@ -14,8 +14,8 @@ HasRange Sent.Request = Unit {0}
 HasRange Sent.Nothing = Unit {0}
 
 -- what is sent, from a port that expects an ackID, where these packets are to be sent
-abbrev pub sent_by : Sends → ℕ → List (List (List ℕ)) → Sending
-sent_by (Sent.Packet started) expected queued = packet_sent expected started.ack (slice_get (list_at queued started.prio) started.place)
-sent_by Sent.Restart expected queued = symbol_sent (restart_from_retry expected)
-sent_by Sent.Request expected queued = symbol_sent (link_request expected)
-sent_by Sent.Nothing expected queued = nothing_sent
+abbrev pub burst_by : Sends → ℕ → List (List (List ℕ)) → Burst
+burst_by (Sent.Packet started) expected queued = packet_burst expected started.ack (slice_get (list_at queued started.prio) started.place)
+burst_by Sent.Restart expected queued = symbol_burst (restart_from_retry expected)
+burst_by Sent.Request expected queued = symbol_burst (link_request expected)
+burst_by Sent.Nothing expected queued = no_burst

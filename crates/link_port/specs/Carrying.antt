@@ -6,12 +6,12 @@ use Rattle.rio_symbols.specs.Fields.{Fields}
 use Rattle.rio_packets.specs.Fields.{prio_of}
 use Rattle.rio_packets.specs.LinkForm.{Passes}
 use Rattle.link_buffers.specs.Queues.{list_at, room_for}
-use Rattle.link_buffers.specs.Taking.{highest}
+use Rattle.link_buffers.specs.Priorities.{highest}
 use Rattle.link_model.specs.Places.{start}
 use Rattle.link_model.specs.ReadingSpelt.{symbol_chars_of}
-use Rattle.link_model.specs.Output.Output.{Sending}
-use Rattle.link_model.specs.Input.Input.{Taking}
-use Rattle.link_model.specs.Window.{from_ack}
+use Rattle.link_model.specs.Output.{Output}
+use Rattle.link_model.specs.Input.{Input}
+use Rattle.link_model.specs.Outstanding.{from_ack}
 use Rattle.link_port.specs.Ports.{PortState}
 use Rattle.link_port.specs.Steps.{Acted, takes}
 use Rattle.link_port.specs.Turns.{turns_to, turn_sends}
@@ -68,9 +68,9 @@ pub record IsReady (near far : PortState) (packet : List ℕ) : Type 0 where
   pub prio : ℕ
   pub near_place : near.place ≡ start
   pub far_place : far.place ≡ start
-  pub output : near.output ≡ Sending (from_ack ack)
+  pub output : near.output ≡ Output.Ok (from_ack ack)
   pub first : highest near.queued ≡ Some prio
   pub waits : slice_get (list_at near.queued prio) 0 ≡ Some packet
   pub form : Passes packet
-  pub input : far.input ≡ Taking ack
+  pub input : far.input ≡ Input.Ok ack
   pub room : room_for far.received (prio_of packet) ≡ true

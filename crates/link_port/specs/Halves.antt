@@ -12,26 +12,26 @@ use Rattle.link_port.specs.declared.kinds.InKind.TheVariants as InKinds
 
 -- the state of the output half in its table
 abbrev pub output_of : Output → out.Output
-output_of (Sender.Ok w) = out.Output.Sending w
+output_of (Sender.Ok w) = out.Output.Ok w
 output_of (Sender.RetryStopped w) = out.Output.RetryStopped w
-output_of (Sender.ErrorStopped s) = out.Output.ErrorStopped s.asked s.window
+output_of (Sender.ErrorStopped s) = out.Output.ErrorStopped s.asked s.outstanding
 output_of (Sender.Failed _) = out.Output.Failed
 
 -- the state of the input half in its table
 abbrev pub input_of : Input → in_half.Input
-input_of (Receiver.Ok expected) = in_half.Input.Taking expected
+input_of (Receiver.Ok expected) = in_half.Input.Ok expected
 input_of (Receiver.RetryStopped expected) = in_half.Input.RetryStopped expected
 input_of (Receiver.ErrorStopped expected) = in_half.Input.ErrorStopped expected
 
 -- the name of a state of the output half
 abbrev pub out_kind_of : out.Output → OutKind
-out_kind_of (out.Output.Sending w) = OutKinds.Ok
+out_kind_of (out.Output.Ok w) = OutKinds.Ok
 out_kind_of (out.Output.RetryStopped w) = OutKinds.RetryStopped
 out_kind_of (out.Output.ErrorStopped asked w) = OutKinds.ErrorStopped
 out_kind_of out.Output.Failed = OutKinds.Failed
 
 -- the name of a state of the input half
 abbrev pub in_kind_of : in_half.Input → InKind
-in_kind_of (in_half.Input.Taking expected) = InKinds.Ok
+in_kind_of (in_half.Input.Ok expected) = InKinds.Ok
 in_kind_of (in_half.Input.RetryStopped expected) = InKinds.RetryStopped
 in_kind_of (in_half.Input.ErrorStopped expected) = InKinds.ErrorStopped

@@ -1,11 +1,11 @@
 pub mod Faces
-pub mod Passing
-pub mod Windows
+pub mod Plain
+pub mod States
 pub mod Halves
 pub mod Sends
 pub mod Ports
 pub mod Steps
 pub mod Turns
 pub mod Bursts
-pub mod Acting
+pub mod Acts
 pub mod Carrying

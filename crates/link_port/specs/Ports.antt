@@ -1,14 +1,12 @@
 -- A port.
 use Rattle.std.specs.Prelude.{◌≡◌, ℕ, ◌<◌, List}
 use Rattle.link_buffers.specs.Queues.{Buffered, no_packets, IsInStore, IsOutStore}
-use Rattle.link_buffers.specs.Taking.{Covers}
+use Rattle.link_buffers.specs.Priorities.{Covers}
 use Rattle.link_model.specs.Places.{Place, start, IsBounded}
-use Rattle.link_model.specs.Window.{from_ack}
+use Rattle.link_model.specs.Outstanding.{from_ack}
 use Rattle.link_model.specs.Output.{Output}
-use Rattle.link_model.specs.Output.Output.{Sending}
 use Rattle.link_model.specs.Input.{Input}
-use Rattle.link_model.specs.Input.Input.{Taking}
-use Rattle.link_port.specs.Windows.{prios_of, IsOutput, expected_of}
+use Rattle.link_port.specs.States.{prios_of, IsOutput, expected_of}
 
 -- what contracts see of a port: the place of its framer, its two halves, the packets to be sent, and those that came in
 pub record PortState : Type 0 where
@@ -22,8 +20,8 @@ pub record PortState : Type 0 where
 abbrev pub new_port : ℕ → PortState
 new_port buffers = record {
   place = start;
-  output = Sending (from_ack 0);
-  input = Taking 0;
+  output = Output.Ok (from_ack 0);
+  input = Input.Ok 0;
   queued = no_packets;
   received = record { lists = no_packets; buffers = buffers };
 }
@@ -31,7 +29,7 @@ new_port buffers = record {
 -- What is true of every port: its outstanding packets, at most the window, are among the packets to be sent, its packets
 -- are no more than its buffers, and its framer holds at most 276 bytes.
 pub record IsPort (port : PortState) : Type 0 where
-  pub window : IsOutput port.output
+  pub outstanding : IsOutput port.output
   pub covered : Covers (prios_of port.output) port.queued
   pub expected_ack : expected_of port.input < 32
   pub sends : IsOutStore port.queued

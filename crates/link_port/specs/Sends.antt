@@ -2,7 +2,7 @@
 use Rattle.std.specs.Prelude.{◌≡◌, ℕ, ◌<◌, Bool, Option, Some, None, List, length}
 use Rattle.rio_symbols.specs.Fields.{Fields}
 use Rattle.link_buffers.specs.Queues.{list_at}
-use Rattle.link_buffers.specs.Taking.{count_of}
+use Rattle.link_buffers.specs.Priorities.{count_of}
 use Rattle.link_sender.specs.declared.answers.Started.{Started}
 use Rattle.link_model.specs.Output as out
 use Rattle.link_model.specs.Input as in_half
@@ -10,11 +10,11 @@ use Rattle.link_port.specs.declared.output_half.Sends.{Sends}
 use Rattle.link_port.specs.declared.output_half.Sends.TheVariants as Sent
 
 -- what a turn sends
-abbrev pub burst_of : Sends → out.Burst
-burst_of (Sent.Packet started) = out.Burst.Starts started.ack started.prio
-burst_of Sent.Restart = out.Burst.Restarts
-burst_of Sent.Request = out.Burst.Requests
-burst_of Sent.Nothing = out.Burst.Nothing
+abbrev pub sends_of : Sends → out.Sends
+sends_of (Sent.Packet started) = out.Sends.Packet started.ack started.prio
+sends_of Sent.Restart = out.Sends.Restart
+sends_of Sent.Request = out.Sends.Request
+sends_of Sent.Nothing = out.Sends.Nothing
 
 -- what is sent where a packet starts, if any
 abbrev pub starting : Option Started → Sends

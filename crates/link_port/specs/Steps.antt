@@ -8,14 +8,14 @@ use Rattle.rio_packets.specs.CauseNumbers.{number_of}
 use Rattle.rio_packets.specs.Fields.{prio_of}
 use Rattle.rio_packets.specs.declared.cause.Cause.{Cause}
 use Rattle.link_buffers.specs.Queues.{room_for, stored}
-use Rattle.link_buffers.specs.Taking.{left, leave}
+use Rattle.link_buffers.specs.Priorities.{packets_of, lists_without}
 use Rattle.link_model.specs.declared.event.Event.{Event}
 use Rattle.link_model.specs.declared.event.Event.TheVariants.{Ctl, Pkt, Bad}
 use Rattle.link_model.specs.Places.{step}
 use Rattle.link_model.specs.Output.{Heard, hears, stype0}
 use Rattle.link_model.specs.Input.{Received, packet_arrival, symbol_arrival, receives}
 use Rattle.link_model.specs.Input.Arrival.{Damaged}
-use Rattle.link_port.specs.Windows.{prios_of, expected_of, expects}
+use Rattle.link_port.specs.States.{prios_of, expected_of, expects}
 use Rattle.link_port.specs.Ports.{PortState}
 
 -- what a symbol does in the output half, by its stype0 and its ackID
@@ -28,7 +28,7 @@ acknowledged port symbol = take (heard port symbol).freed (prios_of port.output)
 
 -- the output half has heard a symbol
 abbrev pub after_hearing : PortState → Fields → PortState
-after_hearing port symbol = record port { output = (heard port symbol).state; queued = leave (acknowledged port symbol) port.queued }
+after_hearing port symbol = record port { output = (heard port symbol).state; queued = lists_without (acknowledged port symbol) port.queued }
 
 -- what a symbol does in the input half, by its stype1 and cmd
 abbrev pub obeyed : PortState → Fields → Received
@@ -62,7 +62,7 @@ idle port = acted port None None []
 abbrev pub acts_symbol : PortState → Fields → Acted
 acts_symbol port symbol =
     let next = after_hearing port symbol in
-    acted (record next { input = (obeyed next symbol).state }) (obeyed next symbol).reply None (left (acknowledged port symbol) port.queued)
+    acted (record next { input = (obeyed next symbol).state }) (obeyed next symbol).reply None (packets_of (acknowledged port symbol) port.queued)
 
 -- a packet
 abbrev pub acts_packet : PortState → ℕ → List ℕ → Acted

@@ -1,7 +1,7 @@
 //! What a port sends in a turn.
 ghost use Rattle.std.specs.Prelude.{◌≡◌, ◌<◌, Some};
-ghost use Rattle.link_port.specs.Bursts.{sent_by, HasRange};
-ghost use Rattle.link_port.specs.Turns.{nothing_sent, symbol_sent, packet_sent};
+ghost use Rattle.link_port.specs.Bursts.{burst_by, HasRange};
+ghost use Rattle.link_port.specs.Turns.{no_burst, symbol_burst, packet_burst};
 
 use crate::output_half::Sends;
 use arrayvec::ArrayVec;
@@ -25,8 +25,8 @@ pub struct Burst {
 pub(crate) fn make_burst(sends: Sends, expected: u8, queued: &OutStore) -> Burst
     requires expected { expected < 32 }
     requires range { HasRange sends }
-    ensures chars { result.chars.items ≡ (sent_by sends expected queued.now).chars }
-    ensures sent { result.sent.items ≡ (sent_by sends expected queued.now).sent }
+    ensures chars { result.chars.items ≡ (burst_by sends expected queued.now).chars }
+    ensures sent { result.sent.items ≡ (burst_by sends expected queued.now).sent }
 {
     match sends {
         Sends::Packet(started) => match queued.at(started.prio, started.place) {
@@ -41,8 +41,8 @@ pub(crate) fn make_burst(sends: Sends, expected: u8, queued: &OutStore) -> Burst
 
 /// Nothing.
 fn no_burst() -> Burst
-    ensures chars { result.chars.items ≡ nothing_sent.chars }
-    ensures sent { result.sent.items ≡ nothing_sent.sent }
+    ensures chars { result.chars.items ≡ no_burst.chars }
+    ensures sent { result.sent.items ≡ no_burst.sent }
 {
     Burst {
         chars: ArrayVec::new(),
@@ -52,8 +52,8 @@ fn no_burst() -> Burst
 
 /// One symbol.
 fn symbol_burst(symbol: Symbol) -> Burst
-    ensures chars { result.chars.items ≡ (symbol_sent symbol).chars }
-    ensures sent { result.sent.items ≡ (symbol_sent symbol).sent }
+    ensures chars { result.chars.items ≡ (symbol_burst symbol).chars }
+    ensures sent { result.sent.items ≡ (symbol_burst symbol).sent }
 {
     let mut chars = ArrayVec::new();
     if chars
@@ -71,8 +71,8 @@ fn symbol_burst(symbol: Symbol) -> Burst
 fn packet_burst(expected: u8, ack: u8, packet: &Packet) -> Burst
     requires expected { expected < 32 }
     requires ack { ack < 32 }
-    ensures chars { result.chars.items ≡ (packet_sent expected ack (Some packet.now)).chars }
-    ensures sent { result.sent.items ≡ (packet_sent expected ack (Some packet.now)).sent }
+    ensures chars { result.chars.items ≡ (packet_burst expected ack (Some packet.now)).chars }
+    ensures sent { result.sent.items ≡ (packet_burst expected ack (Some packet.now)).sent }
 {
     let start = start_of_packet(expected);
     let end = end_of_packet(expected);

@@ -4,10 +4,10 @@ ghost use Rattle.rio_packets.specs.CauseNumbers.{number_of};
 ghost use Rattle.rio_packets.specs.Fields.{prio_of};
 ghost use Rattle.link_buffers.specs.Queues.{room_for, stored};
 ghost use Rattle.link_model.specs.Input.{packet_arrival, symbol_arrival, receives, replied, silent};
-ghost use Rattle.link_model.specs.Input.Input.{ErrorStopped};
+ghost use Rattle.link_model.specs.Input as in_half;
 ghost use Rattle.link_model.specs.Input.Arrival.{Damaged, RestartFromRetry, LinkRequest};
 ghost use Rattle.link_receiver.specs.Answers.{after_packet};
-ghost use Rattle.link_port.specs.Windows.{expected_of, expects};
+ghost use Rattle.link_port.specs.States.{expected_of, expects};
 ghost use Rattle.link_port.specs.Halves.{input_of, in_kind_of};
 ghost use Rattle.link_port.specs.Sends.{received};
 
@@ -163,7 +163,7 @@ fn dropped(input: Input) -> Arrived
 
 /// The receiver has stopped, and tells it by a symbol.
 fn stopped(after: (InErrorStopped, Symbol)) -> (Input, Option<Symbol>)
-    ensures { received (input_of result.0) result.1 false ≡ replied (ErrorStopped after.0) after.1 }
+    ensures { received (input_of result.0) result.1 false ≡ replied (in_half.Input.ErrorStopped after.0) after.1 }
 {
     (Input::ErrorStopped(after.0), Some(after.1))
 }

@@ -4,7 +4,7 @@ ghost use Rattle.rio_chars.specs.declared.chars.Char.{Char};
 ghost use Rattle.rio_symbols.specs.Fields.{Fields};
 ghost use Rattle.link_port.specs.Ports.{PortState};
 ghost use Rattle.link_port.specs.Steps.{read, after_reading, acts_symbol};
-ghost use Rattle.link_port.specs.Acting.{replies};
+ghost use Rattle.link_port.specs.Acts.{replies};
 
 /// One character is answered by at most one symbol, also where it completes a packet and the symbol that ended it: this is
 /// start-of-packet or end-of-packet, by its stype1, and these have no answer.

@@ -15,7 +15,7 @@
 //! - [`one_character_has_one_reply`]: a law; the call does nothing
 #![tactic(auto)]
 
-mod acting;
+mod acts;
 mod bursts;
 mod example;
 mod face;
@@ -25,11 +25,11 @@ mod laws;
 mod output_half;
 mod plain;
 mod port;
-#[cfg(test)]
-mod sending_tests;
 mod taken;
 #[cfg(test)]
 mod tests;
+#[cfg(test)]
+mod turn_tests;
 
 pub use bursts::Burst;
 pub use example::carry;

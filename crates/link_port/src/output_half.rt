@@ -1,11 +1,11 @@
 //! `Output`: the output half of a port, in any of its states.
 ghost use Rattle.std.specs.Prelude.{◌≡◌, ◌<◌, [], length, take};
-ghost use Rattle.link_buffers.specs.Taking.{left, leave, highest, Covers};
+ghost use Rattle.link_buffers.specs.Priorities.{packets_of, lists_without, highest, Covers};
 ghost use Rattle.link_model.specs.Output.{hears, stype0, times_out, turned, turns};
 ghost use Rattle.link_model.specs.Output.Stype0.{PacketAccepted, PacketRetry, PacketNotAccepted, LinkResponse};
-ghost use Rattle.link_port.specs.Windows.{prios_of, has_asked, IsOutput};
+ghost use Rattle.link_port.specs.States.{prios_of, has_asked, IsOutput};
 ghost use Rattle.link_port.specs.Halves.{output_of, out_kind_of};
-ghost use Rattle.link_port.specs.Sends.{burst_of, starting, AreWaiting};
+ghost use Rattle.link_port.specs.Sends.{sends_of, starting, AreWaiting};
 
 use crate::kinds::OutKind;
 use arrayvec::ArrayVec;
@@ -59,8 +59,8 @@ impl Output {
         requires covered { Covers (prios_of (output_of self)) queued.old }
         requires empty { freed.old.items ≡ [] }
         ensures state { output_of result ≡ (hears (stype0 s0) (output_of self) ack).state }
-        ensures queued { queued.new ≡ leave (take (hears (stype0 s0) (output_of self) ack).freed (prios_of (output_of self))) queued.old }
-        ensures freed { freed.new.items ≡ left (take (hears (stype0 s0) (output_of self) ack).freed (prios_of (output_of self))) queued.old }
+        ensures queued { queued.new ≡ lists_without (take (hears (stype0 s0) (output_of self) ack).freed (prios_of (output_of self))) queued.old }
+        ensures freed { freed.new.items ≡ packets_of (take (hears (stype0 s0) (output_of self) ack).freed (prios_of (output_of self))) queued.old }
     {
         match s0 {
             0 => self.accepted(ack, queued, freed),
@@ -76,8 +76,8 @@ impl Output {
         requires covered { Covers (prios_of (output_of self)) queued.old }
         requires empty { freed.old.items ≡ [] }
         ensures state { output_of result ≡ (hears PacketAccepted (output_of self) ack).state }
-        ensures queued { queued.new ≡ leave (take (hears PacketAccepted (output_of self) ack).freed (prios_of (output_of self))) queued.old }
-        ensures freed { freed.new.items ≡ left (take (hears PacketAccepted (output_of self) ack).freed (prios_of (output_of self))) queued.old }
+        ensures queued { queued.new ≡ lists_without (take (hears PacketAccepted (output_of self) ack).freed (prios_of (output_of self))) queued.old }
+        ensures freed { freed.new.items ≡ packets_of (take (hears PacketAccepted (output_of self) ack).freed (prios_of (output_of self))) queued.old }
     {
         match self {
             Output::Ok(state) => match state.accepted(ack, queued, freed) {
@@ -123,8 +123,8 @@ impl Output {
         requires covered { Covers (prios_of (output_of self)) queued.old }
         requires empty { freed.old.items ≡ [] }
         ensures state { output_of result ≡ (hears LinkResponse (output_of self) ack).state }
-        ensures queued { queued.new ≡ leave (take (hears LinkResponse (output_of self) ack).freed (prios_of (output_of self))) queued.old }
-        ensures freed { freed.new.items ≡ left (take (hears LinkResponse (output_of self) ack).freed (prios_of (output_of self))) queued.old }
+        ensures queued { queued.new ≡ lists_without (take (hears LinkResponse (output_of self) ack).freed (prios_of (output_of self))) queued.old }
+        ensures freed { freed.new.items ≡ packets_of (take (hears LinkResponse (output_of self) ack).freed (prios_of (output_of self))) queued.old }
     {
         match self {
             Output::ErrorStopped(state) => match state.response(ack, queued, freed) {
@@ -141,7 +141,7 @@ impl Output {
     /// A turn: what is sent, and the next state.
     pub(crate) fn turn(self, queued: &OutStore) -> (Output, Sends)
         requires covered { Covers (prios_of (output_of self)) queued.now }
-        ensures entry { turned (output_of result.0) (burst_of result.1) ≡ turns (output_of self) (highest (leave (prios_of (output_of self)) queued.now)) }
+        ensures entry { turned (output_of result.0) (sends_of result.1) ≡ turns (output_of self) (highest (lists_without (prios_of (output_of self)) queued.now)) }
         ensures waiting { AreWaiting result.1 (prios_of (output_of self)) queued.now }
         ensures covered { Covers (prios_of (output_of result.0)) queued.now }
     {
@@ -189,7 +189,7 @@ impl Output {
     /// Returns the number of outstanding packets.
     pub(crate) fn outstanding(&self) -> u8
         ensures value { result ≡ length (prios_of (output_of self.now)) }
-        ensures window { IsOutput (output_of self.now) }
+        ensures bounds { IsOutput (output_of self.now) }
     {
         match self {
             Output::Ok(state) => state.outstanding(),

@@ -1,8 +1,8 @@
 //! `PlainPort`: a port with no protocol.
 ghost use Rattle.std.specs.Prelude.{◌≡◌, ◌<◌, ◌≤◌, IfOk, IfSome, IfNone};
 ghost use Rattle.link_buffers.specs.Queues.{no_packets, IsOutStore};
-ghost use Rattle.link_buffers.specs.Taking.{highest};
-ghost use Rattle.link_port.specs.Passing.{passing, without, with};
+ghost use Rattle.link_buffers.specs.Priorities.{highest};
+ghost use Rattle.link_port.specs.Plain.{passing, without, with};
 
 use crate::face::PortFace;
 use link_buffers::{InStore, OutStore};
@@ -21,7 +21,7 @@ pub struct PlainPort {
 
 impl Model for PlainPort {
     ghost use Rattle.link_buffers.specs.Queues.{IsInStore, IsOutStore};
-    ghost use Rattle.link_port.specs.Passing.{Plain};
+    ghost use Rattle.link_port.specs.Plain.{Plain};
 
     ghost Value = { Plain };
 

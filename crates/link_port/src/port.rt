@@ -1,9 +1,9 @@
 //! `Port`: the end of a link.
 ghost use Rattle.std.specs.Prelude.{◌≡◌, ◌<◌, ◌≤◌, ◌↔◌, [], length, IsTrue, IfOk};
-ghost use Rattle.link_buffers.specs.Queues.{held};
+ghost use Rattle.link_buffers.specs.Queues.{packet_count};
 ghost use Rattle.link_model.specs.Places.{at_rest as rests};
 ghost use Rattle.link_model.specs.Window.{window};
-ghost use Rattle.link_port.specs.Windows.{prios_of, has_asked};
+ghost use Rattle.link_port.specs.States.{prios_of, has_asked};
 ghost use Rattle.link_port.specs.Halves.{out_kind_of, in_kind_of};
 ghost use Rattle.link_port.specs.Ports.{IsPort, new_port};
 ghost use Rattle.link_port.specs.Steps.{read, takes, first_acted};
@@ -38,9 +38,9 @@ pub struct Port {
 }
 
 impl Model for Port {
-    ghost use Rattle.link_buffers.specs.Taking.{Covers};
+    ghost use Rattle.link_buffers.specs.Priorities.{Covers};
     ghost use Rattle.link_model.specs.Places.{IsBounded};
-    ghost use Rattle.link_port.specs.Windows.{prios_of};
+    ghost use Rattle.link_port.specs.States.{prios_of};
     ghost use Rattle.link_port.specs.Halves.{output_of, input_of};
     ghost use Rattle.link_port.specs.Ports.{PortState};
 
@@ -143,7 +143,7 @@ impl Port {
 
     /// Returns whether a packet is to be sent that is not outstanding.
     pub fn waiting(&self) -> bool
-        ensures { IsTrue result ↔ (0 < held (waiting_in self.now)) }
+        ensures { IsTrue result ↔ (0 < packet_count (waiting_in self.now)) }
     {
         self.bounds();
         let queued = &self.queued;

@@ -32,10 +32,12 @@
 //! - `AfterPacket`: the next state after a packet
 #![tactic(auto)]
 
-mod stopped;
-mod taking;
+mod in_error_stopped;
+mod in_ok;
+mod in_retry_stopped;
 #[cfg(test)]
 mod tests;
 
-pub use stopped::{InErrorStopped, InRetryStopped};
-pub use taking::{AfterPacket, InOk};
+pub use in_error_stopped::InErrorStopped;
+pub use in_ok::{AfterPacket, InOk};
+pub use in_retry_stopped::InRetryStopped;

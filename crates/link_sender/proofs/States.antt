@@ -1,11 +1,10 @@
 -- What a state of the table knows.
 use Rattle.link_model.specs.Output.{Output}
-use Rattle.link_model.specs.Output.Output.{Sending, RetryStopped, ErrorStopped, Failed}
-use Rattle.link_model.specs.Window.{Window, from_ack}
+use Rattle.link_model.specs.Outstanding.{Outstanding, from_ack}
 
 -- the outstanding packets; a sender that has failed knows of none
-abbrev pub window_of : Output → Window
-window_of (Sending w) = w
-window_of (RetryStopped w) = w
-window_of (ErrorStopped asked w) = w
-window_of Failed = from_ack 0
+abbrev pub outstanding_of : Output → Outstanding
+outstanding_of (Output.Ok w) = w
+outstanding_of (Output.RetryStopped w) = w
+outstanding_of (Output.ErrorStopped asked w) = w
+outstanding_of Output.Failed = from_ack 0

@@ -1,2 +1,2 @@
-pub mod Stopped
+pub mod OutErrorStopped
 pub mod Answers

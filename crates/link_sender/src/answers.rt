@@ -1,7 +1,7 @@
 //! What the steps answer.
-use crate::error_stopped::OutErrorStopped;
-use crate::retry_stopped::OutRetryStopped;
-use crate::sending::OutOk;
+use crate::out_error_stopped::OutErrorStopped;
+use crate::out_ok::OutOk;
+use crate::out_retry_stopped::OutRetryStopped;
 
 /// A packet that a turn starts.
 #[derive(Clone, Copy, Debug, PartialEq, Eq)]

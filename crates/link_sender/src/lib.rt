@@ -41,15 +41,15 @@
 #![tactic(auto)]
 
 mod answers;
-mod error_stopped;
-mod freeing;
+mod freed;
+mod out_error_stopped;
+mod out_ok;
+mod out_retry_stopped;
 mod outstanding;
-mod retry_stopped;
-mod sending;
 #[cfg(test)]
 mod tests;
 
 pub use answers::{AfterAccepted, AfterResponse, AfterRetry, OutFailed, Started};
-pub use error_stopped::OutErrorStopped;
-pub use retry_stopped::OutRetryStopped;
-pub use sending::OutOk;
+pub use out_error_stopped::OutErrorStopped;
+pub use out_ok::OutOk;
+pub use out_retry_stopped::OutRetryStopped;

@@ -1,7 +1,8 @@
 //! The outstanding packets: their priorities in the order of their ackIDs, and the oldest ackID.
 ghost use Rattle.std.specs.Prelude.{◌≡◌, ◌<◌, [], length, slice_index, take};
-ghost use Rattle.link_buffers.specs.Taking.{count_of};
-ghost use Rattle.link_model.specs.Window.{window, IsWindow, next_ack, distance, is_oldest, without_oldest, with_next, from_ack};
+ghost use Rattle.link_buffers.specs.Priorities.{count_of};
+ghost use Rattle.link_model.specs.Outstanding.{IsOutstanding, next_ack, distance, is_oldest, without_oldest, with_next, from_ack};
+ghost use Rattle.link_model.specs.Window.{window};
 
 use arrayvec::ArrayVec;
 use std::marker::Model;
@@ -14,13 +15,13 @@ pub(crate) struct Outstanding {
 }
 
 impl Model for Outstanding {
-    ghost use Rattle.link_model.specs.Window.{Window, IsWindow};
+    ghost use Rattle.link_model.specs.Outstanding.{Outstanding, IsOutstanding};
 
-    ghost Value = { Window };
+    ghost Value = { Outstanding };
 
     ghost view = { λ s. record { oldest = s.oldest; prios = s.prios.items } };
 
-    ghost invariant = { λ s. IsWindow (record { oldest = s.oldest; prios = s.prios.items }) };
+    ghost invariant = { λ s. IsOutstanding (record { oldest = s.oldest; prios = s.prios.items }) };
 }
 
 impl Outstanding {
@@ -38,7 +39,7 @@ impl Outstanding {
     /// Returns the ackID of the oldest packet, or the next one where nothing is outstanding.
     pub(crate) fn oldest(&self) -> u8
         ensures value { result ≡ self.now.oldest }
-        ensures window { IsWindow self.now }
+        ensures bounds { IsOutstanding self.now }
     {
         self.oldest
     }
@@ -46,7 +47,7 @@ impl Outstanding {
     /// Returns the priorities of the outstanding packets in the order of their ackIDs.
     pub(crate) fn prios(&self) -> &[u8]
         ensures value { result.now ≡ self.now.prios }
-        ensures window { IsWindow self.now }
+        ensures bounds { IsOutstanding self.now }
     {
         self.prios.as_slice()
     }
@@ -54,7 +55,7 @@ impl Outstanding {
     /// Returns the number of outstanding packets.
     pub(crate) fn len(&self) -> u8
         ensures value { result ≡ length self.now.prios }
-        ensures window { IsWindow self.now }
+        ensures bounds { IsOutstanding self.now }
     {
         self.prios.len() as u8
     }

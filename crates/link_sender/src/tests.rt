@@ -1,4 +1,4 @@
-ghost use Rattle.link_buffers.specs.Taking.{Covers};
+ghost use Rattle.link_buffers.specs.Priorities.{Covers};
 
 use crate::outstanding::Outstanding;
 use crate::{
@@ -163,7 +163,7 @@ fn sending(count: u8, store: &OutStore) -> OutOk
     ensures { Covers result.prios store.now }
 {
     let mut port = OutOk {
-        window: Outstanding::from_ack(30),
+        outstanding: Outstanding::from_ack(30),
     };
     for _ in 0..count {
         let (next, _) = port.turn(store);
@@ -195,7 +195,9 @@ fn accepted(alloc: Global, count: u8, ack: u8) -> Result<(State, Packets), Fail>
 fn retried(alloc: Global, count: u8, ack: u8) -> Result<State, Fail> {
     let store = filled(alloc, 2)?;
     Ok(match sending(count, &store).retry(ack) {
-        AfterRetry::Retry(port) => { State::RetryStopped(port.window.oldest(), port.outstanding()) }
+        AfterRetry::Retry(port) => {
+            State::RetryStopped(port.outstanding.oldest(), port.outstanding())
+        }
         AfterRetry::Stopped(port) => error_stopped(&port),
     })
 }
@@ -225,11 +227,15 @@ fn retry_stopped(store: &OutStore) -> Option<OutRetryStopped> {
 }
 
 fn ok(port: &OutOk) -> State {
-    State::Sending(port.window.oldest(), port.outstanding())
+    State::Sending(port.outstanding.oldest(), port.outstanding())
 }
 
 fn error_stopped(port: &OutErrorStopped) -> State {
-    State::ErrorStopped(port.asked(), port.window.oldest(), port.window.len())
+    State::ErrorStopped(
+        port.asked(),
+        port.outstanding.oldest(),
+        port.outstanding.len(),
+    )
 }
 
 fn packets(freed: usize, store: &OutStore) -> Packets {

@@ -2,18 +2,18 @@
 use Rattle.std.proofs.Common.{◌≡◌, ℕ, ◌-◌, ◌%◌, ◌<◌, ◌≤◌, true, false, Option, Some, None, List, [], ◌∷◌, length, take, inl, inr, refl, ap, ◌∙◌, arith, length-append, length-drop}
 use Rattle.std.proofs.lemmas.Bool.{cases_lt, le-leb}
 use Rattle.std.proofs.lemmas.List.Elements.{All-nil, All-cons, All-drop, All-append}
-use Rattle.link_buffers.specs.Queues.{held}
-use Rattle.link_buffers.specs.Taking.{leave, highest, Covers}
-use Rattle.link_buffers.proofs.TakingLaws.{Covers-drop, Covers-highest, highest_below-some}
+use Rattle.link_buffers.specs.Queues.{packet_count}
+use Rattle.link_buffers.specs.Priorities.{lists_without, highest, Covers}
+use Rattle.link_buffers.proofs.PriorityLaws.{Covers-drop, Covers-highest, highest_below-some}
 use Rattle.link_model.specs.Input.{Input}
 use Rattle.link_model.specs.Output.{Output, Stype0, hears, accepted, retried, responded, turns, started, times_out}
-use Rattle.link_model.specs.Output.Output.{Sending, RetryStopped, ErrorStopped, Failed}
 use Rattle.link_model.specs.Output.Stype0.{PacketAccepted, PacketRetry, PacketNotAccepted, LinkResponse, OtherStype0}
-use Rattle.link_model.specs.Window.{Window, window, IsWindow, distance, from_ack, without_oldest, with_next}
+use Rattle.link_model.specs.Outstanding.{Outstanding, IsOutstanding, distance, from_ack, without_oldest, with_next}
+use Rattle.link_model.specs.Window.{window}
 use Rattle.link_model.proofs.WindowFacts.{startable-full, startable-open}
-use Rattle.link_port.specs.Windows.{prios_of, IsOutput}
+use Rattle.link_port.specs.States.{prios_of, IsOutput}
 use Rattle.link_sound.specs.Marks.{Forward, Backward, Response}
-use Rattle.link_sound.specs.Meanings.{tells, takes_of}
+use Rattle.link_sound.specs.Meanings.{tells, receiver_of}
 use Rattle.link_sound.specs.Between.{IsBetween}
 use Rattle.link_sound.proofs.SenderMoves.{answered}
 use Rattle.link_sound.proofs.Hearing.{oldest_cases}
@@ -27,15 +27,15 @@ pub record IsSender (output : Output) (queued : List (List (List ℕ))) : Type 0
 pub covers_none : (queued : List (List (List ℕ))) → Covers [] queued
 covers_none queued prio = omega arith
 
-pub nothing_from : (ack : ℕ) → ack < 32 → IsWindow (from_ack ack)
+pub nothing_from : (ack : ℕ) → ack < 32 → IsOutstanding (from_ack ack)
 nothing_from ack below = record { oldest = below; few = omega arith; prios = All-nil (λ (prio : ℕ). prio < 4) }
 
 -- the oldest packet is acknowledged
-fewer : (w : Window) → IsWindow w → IsWindow (without_oldest w)
+fewer : (w : Outstanding) → IsOutstanding w → IsOutstanding (without_oldest w)
 fewer w is = record { oldest = omega arith; few = omega (arith, is.few, length-drop 1 w.prios); prios = All-drop (λ (prio : ℕ). prio < 4) 1 w.prios is.prios }
 
 -- one more packet is outstanding
-more : (w : Window) (prio : ℕ) → length w.prios < window → prio < 4 → IsWindow w → IsWindow (with_next w prio)
+more : (w : Outstanding) (prio : ℕ) → length w.prios < window → prio < 4 → IsOutstanding w → IsOutstanding (with_next w prio)
 more w prio room few is = record {
   oldest = is.oldest;
   few = omega (arith, length-append w.prios (prio ∷ []));
@@ -43,40 +43,40 @@ more w prio room few is = record {
 }
 
 -- a turn
-started_sends : (w : Window) (queued : List (List (List ℕ))) (waiting : Option ℕ) → length w.prios < window → highest (leave w.prios queued) ≡ waiting → IsSender (Sending w) queued → IsSender (started w waiting).state queued
+started_sends : (w : Outstanding) (queued : List (List (List ℕ))) (waiting : Option ℕ) → length w.prios < window → highest (lists_without w.prios queued) ≡ waiting → IsSender (Output.Ok w) queued → IsSender (started w waiting).state queued
 started_sends w queued None room waits s = s
 started_sends w queued (Some prio) room waits s = record {
-  window_is = more w prio room (highest_below-some 4 prio (leave w.prios queued) waits).0 s.window_is;
+  window_is = more w prio room (highest_below-some 4 prio (lists_without w.prios queued) waits).0 s.window_is;
   covered = Covers-highest w.prios prio queued s.covered waits;
 }
 
-pub turn_sends : (output : Output) (queued : List (List (List ℕ))) → IsSender output queued → IsSender (turns output (highest (leave (prios_of output) queued))).state queued
-turn_sends (Sending w) queued s =
+pub turn_sends : (output : Output) (queued : List (List (List ℕ))) → IsSender output queued → IsSender (turns output (highest (lists_without (prios_of output) queued))).state queued
+turn_sends (Output.Ok w) queued s =
     elim (cases_lt (length w.prios) window) [
-      | inl few ↦ rw (startable-open w (highest (leave w.prios queued)) few) (started_sends w queued (highest (leave w.prios queued)) few refl s)
-      | inr full ↦ rw (startable-full w (highest (leave w.prios queued)) full) s
+      | inl few ↦ rw (startable-open w (highest (lists_without w.prios queued)) few) (started_sends w queued (highest (lists_without w.prios queued)) few refl s)
+      | inr full ↦ rw (startable-full w (highest (lists_without w.prios queued)) full) s
     ]
-turn_sends (RetryStopped w) queued s = record { window_is = nothing_from w.oldest s.window_is.oldest; covered = covers_none queued }
-turn_sends (ErrorStopped false w) queued s = record { window_is = s.window_is; covered = s.covered }
-turn_sends (ErrorStopped true w) queued s = s
-turn_sends Failed queued s = s
+turn_sends (Output.RetryStopped w) queued s = record { window_is = nothing_from w.oldest s.window_is.oldest; covered = covers_none queued }
+turn_sends (Output.ErrorStopped false w) queued s = record { window_is = s.window_is; covered = s.covered }
+turn_sends (Output.ErrorStopped true w) queued s = s
+turn_sends Output.Failed queued s = s
 
 -- a time-out
 pub time_out_sends : (output : Output) (queued : List (List (List ℕ))) → IsSender output queued → IsSender (times_out output) queued
-time_out_sends (Sending w) queued s = record { window_is = s.window_is; covered = s.covered }
-time_out_sends (RetryStopped w) queued s = s
-time_out_sends (ErrorStopped asked w) queued s = record { window_is = s.window_is; covered = s.covered }
-time_out_sends Failed queued s = s
+time_out_sends (Output.Ok w) queued s = record { window_is = s.window_is; covered = s.covered }
+time_out_sends (Output.RetryStopped w) queued s = s
+time_out_sends (Output.ErrorStopped asked w) queued s = record { window_is = s.window_is; covered = s.covered }
+time_out_sends Output.Failed queued s = s
 
 -- what comes back
-accepted_sends : (w : Window) (ack : ℕ) (queued : List (List (List ℕ))) → IsSender (Sending w) queued → IsSender (accepted w ack).state (leave (take (accepted w ack).freed w.prios) queued)
+accepted_sends : (w : Outstanding) (ack : ℕ) (queued : List (List (List ℕ))) → IsSender (Output.Ok w) queued → IsSender (accepted w ack).state (lists_without (take (accepted w ack).freed w.prios) queued)
 accepted_sends w ack queued s =
     elim (oldest_cases w ack) [
       | inl (holds, same) ↦ rw holds (record { window_is = fewer w s.window_is; covered = Covers-drop 1 w.prios queued s.covered })
       | inr fails ↦ rw fails (record { window_is = s.window_is; covered = s.covered })
     ]
 
-retried_sends : (w : Window) (ack : ℕ) (queued : List (List (List ℕ))) → IsSender (Sending w) queued → IsSender (retried w ack).state (leave (take (retried w ack).freed w.prios) queued)
+retried_sends : (w : Outstanding) (ack : ℕ) (queued : List (List (List ℕ))) → IsSender (Output.Ok w) queued → IsSender (retried w ack).state (lists_without (take (retried w ack).freed w.prios) queued)
 retried_sends w ack queued s =
     elim (oldest_cases w ack) [
       | inl (holds, same) ↦ rw holds (record { window_is = s.window_is; covered = s.covered })
@@ -87,45 +87,45 @@ below_32 : (ack held : ℕ) → ack ≡ held % 32 → ack < 32
 below_32 ack held is = omega arith
 
 responded_sends :
-    (w : Window) (ack : ℕ) (input : Input) (queued : List (List (List ℕ))) (ahead : List Forward) (back : List Backward)
-    → IsBetween (ErrorStopped true w) input queued ahead (Response ack ∷ back) → IsSender (ErrorStopped true w) queued
-    → IsSender (responded true w ack).state (leave (take (responded true w ack).freed w.prios) queued)
-responded_sends w ack input queued ahead back b s =
-    let does = answered (takes_of input) b.freed b.held ack b.sent ahead back b.is in
+    (w : Outstanding) (ack : ℕ) (input : Input) (queued : List (List (List ℕ))) (kept_ahead : List Forward) (kept_back : List Backward)
+    → IsBetween (Output.ErrorStopped true w) input queued kept_ahead (Response ack ∷ kept_back) → IsSender (Output.ErrorStopped true w) queued
+    → IsSender (responded true w ack).state (lists_without (take (responded true w ack).freed w.prios) queued)
+responded_sends w ack input queued kept_ahead kept_back b s =
+    let does = answered (receiver_of input) b.freed b.held ack b.sent kept_ahead kept_back b.is in
     let far : distance w.oldest ack ≡ b.held - b.freed = ap (λ oldest. distance oldest ack) b.oldest ∙ does.1 in
     let total = count_is w.prios queued b.freed b.sent s.covered (omega (arith, b.is.held_first, b.is.sent_first)) b.outstanding in
     let within : distance w.oldest ack ≤ length w.prios = omega (arith, b.is.sent_first) in
     rw (le-leb (distance w.oldest ack) (length w.prios) within) (record {
       window_is = nothing_from ack (below_32 ack b.held does.0);
-      covered = covers_none (leave (take (distance w.oldest ack) w.prios) queued);
+      covered = covers_none (lists_without (take (distance w.oldest ack) w.prios) queued);
     })
 
 -- a sender that stopped knows of the same packets
-stopped_sends : (w : Window) (queued : List (List (List ℕ))) → IsWindow w → Covers w.prios queued → IsSender (ErrorStopped false w) queued
+stopped_sends : (w : Outstanding) (queued : List (List (List ℕ))) → IsOutstanding w → Covers w.prios queued → IsSender (Output.ErrorStopped false w) queued
 stopped_sends w queued is covered = record { window_is = is; covered = covered }
 
 pub heard_sends :
-    (kind : Stype0) (ack : ℕ) (output : Output) (input : Input) (queued : List (List (List ℕ))) (ahead : List Forward) (back : List Backward)
-    → IsBetween output input queued ahead (tells kind ack ∷ back) → IsSender output queued
-    → IsSender (hears kind output ack).state (leave (take (hears kind output ack).freed (prios_of output)) queued)
-heard_sends PacketAccepted ack (Sending w) input queued ahead back b s = accepted_sends w ack queued s
-heard_sends PacketAccepted ack (RetryStopped w) input queued ahead back b s = stopped_sends w queued s.window_is s.covered
-heard_sends PacketAccepted ack (ErrorStopped asked w) input queued ahead back b s = s
-heard_sends PacketAccepted ack Failed input queued ahead back b s = s
-heard_sends PacketRetry ack (Sending w) input queued ahead back b s = retried_sends w ack queued s
-heard_sends PacketRetry ack (RetryStopped w) input queued ahead back b s = stopped_sends w queued s.window_is s.covered
-heard_sends PacketRetry ack (ErrorStopped asked w) input queued ahead back b s = s
-heard_sends PacketRetry ack Failed input queued ahead back b s = s
-heard_sends PacketNotAccepted ack (Sending w) input queued ahead back b s = stopped_sends w queued s.window_is s.covered
-heard_sends PacketNotAccepted ack (RetryStopped w) input queued ahead back b s = stopped_sends w queued s.window_is s.covered
-heard_sends PacketNotAccepted ack (ErrorStopped asked w) input queued ahead back b s = s
-heard_sends PacketNotAccepted ack Failed input queued ahead back b s = s
-heard_sends LinkResponse ack (Sending w) input queued ahead back b s = s
-heard_sends LinkResponse ack (RetryStopped w) input queued ahead back b s = s
-heard_sends LinkResponse ack (ErrorStopped false w) input queued ahead back b s = s
-heard_sends LinkResponse ack (ErrorStopped true w) input queued ahead back b s = responded_sends w ack input queued ahead back b s
-heard_sends LinkResponse ack Failed input queued ahead back b s = s
-heard_sends OtherStype0 ack (Sending w) input queued ahead back b s = s
-heard_sends OtherStype0 ack (RetryStopped w) input queued ahead back b s = s
-heard_sends OtherStype0 ack (ErrorStopped asked w) input queued ahead back b s = s
-heard_sends OtherStype0 ack Failed input queued ahead back b s = s
+    (kind : Stype0) (ack : ℕ) (output : Output) (input : Input) (queued : List (List (List ℕ))) (kept_ahead : List Forward) (kept_back : List Backward)
+    → IsBetween output input queued kept_ahead (tells kind ack ∷ kept_back) → IsSender output queued
+    → IsSender (hears kind output ack).state (lists_without (take (hears kind output ack).freed (prios_of output)) queued)
+heard_sends PacketAccepted ack (Output.Ok w) input queued kept_ahead kept_back b s = accepted_sends w ack queued s
+heard_sends PacketAccepted ack (Output.RetryStopped w) input queued kept_ahead kept_back b s = stopped_sends w queued s.window_is s.covered
+heard_sends PacketAccepted ack (Output.ErrorStopped asked w) input queued kept_ahead kept_back b s = s
+heard_sends PacketAccepted ack Output.Failed input queued kept_ahead kept_back b s = s
+heard_sends PacketRetry ack (Output.Ok w) input queued kept_ahead kept_back b s = retried_sends w ack queued s
+heard_sends PacketRetry ack (Output.RetryStopped w) input queued kept_ahead kept_back b s = stopped_sends w queued s.window_is s.covered
+heard_sends PacketRetry ack (Output.ErrorStopped asked w) input queued kept_ahead kept_back b s = s
+heard_sends PacketRetry ack Output.Failed input queued kept_ahead kept_back b s = s
+heard_sends PacketNotAccepted ack (Output.Ok w) input queued kept_ahead kept_back b s = stopped_sends w queued s.window_is s.covered
+heard_sends PacketNotAccepted ack (Output.RetryStopped w) input queued kept_ahead kept_back b s = stopped_sends w queued s.window_is s.covered
+heard_sends PacketNotAccepted ack (Output.ErrorStopped asked w) input queued kept_ahead kept_back b s = s
+heard_sends PacketNotAccepted ack Output.Failed input queued kept_ahead kept_back b s = s
+heard_sends LinkResponse ack (Output.Ok w) input queued kept_ahead kept_back b s = s
+heard_sends LinkResponse ack (Output.RetryStopped w) input queued kept_ahead kept_back b s = s
+heard_sends LinkResponse ack (Output.ErrorStopped false w) input queued kept_ahead kept_back b s = s
+heard_sends LinkResponse ack (Output.ErrorStopped true w) input queued kept_ahead kept_back b s = responded_sends w ack input queued kept_ahead kept_back b s
+heard_sends LinkResponse ack Output.Failed input queued kept_ahead kept_back b s = s
+heard_sends OtherStype0 ack (Output.Ok w) input queued kept_ahead kept_back b s = s
+heard_sends OtherStype0 ack (Output.RetryStopped w) input queued kept_ahead kept_back b s = s
+heard_sends OtherStype0 ack (Output.ErrorStopped asked w) input queued kept_ahead kept_back b s = s
+heard_sends OtherStype0 ack Output.Failed input queued kept_ahead kept_back b s = s

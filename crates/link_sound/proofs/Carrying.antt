@@ -6,19 +6,19 @@ use Rattle.std.proofs.lemmas.List.{append-nil}
 use Rattle.std.proofs.lemmas.List.Elements.{filter-append}
 use Rattle.rio_packets.specs.Fields.{prio_of}
 use Rattle.link_buffers.specs.Queues.{no_packets, list_at, popped, appended}
-use Rattle.link_buffers.specs.Taking.{Covers, highest}
-use Rattle.link_buffers.proofs.TakingLaws.{list_at-appended, list_at-popped, left-appended, leave-appended, Covers-take, length-leave}
+use Rattle.link_buffers.specs.Priorities.{Covers, highest}
+use Rattle.link_buffers.proofs.PriorityLaws.{list_at-appended, list_at-popped, packets_of-appended, lists_without-appended, Covers-take, length-lists_without}
 use Rattle.link_model.specs.declared.event.Event.{Event}
 use Rattle.link_model.specs.Output as out
-use Rattle.link_model.specs.Window.{distance}
+use Rattle.link_model.specs.Outstanding.{distance}
 use Rattle.link_port.specs.Ports.{PortState, IsPort}
 use Rattle.link_port.specs.Steps.{acts}
 use Rattle.link_port.specs.Turns.{turns_to, timed_out, waiting_in}
-use Rattle.link_port.specs.Windows.{prios_of, expected_of}
+use Rattle.link_port.specs.States.{prios_of, expected_of}
 use Rattle.link_sound.specs.Meanings.{forward, backward, oldest_of}
 use Rattle.link_sound.specs.Sound.{IsSound}
 use Rattle.link_sound.specs.Lent.{lent, waiting, Holds, Frees}
-use Rattle.link_sound.specs.Histories.{AreBuffers, Journeys, Link, new_link, turned_round, after_event, IsStep, Turns, Acts, Others, TimesOut, Puts, Loses, Reads, IsHistory, Rests, AtFirst, AtSecond, of_prio, AreCarried}
+use Rattle.link_sound.specs.Histories.{AreBuffers, Journeys, Link, new_link, turned_round, after_event, IsStep, Turns, Acts, Others, TimesOut, Puts, Loses, GoesOn, IsHistory, Rests, AtFirst, AtSecond, of_prio, AreCarried}
 use Rattle.link_sound.proofs.Freed.{turn_stays, time_out_stays}
 use Rattle.link_sound.proofs.Steps.{begins, exchanged, turn_keeps, acted_keeps, other_keeps, time_out_keeps, lost_keeps, put_keeps, other_parts}
 use Rattle.link_sound.proofs.Moves.{acted_holds, other_holds, acted_frees, other_frees}
@@ -30,7 +30,7 @@ use Rattle.link_sound.proofs.PortBounds.{new_is_port, turn_port, time_out_port, 
 pub record IsLawful (l : Link) : Type 0 where
   pub port_a : IsPort l.a
   pub port_b : IsPort l.b
-  pub sound : IsSound l.a l.b l.from_a l.from_b
+  pub sound : IsSound l.a l.b l.kept_a l.kept_b
   pub of_a : AreCarried l.of_a l.a l.b
   pub of_b : AreCarried l.of_b l.b l.a
 
@@ -108,16 +108,16 @@ put_carried j p q packet covers few c =
     let count = distance (oldest_of p.output) (expected_of q.input) in
     let prios = take count (prios_of p.output) in
     let covered = Covers-take count (prios_of p.output) p.queued covers in
-    let long = length-leave prios p.queued in
+    let long = length-lists_without prios p.queued in
     let within : prio_of packet < length (waiting p q) = omega arith in
     record {
       in_order = λ prio. put_of_prio prio j.put j.held (waiting p q) packet within (c.in_order prio)
-          ∙ ap (λ lists. of_prio prio j.held ++ list_at lists prio) (sym (leave-appended prios p.queued (prio_of packet) packet covered few));
-      freed_after_held = c.freed_after_held ∙ ap (λ packets. j.freed ++ packets) (sym (left-appended prios p.queued (prio_of packet) packet covered few));
+          ∙ ap (λ lists. of_prio prio j.held ++ list_at lists prio) (sym (lists_without-appended prios p.queued (prio_of packet) packet covered few));
+      freed_after_held = c.freed_after_held ∙ ap (λ packets. j.freed ++ packets) (sym (packets_of-appended prios p.queued (prio_of packet) packet covered few));
     }
 
 event_keeps :
-    (l : Link) (e : Event) (rest : List Event) → IsPort (acts l.a e).port → IsSound (acts l.a e).port l.b (after_event l e rest).from_a rest
+    (l : Link) (e : Event) (rest : List Event) → IsPort (acts l.a e).port → IsSound (acts l.a e).port l.b (after_event l e rest).kept_a rest
     → Frees l.a (acts l.a e).port l.b (acts l.a e).freed → Holds l.b l.a (acts l.a e).port (acts l.a e).held → IsLawful l → IsLawful (after_event l e rest)
 event_keeps l e rest port sound frees holds is = record {
   port_a = port;
@@ -129,26 +129,26 @@ event_keeps l e rest port sound frees holds is = record {
 
 step_keeps : (l next : Link) → IsStep l next → IsLawful l → IsLawful next
 step_keeps l next (Turns _) is =
-    let stays = turn_stays l.a.output (highest (waiting_in l.a)) l.b.input l.a.queued (map forward l.from_a) (map backward l.from_b) is.port_a.covered is.sound.a_to_b in
+    let stays = turn_stays l.a.output (highest (waiting_in l.a)) l.b.input l.a.queued (map forward l.kept_a) (map backward l.kept_b) is.port_a.covered is.sound.a_to_b in
     record {
       port_a = turn_port l.a is.port_a;
       port_b = is.port_b;
-      sound = turn_keeps l.a l.b l.from_a l.from_b is.port_a.covered is.sound;
+      sound = turn_keeps l.a l.b l.kept_a l.kept_b is.port_a.covered is.sound;
       of_a = stay_carried l.of_a l.a l.b (turns_to l.a) l.b stays.0 stays.1 is.of_a;
       of_b = stay_carried l.of_b l.b l.a l.b (turns_to l.a) refl refl is.of_b;
     }
 step_keeps l next (Acts _ e rest first acted) is =
-    let sound = subst (λ (es : List Event). IsSound l.a l.b l.from_a es) first is.sound in
-    event_keeps l e rest (acted_port l.a l.b l.from_a rest e is.port_a is.port_b acted sound) (acted_keeps l.a l.b l.from_a rest e is.port_a.covered acted sound)
-    (acted_frees l.a l.b l.from_a rest e is.port_a.covered acted sound) (acted_holds l.a l.b l.from_a rest e is.port_b.covered is.port_b.sends acted sound) is
+    let sound = subst (λ (es : List Event). IsSound l.a l.b l.kept_a es) first is.sound in
+    event_keeps l e rest (acted_port l.a l.b l.kept_a rest e is.port_a is.port_b acted sound) (acted_keeps l.a l.b l.kept_a rest e is.port_a.covered acted sound)
+    (acted_frees l.a l.b l.kept_a rest e is.port_a.covered acted sound) (acted_holds l.a l.b l.kept_a rest e is.port_b.covered is.port_b.sends acted sound) is
 step_keeps l next (Others _ e other) is =
-    event_keeps l e l.from_b (other_port l.a e is.port_a other) (other_keeps l.a l.b l.from_a l.from_b e other is.sound) (other_frees l.a l.b e other) (other_holds l.a l.b e other) is
+    event_keeps l e l.kept_b (other_port l.a e is.port_a other) (other_keeps l.a l.b l.kept_a l.kept_b e other is.sound) (other_frees l.a l.b e other) (other_holds l.a l.b e other) is
 step_keeps l next (TimesOut _) is =
     let stays = time_out_stays l.a.output (expected_of l.b.input) l.a.queued in
     record {
       port_a = time_out_port l.a is.port_a;
       port_b = is.port_b;
-      sound = time_out_keeps l.a l.b l.from_a l.from_b is.sound;
+      sound = time_out_keeps l.a l.b l.kept_a l.kept_b is.sound;
       of_a = stay_carried l.of_a l.a l.b (timed_out l.a) l.b stays.0 stays.1 is.of_a;
       of_b = stay_carried l.of_b l.b l.a l.b (timed_out l.a) refl refl is.of_b;
     }
@@ -157,29 +157,29 @@ step_keeps l next (Puts _ packet few room) is =
     record {
       port_a = put_port l.a packet few room is.port_a;
       port_b = is.port_b;
-      sound = put_keeps l.a l.b l.from_a l.from_b (prio_of packet) packet is.port_a.covered within is.sound;
+      sound = put_keeps l.a l.b l.kept_a l.kept_b (prio_of packet) packet is.port_a.covered within is.sound;
       of_a = put_carried l.of_a l.a l.b packet is.port_a.covered within is.of_a;
       of_b = stay_carried l.of_b l.b l.a l.b (record l.a { queued = appended l.a.queued (prio_of packet) packet }) refl refl is.of_b;
     }
-step_keeps l next (Loses _ lost_a from_a lost_b from_b first second) is =
-    let sound = subst (λ (es : List Event). IsSound l.a l.b (lost_a ++ from_a) es) second (subst (λ (es : List Event). IsSound l.a l.b es l.from_b) first is.sound) in
+step_keeps l next (Loses _ lost_a kept_a lost_b kept_b first second) is =
+    let sound = subst (λ (es : List Event). IsSound l.a l.b (lost_a ++ kept_a) es) second (subst (λ (es : List Event). IsSound l.a l.b es l.kept_b) first is.sound) in
     record {
       port_a = is.port_a;
       port_b = is.port_b;
-      sound = lost_keeps l.a l.b lost_a from_a lost_b from_b sound;
+      sound = lost_keeps l.a l.b lost_a kept_a lost_b kept_b sound;
       of_a = is.of_a;
       of_b = is.of_b;
     }
-step_keeps l next (Reads _ received place store bounded) is = record {
+step_keeps l next (GoesOn _ received place store bounded) is = record {
   port_a = read_port l.a received place store bounded is.port_a;
   port_b = is.port_b;
-  sound = other_parts l.a l.b l.from_a l.from_b received place is.sound;
+  sound = other_parts l.a l.b l.kept_a l.kept_b received place is.sound;
   of_a = stay_carried l.of_a l.a l.b (record l.a { received = received; place = place }) l.b refl refl is.of_a;
   of_b = stay_carried l.of_b l.b l.a l.b (record l.a { received = received; place = place }) refl refl is.of_b;
 }
 
 round_keeps : (l : Link) → IsLawful l → IsLawful (turned_round l)
-round_keeps l is = record { port_a = is.port_b; port_b = is.port_a; sound = exchanged l.a l.b l.from_a l.from_b is.sound; of_a = is.of_b; of_b = is.of_a }
+round_keeps l is = record { port_a = is.port_b; port_b = is.port_a; sound = exchanged l.a l.b l.kept_a l.kept_b is.sound; of_a = is.of_b; of_b = is.of_a }
 
 history_keeps : (l end : Link) → IsHistory l end → IsLawful l → IsLawful end
 history_keeps l end (Rests _) is = is
@@ -209,7 +209,7 @@ all_lawful m n l first second history = history_keeps (new_link m n) l history (
 pub all_ports : (m n : ℕ) (l : Link) → AreBuffers m → AreBuffers n → IsHistory (new_link m n) l → IsPort l.a × IsPort l.b
 all_ports m n l first second history = let is = all_lawful m n l first second history in (is.port_a, is.port_b)
 
-pub all_sound : (m n : ℕ) (l : Link) → AreBuffers m → AreBuffers n → IsHistory (new_link m n) l → IsSound l.a l.b l.from_a l.from_b
+pub all_sound : (m n : ℕ) (l : Link) → AreBuffers m → AreBuffers n → IsHistory (new_link m n) l → IsSound l.a l.b l.kept_a l.kept_b
 all_sound m n l first second history = (all_lawful m n l first second history).sound
 
 pub all_carried : (m n : ℕ) (l : Link) → AreBuffers m → AreBuffers n → IsHistory (new_link m n) l → AreCarried l.of_a l.a l.b × AreCarried l.of_b l.b l.a
@@ -218,4 +218,4 @@ all_carried m n l first second history = let is = all_lawful m n l first second 
 pub none_failed : (m n : ℕ) (l : Link) → AreBuffers m → AreBuffers n → IsHistory (new_link m n) l → (l.a.output ≢ out.Output.Failed) × (l.b.output ≢ out.Output.Failed)
 none_failed m n l first second history =
     let sound = all_sound m n l first second history in
-    (not_failed l.a l.b l.from_a l.from_b sound, not_failed l.b l.a l.from_b l.from_a (exchanged l.a l.b l.from_a l.from_b sound))
+    (not_failed l.a l.b l.kept_a l.kept_b sound, not_failed l.b l.a l.kept_b l.kept_a (exchanged l.a l.b l.kept_a l.kept_b sound))

@@ -6,25 +6,24 @@ use Rattle.std.proofs.lemmas.Option.{slice_get_within}
 use Rattle.std.proofs.Math.ListN.{get_or-eq_default}
 use Rattle.rio_packets.specs.CauseNumbers.{number_of}
 use Rattle.rio_packets.specs.Fields.{prio_of}
-use Rattle.link_buffers.specs.Queues.{no_packets, Sorted, list_at, appended, Buffered, room_for, stored, held, IsInStore, IsOutStore}
-use Rattle.link_buffers.specs.Taking.{Covers}
+use Rattle.link_buffers.specs.Queues.{no_packets, Sorted, list_at, appended, Buffered, room_for, stored, packet_count, IsInStore, IsOutStore}
+use Rattle.link_buffers.specs.Priorities.{Covers}
 use Rattle.link_buffers.proofs.StoreLemmas.{IsInStore-appended, IsOutStore-appended}
-use Rattle.link_buffers.proofs.TakingLaws.{Covers-appended, Covers-take, IsOutStore-leave, length-leave}
+use Rattle.link_buffers.proofs.PriorityLaws.{Covers-appended, Covers-take, IsOutStore-lists_without, length-lists_without}
 use Rattle.link_model.specs.declared.event.Event.{Event}
 use Rattle.link_model.specs.declared.event.Event.TheVariants.{Ctl, Pkt, Bad}
 use Rattle.link_model.specs.Input.{Input, Arrival, packet_arrival, symbol_arrival, receives}
-use Rattle.link_model.specs.Input.Input.{Taking, RetryStopped, ErrorStopped}
 use Rattle.link_model.specs.Input.Arrival.{ExpectedWithRoom, ExpectedWithoutRoom, UnexpectedAck, Damaged, RestartFromRetry, LinkRequest, OtherStype1}
 use Rattle.link_model.specs.Output.{Output, stype0}
 use Rattle.link_model.specs.Places.{Place, IsBounded}
-use Rattle.link_model.specs.Window.{distance}
-use Rattle.link_port.specs.Windows.{prios_of, expected_of, expects}
+use Rattle.link_model.specs.Outstanding.{distance}
+use Rattle.link_port.specs.States.{prios_of, expected_of, expects}
 use Rattle.link_port.specs.Ports.{PortState, IsPort, new_port}
 use Rattle.link_port.specs.Steps.{heard, acts, is_acted}
 use Rattle.link_port.specs.Turns.{turns_to, timed_out}
 use Rattle.link_sound.specs.Marks.{Forward, Backward, Packet}
-use Rattle.link_sound.specs.Direction.{IsShut}
-use Rattle.link_sound.specs.Meanings.{takes_of, oldest_of}
+use Rattle.link_sound.specs.Receiver.{IsShut}
+use Rattle.link_sound.specs.Meanings.{receiver_of, oldest_of}
 use Rattle.link_sound.specs.Between.{IsBetween}
 use Rattle.link_sound.specs.Sound.{IsSound}
 use Rattle.link_sound.specs.Lent.{waiting_from}
@@ -35,27 +34,27 @@ use Rattle.link_sound.proofs.Steps.{is_expected}
 
 -- the expected ackID stays one of five bits
 expected_below : (what : Arrival) (input : Input) → expected_of input < 32 → expected_of (receives what input).state < 32
-expected_below ExpectedWithRoom (Taking expected) below = omega arith
-expected_below ExpectedWithRoom (RetryStopped expected) below = below
-expected_below ExpectedWithRoom (ErrorStopped expected) below = below
-expected_below ExpectedWithoutRoom (Taking expected) below = below
-expected_below ExpectedWithoutRoom (RetryStopped expected) below = below
-expected_below ExpectedWithoutRoom (ErrorStopped expected) below = below
-expected_below UnexpectedAck (Taking expected) below = below
-expected_below UnexpectedAck (RetryStopped expected) below = below
-expected_below UnexpectedAck (ErrorStopped expected) below = below
-expected_below (Damaged cause) (Taking expected) below = below
-expected_below (Damaged cause) (RetryStopped expected) below = below
-expected_below (Damaged cause) (ErrorStopped expected) below = below
-expected_below RestartFromRetry (Taking expected) below = below
-expected_below RestartFromRetry (RetryStopped expected) below = below
-expected_below RestartFromRetry (ErrorStopped expected) below = below
-expected_below LinkRequest (Taking expected) below = below
-expected_below LinkRequest (RetryStopped expected) below = below
-expected_below LinkRequest (ErrorStopped expected) below = below
-expected_below OtherStype1 (Taking expected) below = below
-expected_below OtherStype1 (RetryStopped expected) below = below
-expected_below OtherStype1 (ErrorStopped expected) below = below
+expected_below ExpectedWithRoom (Input.Ok expected) below = omega arith
+expected_below ExpectedWithRoom (Input.RetryStopped expected) below = below
+expected_below ExpectedWithRoom (Input.ErrorStopped expected) below = below
+expected_below ExpectedWithoutRoom (Input.Ok expected) below = below
+expected_below ExpectedWithoutRoom (Input.RetryStopped expected) below = below
+expected_below ExpectedWithoutRoom (Input.ErrorStopped expected) below = below
+expected_below UnexpectedAck (Input.Ok expected) below = below
+expected_below UnexpectedAck (Input.RetryStopped expected) below = below
+expected_below UnexpectedAck (Input.ErrorStopped expected) below = below
+expected_below (Damaged cause) (Input.Ok expected) below = below
+expected_below (Damaged cause) (Input.RetryStopped expected) below = below
+expected_below (Damaged cause) (Input.ErrorStopped expected) below = below
+expected_below RestartFromRetry (Input.Ok expected) below = below
+expected_below RestartFromRetry (Input.RetryStopped expected) below = below
+expected_below RestartFromRetry (Input.ErrorStopped expected) below = below
+expected_below LinkRequest (Input.Ok expected) below = below
+expected_below LinkRequest (Input.RetryStopped expected) below = below
+expected_below LinkRequest (Input.ErrorStopped expected) below = below
+expected_below OtherStype1 (Input.Ok expected) below = below
+expected_below OtherStype1 (Input.RetryStopped expected) below = below
+expected_below OtherStype1 (Input.ErrorStopped expected) below = below
 
 -- a list that has a packet is one of the lists
 list_within : (lists : List (List (List ℕ))) (prio : ℕ) (packet : List ℕ) → slice_get (list_at lists prio) 0 ≡ Some packet → prio < length lists
@@ -69,61 +68,61 @@ list_within lists prio packet is =
 -- a packet with room is put into the store
 roomy : (store : Buffered) (packet : List ℕ) → prio_of packet < 4 → room_for store (prio_of packet) ≡ true → IsInStore store → IsInStore (stored true store packet)
 roomy store packet few room is =
-    let less = ltb-true (held store.lists + (3 - prio_of packet)) store.buffers room in
+    let less = ltb-true (packet_count store.lists + (3 - prio_of packet)) store.buffers room in
     IsInStore-appended store.lists store.buffers packet is few (omega arith)
 
 expected_store :
-    (output : Output) (queued : List (List (List ℕ))) (store : Buffered) (ack : ℕ) (packet : List ℕ) (ahead : List Forward) (back : List Backward) (room : Bool)
-    → room_for store (prio_of packet) ≡ room → Covers (prios_of output) queued → IsOutStore queued → IsBetween output (Taking ack) queued (Packet ack packet ∷ ahead) back → IsInStore store
-    → IsInStore (stored (receives (packet_arrival ack ack room) (Taking ack)).held store packet)
-expected_store output queued store ack packet ahead back true room covers four b is =
-    let first = (held_is output ack queued packet ahead back covers four b).first in
-    let long = length-leave (take (distance (oldest_of output) ack) (prios_of output)) queued in
+    (output : Output) (queued : List (List (List ℕ))) (store : Buffered) (ack : ℕ) (packet : List ℕ) (kept_ahead : List Forward) (kept_back : List Backward) (room : Bool)
+    → room_for store (prio_of packet) ≡ room → Covers (prios_of output) queued → IsOutStore queued → IsBetween output (Input.Ok ack) queued (Packet ack packet ∷ kept_ahead) kept_back → IsInStore store
+    → IsInStore (stored (receives (packet_arrival ack ack room) (Input.Ok ack)).held store packet)
+expected_store output queued store ack packet kept_ahead kept_back true room covers four b is =
+    let first = (held_is output ack queued packet kept_ahead kept_back covers four b).first in
+    let long = length-lists_without (take (distance (oldest_of output) ack) (prios_of output)) queued in
     let few = list_within (waiting_from output ack queued) (prio_of packet) packet first in
     rw (eq-eqb ack ack refl) (roomy store packet (omega (arith, four.four)) room is)
-expected_store output queued store ack packet ahead back false room covers four b is = rw (eq-eqb ack ack refl) is
+expected_store output queued store ack packet kept_ahead kept_back false room covers four b is = rw (eq-eqb ack ack refl) is
 
 packet_store :
-    (output : Output) (queued : List (List (List ℕ))) (store : Buffered) (input : Input) (ack : ℕ) (packet : List ℕ) (ahead : List Forward) (back : List Backward)
-    → input ≡ Taking ack → Covers (prios_of output) queued → IsOutStore queued → IsBetween output input queued (Packet ack packet ∷ ahead) back → IsInStore store
+    (output : Output) (queued : List (List (List ℕ))) (store : Buffered) (input : Input) (ack : ℕ) (packet : List ℕ) (kept_ahead : List Forward) (kept_back : List Backward)
+    → input ≡ Input.Ok ack → Covers (prios_of output) queued → IsOutStore queued → IsBetween output input queued (Packet ack packet ∷ kept_ahead) kept_back → IsInStore store
     → IsInStore (stored (receives (packet_arrival (expected_of input) ack (room_for store (prio_of packet))) input).held store packet)
-packet_store output queued store input ack packet ahead back same covers four b is =
+packet_store output queued store input ack packet kept_ahead kept_back same covers four b is =
     subst (λ (i : Input). IsInStore (stored (receives (packet_arrival (expected_of i) ack (room_for store (prio_of packet))) i).held store packet)) (sym same)
-    (expected_store output queued store ack packet ahead back (room_for store (prio_of packet)) refl covers four
-    (subst (λ (i : Input). IsBetween output i queued (Packet ack packet ∷ ahead) back) same b) is)
+    (expected_store output queued store ack packet kept_ahead kept_back (room_for store (prio_of packet)) refl covers four
+    (subst (λ (i : Input). IsBetween output i queued (Packet ack packet ∷ kept_ahead) kept_back) same b) is)
 
 shut_store :
-    (same room : Bool) (store : Buffered) (input : Input) (packet : List ℕ) → IsShut (takes_of input)
+    (same room : Bool) (store : Buffered) (input : Input) (packet : List ℕ) → IsShut (receiver_of input)
     → stored (receives (if same then (if room then ExpectedWithRoom else ExpectedWithoutRoom) else UnexpectedAck) input).held store packet ≡ store
-shut_store same room store (Taking expected) packet shut = absurd shut
-shut_store true true store (RetryStopped expected) packet shut = refl
-shut_store true false store (RetryStopped expected) packet shut = refl
-shut_store false room store (RetryStopped expected) packet shut = refl
-shut_store true true store (ErrorStopped expected) packet shut = refl
-shut_store true false store (ErrorStopped expected) packet shut = refl
-shut_store false room store (ErrorStopped expected) packet shut = refl
+shut_store same room store (Input.Ok expected) packet shut = absurd shut
+shut_store true true store (Input.RetryStopped expected) packet shut = refl
+shut_store true false store (Input.RetryStopped expected) packet shut = refl
+shut_store false room store (Input.RetryStopped expected) packet shut = refl
+shut_store true true store (Input.ErrorStopped expected) packet shut = refl
+shut_store true false store (Input.ErrorStopped expected) packet shut = refl
+shut_store false room store (Input.ErrorStopped expected) packet shut = refl
 
 dropped_store :
     (store : Buffered) (input : Input) (ack : ℕ) (packet : List ℕ) (room : Bool) → expects input ack ≡ false
     → stored (receives (packet_arrival (expected_of input) ack room) input).held store packet ≡ store
-dropped_store store (Taking expected) ack packet room other = rw other refl
-dropped_store store (RetryStopped expected) ack packet room other = shut_store (ack == expected) room store (RetryStopped expected) packet tt
-dropped_store store (ErrorStopped expected) ack packet room other = shut_store (ack == expected) room store (ErrorStopped expected) packet tt
+dropped_store store (Input.Ok expected) ack packet room other = rw other refl
+dropped_store store (Input.RetryStopped expected) ack packet room other = shut_store (ack == expected) room store (Input.RetryStopped expected) packet tt
+dropped_store store (Input.ErrorStopped expected) ack packet room other = shut_store (ack == expected) room store (Input.ErrorStopped expected) packet tt
 
 pub turn_port : (a : PortState) → IsPort a → IsPort (turns_to a)
 turn_port a is =
-    let sends = turn_sends a.output a.queued (record { window_is = is.window; covered = is.covered }) in
-    record { window = sends.window_is; covered = sends.covered; expected_ack = is.expected_ack; sends = is.sends; receives = is.receives; bounded = is.bounded }
+    let sends = turn_sends a.output a.queued (record { window_is = is.outstanding; covered = is.covered }) in
+    record { outstanding = sends.window_is; covered = sends.covered; expected_ack = is.expected_ack; sends = is.sends; receives = is.receives; bounded = is.bounded }
 
 pub time_out_port : (a : PortState) → IsPort a → IsPort (timed_out a)
 time_out_port a is =
-    let sends = time_out_sends a.output a.queued (record { window_is = is.window; covered = is.covered }) in
-    record { window = sends.window_is; covered = sends.covered; expected_ack = is.expected_ack; sends = is.sends; receives = is.receives; bounded = is.bounded }
+    let sends = time_out_sends a.output a.queued (record { window_is = is.outstanding; covered = is.covered }) in
+    record { outstanding = sends.window_is; covered = sends.covered; expected_ack = is.expected_ack; sends = is.sends; receives = is.receives; bounded = is.bounded }
 
 pub put_port :
     (a : PortState) (packet : List ℕ) → prio_of packet < 4 → length (list_at a.queued (prio_of packet)) < 16 → IsPort a → IsPort (record a { queued = appended a.queued (prio_of packet) packet })
 put_port a packet few room is = record {
-  window = is.window;
+  outstanding = is.outstanding;
   covered = Covers-appended (prios_of a.output) a.queued (prio_of packet) packet is.covered (omega (arith, is.sends.four));
   expected_ack = is.expected_ack;
   sends = IsOutStore-appended a.queued packet is.sends few room;
@@ -132,34 +131,34 @@ put_port a packet few room is = record {
 }
 
 pub read_port : (a : PortState) (received : Buffered) (place : Place) → IsInStore received → IsBounded place.text → IsPort a → IsPort (record a { received = received; place = place })
-read_port a received place store bounded is = record { window = is.window; covered = is.covered; expected_ack = is.expected_ack; sends = is.sends; receives = store; bounded = bounded }
+read_port a received place store bounded is = record { outstanding = is.outstanding; covered = is.covered; expected_ack = is.expected_ack; sends = is.sends; receives = store; bounded = bounded }
 
 pub acted_port :
-    (a b : PortState) (from_a from_b : List Event) (e : Event) → IsPort a → IsPort b → is_acted a e ≡ true → IsSound a b from_a (e ∷ from_b) → IsPort (acts a e).port
-acted_port a b from_a from_b (Ctl symbol) is far acted s =
-    let sends = heard_sends (stype0 symbol.s0) symbol.p0 a.output b.input a.queued _ _ s.a_to_b (record { window_is = is.window; covered = is.covered }) in
+    (a b : PortState) (kept_a kept_b : List Event) (e : Event) → IsPort a → IsPort b → is_acted a e ≡ true → IsSound a b kept_a (e ∷ kept_b) → IsPort (acts a e).port
+acted_port a b kept_a kept_b (Ctl symbol) is far acted s =
+    let sends = heard_sends (stype0 symbol.s0) symbol.p0 a.output b.input a.queued _ _ s.a_to_b (record { window_is = is.outstanding; covered = is.covered }) in
     record {
-      window = sends.window_is;
+      outstanding = sends.window_is;
       covered = sends.covered;
       expected_ack = expected_below (symbol_arrival symbol.s1 symbol.cmd) a.input is.expected_ack;
-      sends = IsOutStore-leave (take (heard a symbol).freed (prios_of a.output)) a.queued (Covers-take (heard a symbol).freed (prios_of a.output) a.queued is.covered) is.sends;
+      sends = IsOutStore-lists_without (take (heard a symbol).freed (prios_of a.output)) a.queued (Covers-take (heard a symbol).freed (prios_of a.output) a.queued is.covered) is.sends;
       receives = is.receives;
       bounded = is.bounded;
     }
-acted_port a b from_a from_b (Pkt ack packet) is far acted s = record {
-  window = is.window;
+acted_port a b kept_a kept_b (Pkt ack packet) is far acted s = record {
+  outstanding = is.outstanding;
   covered = is.covered;
   expected_ack = expected_below (packet_arrival (expected_of a.input) ack (room_for a.received (prio_of packet))) a.input is.expected_ack;
   sends = is.sends;
   receives = packet_store b.output b.queued a.received a.input ack packet _ _ (is_expected a.input ack acted) far.covered far.sends s.b_to_a is.receives;
   bounded = is.bounded;
 }
-acted_port a b from_a from_b (Bad cause) is far acted s = absurd cc
+acted_port a b kept_a kept_b (Bad cause) is far acted s = absurd cc
 
 pub other_port : (a : PortState) (e : Event) → IsPort a → is_acted a e ≡ false → IsPort (acts a e).port
 other_port a (Ctl symbol) is other = absurd cc
 other_port a (Pkt ack packet) is other = record {
-  window = is.window;
+  outstanding = is.outstanding;
   covered = is.covered;
   expected_ack = expected_below (packet_arrival (expected_of a.input) ack (room_for a.received (prio_of packet))) a.input is.expected_ack;
   sends = is.sends;
@@ -167,7 +166,7 @@ other_port a (Pkt ack packet) is other = record {
   bounded = is.bounded;
 }
 other_port a (Bad cause) is other = record {
-  window = is.window;
+  outstanding = is.outstanding;
   covered = is.covered;
   expected_ack = expected_below (Damaged (number_of cause)) a.input is.expected_ack;
   sends = is.sends;
@@ -193,7 +192,7 @@ none_within (suc (suc (suc (suc prio)))) few = absurd (omega arith)
 -- a new port
 pub new_is_port : (buffers : ℕ) → AreBuffers buffers → IsPort (new_port buffers)
 new_is_port buffers is = record {
-  window = nothing_from 0 (omega arith);
+  outstanding = nothing_from 0 (omega arith);
   covered = covers_none no_packets;
   expected_ack = omega arith;
   sends = record { four = refl; sorted = none_sorted; within = none_within };

@@ -3,22 +3,22 @@ use Rattle.std.proofs.Common.{◌≡◌, ℕ, zero, suc, ◌+◌, true, false, �
 use Rattle.std.proofs.lemmas.Bool.{cases_lt}
 use Rattle.std.proofs.lemmas.List.{append-nil, drop-append-le}
 use Rattle.link_buffers.specs.Queues.{list_at}
-use Rattle.link_buffers.specs.Taking.{left, leave, highest, Covers}
-use Rattle.link_buffers.proofs.TakingLaws.{length-left, left-next, slice_get-leave, highest_below-some}
+use Rattle.link_buffers.specs.Priorities.{packets_of, lists_without, highest, Covers}
+use Rattle.link_buffers.proofs.PriorityLaws.{length-packets_of, packets_of-next, slice_get-lists_without, highest_below-some}
 use Rattle.link_model.specs.Input.{Input}
-use Rattle.link_model.specs.Output.{Output, Burst, turns, started, startable}
-use Rattle.link_model.specs.Output.Output.{Sending, RetryStopped, ErrorStopped, Failed}
-use Rattle.link_model.specs.Output.Burst.{Starts, Restarts, Requests, Nothing}
-use Rattle.link_model.specs.Window.{Window, window, next_ack, with_next}
+use Rattle.link_model.specs.Output.{Output, Sends, turns, started, startable}
+use Rattle.link_model.specs.Outstanding.{Outstanding, next_ack, with_next}
+use Rattle.link_model.specs.Window.{window}
 use Rattle.link_model.proofs.WindowFacts.{startable-full, startable-open}
 use Rattle.link_sound.specs.Marks.{Forward, Backward, Packet, Other, Neutral}
-use Rattle.link_sound.specs.Direction as way
+use Rattle.link_sound.specs.Sender.{Sender}
+use Rattle.link_sound.specs.Receiver.{Receiver}
 use Rattle.link_sound.specs.Direction.{IsDirection}
 use Rattle.link_sound.proofs.MoveLaws.{other_sent, neutral_sent}
 use Rattle.link_sound.proofs.TurnMoves.{packet_started, restarted, requested}
-use Rattle.link_port.specs.Windows.{prios_of}
-use Rattle.link_port.specs.Turns.{sending, packet_sent}
-use Rattle.link_sound.specs.Meanings.{forward, backward, sends_of, takes_of}
+use Rattle.link_port.specs.States.{prios_of}
+use Rattle.link_port.specs.Turns.{burst_of, packet_burst}
+use Rattle.link_sound.specs.Meanings.{forward, backward, sender_of, receiver_of}
 use Rattle.link_sound.specs.Between.{IsBetween}
 
 -- the number of a next packet is that of those sent
@@ -28,25 +28,25 @@ number_of_next oldest count freed total is all = omega arith
 -- how many are outstanding
 pub count_is :
     (prios : List ℕ) (queued : List (List (List ℕ))) (freed : ℕ) (sent : List (List ℕ)) → Covers prios queued → freed ≤ length sent
-    → left prios queued ≡ drop freed sent → length sent ≡ freed + length prios
+    → packets_of prios queued ≡ drop freed sent → length sent ≡ freed + length prios
 count_is prios queued freed sent covers below same =
-    let long = length-left prios queued covers in
+    let long = length-packets_of prios queued covers in
     let rest = length-drop freed sent in
     let eq = ap length same in
     omega arith
 
 -- of the three events of a start one means something
 start_sent :
-    (r : way.Takes) (freed held : ℕ) (sent : List (List ℕ)) (packet : List ℕ) (ahead : List Forward) (back : List Backward)
-    → length sent < freed + window → IsDirection way.Sends.Sending r freed held sent ahead back
-    → IsDirection way.Sends.Sending r freed held (sent ++ packet ∷ []) (ahead ++ Other ∷ Packet (length sent % 32) packet ∷ Other ∷ []) back
-start_sent r freed held sent packet ahead back room d =
-    let first = ahead ++ Other ∷ [] in
+    (r : Receiver) (freed held : ℕ) (sent : List (List ℕ)) (packet : List ℕ) (kept_ahead : List Forward) (kept_back : List Backward)
+    → length sent < freed + window → IsDirection Sender.Ok r freed held sent kept_ahead kept_back
+    → IsDirection Sender.Ok r freed held (sent ++ packet ∷ []) (kept_ahead ++ Other ∷ Packet (length sent % 32) packet ∷ Other ∷ []) kept_back
+start_sent r freed held sent packet kept_ahead kept_back room d =
+    let first = kept_ahead ++ Other ∷ [] in
     let second = first ++ Packet (length sent % 32) packet ∷ [] in
-    subst (λ (fs : List Forward). IsDirection way.Sends.Sending r freed held (sent ++ packet ∷ []) fs back)
-    (append_assoc first (Packet (length sent % 32) packet ∷ []) (Other ∷ []) ∙ append_assoc ahead (Other ∷ []) (Packet (length sent % 32) packet ∷ Other ∷ []))
-    (other_sent way.Sends.Sending r freed held (sent ++ packet ∷ []) second back
-    (packet_started r freed held sent packet first back room (other_sent way.Sends.Sending r freed held sent ahead back d)))
+    subst (λ (fs : List Forward). IsDirection Sender.Ok r freed held (sent ++ packet ∷ []) fs kept_back)
+    (append_assoc first (Packet (length sent % 32) packet ∷ []) (Other ∷ []) ∙ append_assoc kept_ahead (Other ∷ []) (Packet (length sent % 32) packet ∷ Other ∷ []))
+    (other_sent Sender.Ok r freed held (sent ++ packet ∷ []) second kept_back
+    (packet_started r freed held sent packet first kept_back room (other_sent Sender.Ok r freed held sent kept_ahead kept_back d)))
 
 -- the first of the packets of a list that is not empty
 first_there : (packets : List (List ℕ)) → 0 < length packets → (packet : List ℕ) × (slice_get packets 0 ≡ Some packet)
@@ -55,15 +55,15 @@ first_there (packet ∷ packets) some = (packet, refl)
 
 -- a packet starts
 turn_started :
-    (w : Window) (input : Input) (queued : List (List (List ℕ))) (expected : ℕ) (ahead : List Forward) (back : List Backward) (prio : ℕ) → Covers w.prios queued
-    → length w.prios < window → highest (leave w.prios queued) ≡ Some prio → IsBetween (Sending w) input queued ahead back
-    → IsBetween (Sending (with_next w prio)) input queued (ahead ++ map forward (packet_sent expected (next_ack w) (slice_get (list_at (leave w.prios queued) prio) 0)).sent) back
-turn_started w input queued expected ahead back prio covers room waits b =
-    let there = first_there (list_at (leave w.prios queued) prio) (highest_below-some 4 prio (leave w.prios queued) waits).1 in
+    (w : Outstanding) (input : Input) (queued : List (List (List ℕ))) (expected : ℕ) (kept_ahead : List Forward) (kept_back : List Backward) (prio : ℕ) → Covers w.prios queued
+    → length w.prios < window → highest (lists_without w.prios queued) ≡ Some prio → IsBetween (Output.Ok w) input queued kept_ahead kept_back
+    → IsBetween (Output.Ok (with_next w prio)) input queued (kept_ahead ++ map forward (packet_burst expected (next_ack w) (slice_get (list_at (lists_without w.prios queued) prio) 0)).sent) kept_back
+turn_started w input queued expected kept_ahead kept_back prio covers room waits b =
+    let there = first_there (list_at (lists_without w.prios queued) prio) (highest_below-some 4 prio (lists_without w.prios queued) waits).1 in
     let below : b.freed ≤ length b.sent = omega (arith, b.is.held_first, b.is.sent_first) in
     let total = count_is w.prios queued b.freed b.sent covers below b.outstanding in
     let number : next_ack w ≡ length b.sent % 32 = number_of_next w.oldest (length w.prios) b.freed (length b.sent) b.oldest total in
-    let next = left-next w.prios prio queued there.0 (sym (slice_get-leave w.prios queued prio) ∙ there.1) in
+    let next = packets_of-next w.prios prio queued there.0 (sym (slice_get-lists_without w.prios queued prio) ∙ there.1) in
     rw there.1 (record {
       sent = b.sent ++ there.0 ∷ [];
       freed = b.freed;
@@ -71,25 +71,25 @@ turn_started w input queued expected ahead back prio covers room waits b =
       oldest = b.oldest;
       expected = b.expected;
       outstanding = next ∙ ap (λ xs. xs ++ there.0 ∷ []) b.outstanding ∙ sym (drop-append-le b.freed b.sent (there.0 ∷ []) below);
-      is = subst (λ (ack : ℕ). IsDirection way.Sends.Sending (takes_of input) b.freed b.held (b.sent ++ there.0 ∷ []) (ahead ++ Other ∷ Packet ack there.0 ∷ Other ∷ []) back)
+      is = subst (λ (ack : ℕ). IsDirection Sender.Ok (receiver_of input) b.freed b.held (b.sent ++ there.0 ∷ []) (kept_ahead ++ Other ∷ Packet ack there.0 ∷ Other ∷ []) kept_back)
           (sym number)
-          (start_sent (takes_of input) b.freed b.held b.sent there.0 ahead back (omega arith) b.is);
+          (start_sent (receiver_of input) b.freed b.held b.sent there.0 kept_ahead kept_back (omega arith) b.is);
     })
 
 started_is :
-    (w : Window) (input : Input) (queued : List (List (List ℕ))) (expected : ℕ) (ahead : List Forward) (back : List Backward) (waiting : Option ℕ) → Covers w.prios queued
-    → length w.prios < window → highest (leave w.prios queued) ≡ waiting → IsBetween (Sending w) input queued ahead back
-    → IsBetween (started w waiting).state input queued (ahead ++ map forward (sending (started w waiting).sends expected (leave w.prios queued)).sent) back
-started_is w input queued expected ahead back None covers room waits b = rw append-nil b
-started_is w input queued expected ahead back (Some prio) covers room waits b = turn_started w input queued expected ahead back prio covers room waits b
+    (w : Outstanding) (input : Input) (queued : List (List (List ℕ))) (expected : ℕ) (kept_ahead : List Forward) (kept_back : List Backward) (waiting : Option ℕ) → Covers w.prios queued
+    → length w.prios < window → highest (lists_without w.prios queued) ≡ waiting → IsBetween (Output.Ok w) input queued kept_ahead kept_back
+    → IsBetween (started w waiting).state input queued (kept_ahead ++ map forward (burst_of (started w waiting).sends expected (lists_without w.prios queued)).sent) kept_back
+started_is w input queued expected kept_ahead kept_back None covers room waits b = rw append-nil b
+started_is w input queued expected kept_ahead kept_back (Some prio) covers room waits b = turn_started w input queued expected kept_ahead kept_back prio covers room waits b
 
-sending_is :
-    (w : Window) (input : Input) (queued : List (List (List ℕ))) (expected : ℕ) (ahead : List Forward) (back : List Backward) (waiting : Option ℕ) → Covers w.prios queued
-    → highest (leave w.prios queued) ≡ waiting → IsBetween (Sending w) input queued ahead back
-    → IsBetween (started w (startable w waiting)).state input queued (ahead ++ map forward (sending (started w (startable w waiting)).sends expected (leave w.prios queued)).sent) back
-sending_is w input queued expected ahead back waiting covers waits b =
+ok_is :
+    (w : Outstanding) (input : Input) (queued : List (List (List ℕ))) (expected : ℕ) (kept_ahead : List Forward) (kept_back : List Backward) (waiting : Option ℕ) → Covers w.prios queued
+    → highest (lists_without w.prios queued) ≡ waiting → IsBetween (Output.Ok w) input queued kept_ahead kept_back
+    → IsBetween (started w (startable w waiting)).state input queued (kept_ahead ++ map forward (burst_of (started w (startable w waiting)).sends expected (lists_without w.prios queued)).sent) kept_back
+ok_is w input queued expected kept_ahead kept_back waiting covers waits b =
     elim (cases_lt (length w.prios) window) [
-      | inl few ↦ rw (startable-open w waiting few) (started_is w input queued expected ahead back waiting covers few waits b)
+      | inl few ↦ rw (startable-open w waiting few) (started_is w input queued expected kept_ahead kept_back waiting covers few waits b)
       | inr full ↦ rw (startable-full w waiting full) (rw append-nil b)
     ]
 
@@ -100,61 +100,61 @@ drop_taken (suc count) (packet ∷ packets) = drop_taken count packets
 
 -- the direction of the port that takes its turn
 pub own_turn :
-    (output : Output) (input : Input) (queued : List (List (List ℕ))) (expected : ℕ) (ahead : List Forward) (back : List Backward) → Covers (prios_of output) queued
-    → IsBetween output input queued ahead back
-    → IsBetween (turns output (highest (leave (prios_of output) queued))).state input queued
-    (ahead ++ map forward (sending (turns output (highest (leave (prios_of output) queued))).sends expected (leave (prios_of output) queued)).sent) back
-own_turn (Sending w) input queued expected ahead back covers b = sending_is w input queued expected ahead back (highest (leave w.prios queued)) covers refl b
-own_turn (RetryStopped w) input queued expected ahead back covers b = record {
+    (output : Output) (input : Input) (queued : List (List (List ℕ))) (expected : ℕ) (kept_ahead : List Forward) (kept_back : List Backward) → Covers (prios_of output) queued
+    → IsBetween output input queued kept_ahead kept_back
+    → IsBetween (turns output (highest (lists_without (prios_of output) queued))).state input queued
+    (kept_ahead ++ map forward (burst_of (turns output (highest (lists_without (prios_of output) queued))).sends expected (lists_without (prios_of output) queued)).sent) kept_back
+own_turn (Output.Ok w) input queued expected kept_ahead kept_back covers b = ok_is w input queued expected kept_ahead kept_back (highest (lists_without w.prios queued)) covers refl b
+own_turn (Output.RetryStopped w) input queued expected kept_ahead kept_back covers b = record {
   sent = take b.freed b.sent;
   freed = b.freed;
   held = b.held;
   oldest = b.oldest;
   expected = b.expected;
   outstanding = sym (drop_taken b.freed b.sent);
-  is = restarted (takes_of input) b.freed b.held b.sent ahead back b.is;
+  is = restarted (receiver_of input) b.freed b.held b.sent kept_ahead kept_back b.is;
 }
-own_turn (ErrorStopped false w) input queued expected ahead back covers b = record {
+own_turn (Output.ErrorStopped false w) input queued expected kept_ahead kept_back covers b = record {
   sent = b.sent;
   freed = b.freed;
   held = b.held;
   oldest = b.oldest;
   expected = b.expected;
   outstanding = b.outstanding;
-  is = requested (takes_of input) b.freed b.held b.sent ahead back b.is;
+  is = requested (receiver_of input) b.freed b.held b.sent kept_ahead kept_back b.is;
 }
-own_turn (ErrorStopped true w) input queued expected ahead back covers b = rw append-nil b
-own_turn Failed input queued expected ahead back covers b = rw append-nil b
+own_turn (Output.ErrorStopped true w) input queued expected kept_ahead kept_back covers b = rw append-nil b
+own_turn Output.Failed input queued expected kept_ahead kept_back covers b = rw append-nil b
 
 -- something that means nothing for the direction comes on the way back
 pub neutral_back :
-    (output : Output) (input : Input) (queued : List (List (List ℕ))) (ahead : List Forward) (back : List Backward)
-    → IsBetween output input queued ahead back → IsBetween output input queued ahead (back ++ Neutral ∷ [])
-neutral_back output input queued ahead back b = record {
+    (output : Output) (input : Input) (queued : List (List (List ℕ))) (kept_ahead : List Forward) (kept_back : List Backward)
+    → IsBetween output input queued kept_ahead kept_back → IsBetween output input queued kept_ahead (kept_back ++ Neutral ∷ [])
+neutral_back output input queued kept_ahead kept_back b = record {
   sent = b.sent;
   freed = b.freed;
   held = b.held;
   oldest = b.oldest;
   expected = b.expected;
   outstanding = b.outstanding;
-  is = neutral_sent (sends_of output) (takes_of input) b.freed b.held b.sent ahead back b.is;
+  is = neutral_sent (sender_of output) (receiver_of input) b.freed b.held b.sent kept_ahead kept_back b.is;
 }
 
 packet_back :
-    (output : Output) (input : Input) (queued : List (List (List ℕ))) (expected ack : ℕ) (packet : Option (List ℕ)) (ahead : List Forward) (back : List Backward)
-    → IsBetween output input queued ahead back → IsBetween output input queued ahead (back ++ map backward (packet_sent expected ack packet).sent)
-packet_back output input queued expected ack None ahead back b = rw append-nil b
-packet_back output input queued expected ack (Some packet) ahead back b =
-    let one = back ++ Neutral ∷ [] in
+    (output : Output) (input : Input) (queued : List (List (List ℕ))) (expected ack : ℕ) (packet : Option (List ℕ)) (kept_ahead : List Forward) (kept_back : List Backward)
+    → IsBetween output input queued kept_ahead kept_back → IsBetween output input queued kept_ahead (kept_back ++ map backward (packet_burst expected ack packet).sent)
+packet_back output input queued expected ack None kept_ahead kept_back b = rw append-nil b
+packet_back output input queued expected ack (Some packet) kept_ahead kept_back b =
+    let one = kept_back ++ Neutral ∷ [] in
     let two = one ++ Neutral ∷ [] in
-    subst (λ (bs : List Backward). IsBetween output input queued ahead bs) (append_assoc one (Neutral ∷ []) (Neutral ∷ []) ∙ append_assoc back (Neutral ∷ []) (Neutral ∷ Neutral ∷ []))
-    (neutral_back output input queued ahead two (neutral_back output input queued ahead one (neutral_back output input queued ahead back b)))
+    subst (λ (bs : List Backward). IsBetween output input queued kept_ahead bs) (append_assoc one (Neutral ∷ []) (Neutral ∷ []) ∙ append_assoc kept_back (Neutral ∷ []) (Neutral ∷ Neutral ∷ []))
+    (neutral_back output input queued kept_ahead two (neutral_back output input queued kept_ahead one (neutral_back output input queued kept_ahead kept_back b)))
 
 -- the other direction, whose receiver's port takes its turn
 pub other_turn :
-    (output : Output) (input : Input) (queued : List (List (List ℕ))) (burst : Burst) (expected : ℕ) (waiting : List (List (List ℕ))) (ahead : List Forward) (back : List Backward)
-    → IsBetween output input queued ahead back → IsBetween output input queued ahead (back ++ map backward (sending burst expected waiting).sent)
-other_turn output input queued (Starts ack prio) expected waiting ahead back b = packet_back output input queued expected ack (slice_get (list_at waiting prio) 0) ahead back b
-other_turn output input queued Restarts expected waiting ahead back b = neutral_back output input queued ahead back b
-other_turn output input queued Requests expected waiting ahead back b = neutral_back output input queued ahead back b
-other_turn output input queued Nothing expected waiting ahead back b = rw append-nil b
+    (output : Output) (input : Input) (queued : List (List (List ℕ))) (sends : Sends) (expected : ℕ) (waiting : List (List (List ℕ))) (kept_ahead : List Forward) (kept_back : List Backward)
+    → IsBetween output input queued kept_ahead kept_back → IsBetween output input queued kept_ahead (kept_back ++ map backward (burst_of sends expected waiting).sent)
+other_turn output input queued (Sends.Packet ack prio) expected waiting kept_ahead kept_back b = packet_back output input queued expected ack (slice_get (list_at waiting prio) 0) kept_ahead kept_back b
+other_turn output input queued Sends.Restart expected waiting kept_ahead kept_back b = neutral_back output input queued kept_ahead kept_back b
+other_turn output input queued Sends.Request expected waiting kept_ahead kept_back b = neutral_back output input queued kept_ahead kept_back b
+other_turn output input queued Sends.Nothing expected waiting kept_ahead kept_back b = rw append-nil b

@@ -1,14 +1,15 @@
 -- A packet's way between two ports, step by step.
 use Rattle.std.proofs.Common.{◌≡◌, ℕ, List, [], ◌∷◌, refl, subst, arith}
 use Rattle.link_buffers.specs.Queues.{no_packets}
-use Rattle.link_buffers.specs.Taking.{highest_below}
+use Rattle.link_buffers.specs.Priorities.{highest_below}
 use Rattle.link_model.specs.declared.event.Event.{Event}
 use Rattle.link_model.specs.declared.event.Event.TheVariants.{Ctl, Pkt}
 use Rattle.link_model.specs.Input as in_half
 use Rattle.link_model.specs.Output as out
 use Rattle.link_model.specs.Places.{start}
 use Rattle.link_model.specs.Symbols.{start_of_packet, end_of_packet, packet_accepted}
-use Rattle.link_model.specs.Window.{Window, window, from_ack}
+use Rattle.link_model.specs.Outstanding.{Outstanding, from_ack}
+use Rattle.link_model.specs.Window.{window}
 use Rattle.link_port.specs.Ports.{PortState, new_port}
 use Rattle.link_port.specs.Turns.{turns_to, turn_sends}
 use Rattle.link_sound.specs.Histories.{Link, new_link, turned_round, after_turn, after_event, after_put, IsStep, Turns, Acts, Puts, IsHistory, Rests, AtFirst, AtSecond, no_journeys}
@@ -18,22 +19,22 @@ use Rattle.link_sound.specs.Worked.{packet, arrived}
 abbrev one : List (List (List ℕ))
 one = (packet ∷ []) ∷ [] ∷ [] ∷ [] ∷ []
 
-abbrev sent_one : Window
+abbrev sent_one : Outstanding
 sent_one = record { oldest = 0; prios = 0 ∷ [] }
 
 -- the near port with the packet put, and with it sent
 abbrev near_put : PortState
-near_put = record { place = start; output = out.Output.Sending (from_ack 0); input = in_half.Input.Taking 0; queued = one; received = record { lists = no_packets; buffers = 4 } }
+near_put = record { place = start; output = out.Output.Ok (from_ack 0); input = in_half.Input.Ok 0; queued = one; received = record { lists = no_packets; buffers = 4 } }
 
 abbrev near_sent : PortState
-near_sent = record { place = start; output = out.Output.Sending sent_one; input = in_half.Input.Taking 0; queued = one; received = record { lists = no_packets; buffers = 4 } }
+near_sent = record { place = start; output = out.Output.Ok sent_one; input = in_half.Input.Ok 0; queued = one; received = record { lists = no_packets; buffers = 4 } }
 
 -- what is sent for it, and what comes back
 abbrev start_sent : Event
 start_sent = Ctl (start_of_packet 0)
 
-abbrev packet_sent : Event
-packet_sent = Pkt 0 packet
+abbrev packet_burst : Event
+packet_burst = Pkt 0 packet
 
 abbrev end_sent : Event
 end_sent = Ctl (end_of_packet 0)
@@ -46,7 +47,7 @@ turns : turns_to near_put ≡ near_sent
 unfolding highest_below window
 turns = refl
 
-sends : (turn_sends near_put).sent ≡ start_sent ∷ packet_sent ∷ end_sent ∷ []
+sends : (turn_sends near_put).sent ≡ start_sent ∷ packet_burst ∷ end_sent ∷ []
 unfolding highest_below window
 sends = refl
 
@@ -61,23 +62,23 @@ abbrev sent_link : Link
 sent_link = record {
   a = near_sent;
   b = new_port 4;
-  from_a = start_sent ∷ packet_sent ∷ end_sent ∷ [];
-  from_b = [];
+  kept_a = start_sent ∷ packet_burst ∷ end_sent ∷ [];
+  kept_b = [];
   of_a = record { put = packet ∷ []; held = []; freed = [] };
   of_b = no_journeys;
 }
 
 turned_is : after_turn put_one ≡ sent_link
-turned_is = λ i. record { a = turns i; b = new_port 4; from_a = sends i; from_b = []; of_a = record { put = packet ∷ []; held = []; freed = [] }; of_b = no_journeys }
+turned_is = λ i. record { a = turns i; b = new_port 4; kept_a = sends i; kept_b = []; of_a = record { put = packet ∷ []; held = []; freed = [] }; of_b = no_journeys }
 
 turn_step : IsStep put_one sent_link
 turn_step = subst (λ (l : Link). IsStep put_one l) turned_is (Turns put_one)
 
 abbrev begun : Link
-begun = turned_round (after_event (turned_round sent_link) start_sent (packet_sent ∷ end_sent ∷ []))
+begun = turned_round (after_event (turned_round sent_link) start_sent (packet_burst ∷ end_sent ∷ []))
 
 abbrev held_link : Link
-held_link = turned_round (after_event (turned_round begun) packet_sent (end_sent ∷ []))
+held_link = turned_round (after_event (turned_round begun) packet_burst (end_sent ∷ []))
 
 abbrev ended : Link
 ended = turned_round (after_event (turned_round held_link) end_sent [])
@@ -89,8 +90,8 @@ pub whole : IsHistory new_one freed_link
 whole =
     AtFirst new_one (Puts new_one packet (omega arith) (omega arith))
     (AtFirst put_one turn_step
-    (AtSecond sent_link (Acts (turned_round sent_link) start_sent (packet_sent ∷ end_sent ∷ []) refl refl)
-    (AtSecond begun (Acts (turned_round begun) packet_sent (end_sent ∷ []) refl refl)
+    (AtSecond sent_link (Acts (turned_round sent_link) start_sent (packet_burst ∷ end_sent ∷ []) refl refl)
+    (AtSecond begun (Acts (turned_round begun) packet_burst (end_sent ∷ []) refl refl)
     (AtSecond held_link (Acts (turned_round held_link) end_sent [] refl refl)
     (AtFirst ended (Acts ended accepted [] refl refl) (Rests freed_link))))))
 

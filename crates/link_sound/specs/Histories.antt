@@ -21,8 +21,8 @@ pub record Journeys : Type 0 where
 pub record Link : Type 0 where
   pub a : PortState
   pub b : PortState
-  pub from_a : List Event
-  pub from_b : List Event
+  pub kept_a : List Event
+  pub kept_b : List Event
   pub of_a : Journeys
   pub of_b : Journeys
 
@@ -35,30 +35,30 @@ AreBuffers n = (4 ≤ n) × (n ≤ 30)
 
 -- two new ports
 abbrev pub new_link : ℕ → ℕ → Link
-new_link m n = record { a = new_port m; b = new_port n; from_a = []; from_b = []; of_a = no_journeys; of_b = no_journeys }
+new_link m n = record { a = new_port m; b = new_port n; kept_a = []; kept_b = []; of_a = no_journeys; of_b = no_journeys }
 
 -- the ports in the other order
 abbrev pub turned_round : Link → Link
-turned_round l = record { a = l.b; b = l.a; from_a = l.from_b; from_b = l.from_a; of_a = l.of_b; of_b = l.of_a }
+turned_round l = record { a = l.b; b = l.a; kept_a = l.kept_b; kept_b = l.kept_a; of_a = l.of_b; of_b = l.of_a }
 
 -- the first port takes a turn
 abbrev pub after_turn : Link → Link
-after_turn l = record l { a = turns_to l.a; from_a = l.from_a ++ (turn_sends l.a).sent }
+after_turn l = record l { a = turns_to l.a; kept_a = l.kept_a ++ (turn_sends l.a).sent }
 
 -- an event comes to the first port, and this is left of what the other has sent
 abbrev pub after_event : Link → Event → List Event → Link
 after_event l e rest = record {
   a = (acts l.a e).port;
   b = l.b;
-  from_a = l.from_a ++ reply_sent (acts l.a e).reply;
-  from_b = rest;
+  kept_a = l.kept_a ++ reply_sent (acts l.a e).reply;
+  kept_b = rest;
   of_a = record l.of_a { freed = l.of_a.freed ++ (acts l.a e).freed };
   of_b = record l.of_b { held = l.of_b.held ++ option_to_list (acts l.a e).held };
 }
 
 -- a time-out of the first port: whatever was on its way, both ways, is lost
 abbrev pub after_time_out : Link → Link
-after_time_out l = record l { a = timed_out l.a; from_a = []; from_b = [] }
+after_time_out l = record l { a = timed_out l.a; kept_a = []; kept_b = [] }
 
 -- a packet is put at the first port
 abbrev pub after_put : Link → List ℕ → Link
@@ -71,17 +71,17 @@ after_put l packet = record l {
 pub data IsStep : Link → Link → Type 0 where
   Turns : (l : Link) → IsStep l (after_turn l)
   -- an event that the other port sent; what it sent before it is lost already
-  Acts : (l : Link) (e : Event) (rest : List Event) → l.from_b ≡ e ∷ rest → is_acted l.a e ≡ true → IsStep l (after_event l e rest)
+  Acts : (l : Link) (e : Event) (rest : List Event) → l.kept_b ≡ e ∷ rest → is_acted l.a e ≡ true → IsStep l (after_event l e rest)
   -- an event that is not acted on, whoever sent it; it may be an error, and have a reply
-  Others : (l : Link) (e : Event) → is_acted l.a e ≡ false → IsStep l (after_event l e l.from_b)
+  Others : (l : Link) (e : Event) → is_acted l.a e ≡ false → IsStep l (after_event l e l.kept_b)
   -- after it nothing that was sent before arrives
   TimesOut : (l : Link) → IsStep l (after_time_out l)
   -- a packet, where its priority has a place
   Puts : (l : Link) (packet : List ℕ) → prio_of packet < 4 → length (list_at l.a.queued (prio_of packet)) < 16 → IsStep l (after_put l packet)
   -- what was sent first is lost, both ways
-  Loses : (l : Link) (lost_a from_a lost_b from_b : List Event) → l.from_a ≡ lost_a ++ from_a → l.from_b ≡ lost_b ++ from_b → IsStep l (record l { from_a = from_a; from_b = from_b })
+  Loses : (l : Link) (lost_a kept_a lost_b kept_b : List Event) → l.kept_a ≡ lost_a ++ kept_a → l.kept_b ≡ lost_b ++ kept_b → IsStep l (record l { kept_a = kept_a; kept_b = kept_b })
   -- the store of packets received becomes any other, as where some are taken away, and the framer reads on
-  Reads : (l : Link) (received : Buffered) (place : Place) → IsInStore received → IsBounded place.text → IsStep l (record l { a = record l.a { received = received; place = place } })
+  GoesOn : (l : Link) (received : Buffered) (place : Place) → IsInStore received → IsBounded place.text → IsStep l (record l { a = record l.a { received = received; place = place } })
 
 -- one step after another, each at one of the ports
 pub data IsHistory : Link → Link → Type 0 where

@@ -3,20 +3,20 @@
 use Rattle.std.specs.Prelude.{◌≡◌, ℕ, ◌∷◌, ◌++◌, [], List, Option, Some, None, slice_get, take, true}
 use Rattle.rio_packets.specs.Fields.{prio_of}
 use Rattle.link_buffers.specs.Queues.{Buffered, list_at, popped, appended, room_for}
-use Rattle.link_buffers.specs.Taking.{left, leave}
+use Rattle.link_buffers.specs.Priorities.{packets_of, lists_without}
 use Rattle.link_model.specs.Output.{Output}
-use Rattle.link_model.specs.Window.{distance}
+use Rattle.link_model.specs.Outstanding.{distance}
 use Rattle.link_port.specs.Ports.{PortState}
-use Rattle.link_port.specs.Windows.{prios_of, expected_of}
+use Rattle.link_port.specs.States.{prios_of, expected_of}
 use Rattle.link_sound.specs.Meanings.{oldest_of}
 
 -- the first of the outstanding packets, up to the one that the far port expects
 abbrev pub lent_until : Output → ℕ → List (List (List ℕ)) → List (List ℕ)
-lent_until output expected queued = left (take (distance (oldest_of output) expected) (prios_of output)) queued
+lent_until output expected queued = packets_of (take (distance (oldest_of output) expected) (prios_of output)) queued
 
 -- the lists without them
 abbrev pub waiting_from : Output → ℕ → List (List (List ℕ)) → List (List (List ℕ))
-waiting_from output expected queued = leave (take (distance (oldest_of output) expected) (prios_of output)) queued
+waiting_from output expected queued = lists_without (take (distance (oldest_of output) expected) (prios_of output)) queued
 
 -- of a port and the port at the other end
 abbrev pub lent : PortState → PortState → List (List ℕ)

@@ -1,5 +1,7 @@
 pub mod Marks
 pub mod Kept
+pub mod Sender
+pub mod Receiver
 pub mod Direction
 pub mod Meanings
 pub mod Between

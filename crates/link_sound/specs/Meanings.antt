@@ -7,7 +7,8 @@ use Rattle.link_model.specs.declared.event.Event.TheVariants.{Ctl, Pkt, Bad}
 use Rattle.link_model.specs.Input as in_half
 use Rattle.link_model.specs.Output as out
 use Rattle.link_sound.specs.Marks.{Forward, Packet, Restart, Request, Other, Backward, Accept, Retry, Response, Neutral}
-use Rattle.link_sound.specs.Direction as way
+use Rattle.link_sound.specs.Sender.{Sender}
+use Rattle.link_sound.specs.Receiver.{Receiver}
 
 abbrev pub asks : in_half.Arrival → Forward
 asks in_half.Arrival.ExpectedWithRoom = Other
@@ -37,21 +38,21 @@ backward (Ctl symbol) = tells (out.stype0 symbol.s0) symbol.p0
 backward (Pkt ack packet) = Neutral
 backward (Bad cause) = Neutral
 
-abbrev pub sends_of : out.Output → way.Sends
-sends_of (out.Output.Sending w) = way.Sends.Sending
-sends_of (out.Output.RetryStopped w) = way.Sends.RetryStopped
-sends_of (out.Output.ErrorStopped false w) = way.Sends.Unasked
-sends_of (out.Output.ErrorStopped true w) = way.Sends.Asked
-sends_of out.Output.Failed = way.Sends.Failed
+abbrev pub sender_of : out.Output → Sender
+sender_of (out.Output.Ok w) = Sender.Ok
+sender_of (out.Output.RetryStopped w) = Sender.RetryStopped
+sender_of (out.Output.ErrorStopped false w) = Sender.ErrorStopped
+sender_of (out.Output.ErrorStopped true w) = Sender.ErrorStoppedAsked
+sender_of out.Output.Failed = Sender.Failed
 
-abbrev pub takes_of : in_half.Input → way.Takes
-takes_of (in_half.Input.Taking expected) = way.Takes.Taking
-takes_of (in_half.Input.RetryStopped expected) = way.Takes.Refusing
-takes_of (in_half.Input.ErrorStopped expected) = way.Takes.Broken
+abbrev pub receiver_of : in_half.Input → Receiver
+receiver_of (in_half.Input.Ok expected) = Receiver.Ok
+receiver_of (in_half.Input.RetryStopped expected) = Receiver.RetryStopped
+receiver_of (in_half.Input.ErrorStopped expected) = Receiver.ErrorStopped
 
 -- the ackID of the oldest packet that is not acknowledged; a sender that has failed knows of none
 abbrev pub oldest_of : out.Output → ℕ
-oldest_of (out.Output.Sending w) = w.oldest
+oldest_of (out.Output.Ok w) = w.oldest
 oldest_of (out.Output.RetryStopped w) = w.oldest
 oldest_of (out.Output.ErrorStopped asked w) = w.oldest
 oldest_of out.Output.Failed = 0

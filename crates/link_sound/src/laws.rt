@@ -2,66 +2,66 @@
 
 ghost use Rattle.std.specs.Prelude.{◌≡◌, ◌≢◌, ℕ, ◌<◌, ◌≤◌, true, false, List, [], ◌∷◌, ◌++◌, length};
 ghost use Rattle.link_buffers.specs.Queues.{Buffered, appended};
-ghost use Rattle.link_buffers.specs.Taking.{Covers};
+ghost use Rattle.link_buffers.specs.Priorities.{Covers};
 ghost use Rattle.link_model.specs.declared.event.Event.{Event};
 ghost use Rattle.link_model.specs.declared.event.Event.TheVariants.{Ctl, Pkt};
 ghost use Rattle.link_model.specs.Output as out;
 ghost use Rattle.link_model.specs.Symbols.{packet_accepted, link_response};
 ghost use Rattle.link_model.specs.Places.{Place};
-ghost use Rattle.link_model.specs.Window.{Window, distance};
+ghost use Rattle.link_model.specs.Outstanding.{Outstanding, distance};
 ghost use Rattle.link_port.specs.Ports.{PortState, new_port};
 ghost use Rattle.link_port.specs.Steps.{acts, is_acted};
 ghost use Rattle.link_port.specs.Turns.{turns_to, turn_sends, timed_out};
-ghost use Rattle.link_port.specs.Windows.{prios_of, expected_of};
+ghost use Rattle.link_port.specs.States.{prios_of, expected_of};
 ghost use Rattle.link_sound.specs.Meanings.{oldest_of};
 ghost use Rattle.link_sound.specs.Sound.{IsSound, reply_sent};
 
 /// Two new ports, with nothing on its way between them. Either port may be named first.
 pub fn links_begin_sound()
     ensures new { (m n : ℕ) → IsSound (new_port m) (new_port n) [] [] }
-    ensures exchanged { (a b : PortState) (from_a from_b : List Event) → IsSound a b from_a from_b → IsSound b a from_b from_a }
+    ensures exchanged { (a b : PortState) (kept_a kept_b : List Event) → IsSound a b kept_a kept_b → IsSound b a kept_b kept_a }
 {}
 
 /// The steps of a port: a turn; an event that the far port sent and that is acted on; what comes and is not acted on,
 /// whoever sent it; and a time-out, after which nothing that was sent before arrives. A reply goes to what the port has
 /// sent.
 pub fn steps_keep_it()
-    ensures turn { (a b : PortState) (from_a from_b : List Event) → Covers (prios_of a.output) a.queued
-        → IsSound a b from_a from_b → IsSound (turns_to a) b (from_a ++ (turn_sends a).sent) from_b }
-    ensures acted { (a b : PortState) (from_a from_b : List Event) (e : Event) → Covers (prios_of a.output) a.queued
-        → is_acted a e ≡ true → IsSound a b from_a (e ∷ from_b)
-        → IsSound (acts a e).port b (from_a ++ reply_sent (acts a e).reply) from_b }
-    ensures other { (a b : PortState) (from_a from_b : List Event) (e : Event)
-        → is_acted a e ≡ false → IsSound a b from_a from_b
-        → IsSound (acts a e).port b (from_a ++ reply_sent (acts a e).reply) from_b }
-    ensures time_out { (a b : PortState) (from_a from_b : List Event)
-        → IsSound a b from_a from_b → IsSound (timed_out a) b [] [] }
+    ensures turn { (a b : PortState) (kept_a kept_b : List Event) → Covers (prios_of a.output) a.queued
+        → IsSound a b kept_a kept_b → IsSound (turns_to a) b (kept_a ++ (turn_sends a).sent) kept_b }
+    ensures acted { (a b : PortState) (kept_a kept_b : List Event) (e : Event) → Covers (prios_of a.output) a.queued
+        → is_acted a e ≡ true → IsSound a b kept_a (e ∷ kept_b)
+        → IsSound (acts a e).port b (kept_a ++ reply_sent (acts a e).reply) kept_b }
+    ensures other { (a b : PortState) (kept_a kept_b : List Event) (e : Event)
+        → is_acted a e ≡ false → IsSound a b kept_a kept_b
+        → IsSound (acts a e).port b (kept_a ++ reply_sent (acts a e).reply) kept_b }
+    ensures time_out { (a b : PortState) (kept_a kept_b : List Event)
+        → IsSound a b kept_a kept_b → IsSound (timed_out a) b [] [] }
 {}
 
 /// What was sent first may be lost, both ways.
 pub fn events_may_be_lost()
-    ensures { (a b : PortState) (lost_a from_a lost_b from_b : List Event)
-        → IsSound a b (lost_a ++ from_a) (lost_b ++ from_b) → IsSound a b from_a from_b }
+    ensures { (a b : PortState) (lost_a kept_a lost_b kept_b : List Event)
+        → IsSound a b (lost_a ++ kept_a) (lost_b ++ kept_b) → IsSound a b kept_a kept_b }
 {}
 
 /// The layer above puts a packet to be sent, and takes packets that were received. What the framer has read is not
 /// spoken of either.
 pub fn the_layer_above_keeps_it()
-    ensures put { (a b : PortState) (from_a from_b : List Event) (prio : ℕ) (packet : List ℕ)
+    ensures put { (a b : PortState) (kept_a kept_b : List Event) (prio : ℕ) (packet : List ℕ)
         → Covers (prios_of a.output) a.queued → prio < length a.queued
-        → IsSound a b from_a from_b → IsSound (record a { queued = appended a.queued prio packet }) b from_a from_b }
-    ensures other_parts { (a b : PortState) (from_a from_b : List Event) (received : Buffered) (place : Place)
-        → IsSound a b from_a from_b → IsSound (record a { received = received; place = place }) b from_a from_b }
+        → IsSound a b kept_a kept_b → IsSound (record a { queued = appended a.queued prio packet }) b kept_a kept_b }
+    ensures other_parts { (a b : PortState) (kept_a kept_b : List Event) (received : Buffered) (place : Place)
+        → IsSound a b kept_a kept_b → IsSound (record a { received = received; place = place }) b kept_a kept_b }
 {}
 
 /// No sender has failed. The far port expects the oldest packet that is not acknowledged, or a later one, at most the next
 /// to be sent; where the sender has still to send a restart-from-retry, it expects the oldest.
 pub fn no_sender_fails()
-    ensures failed { (a b : PortState) (from_a from_b : List Event) → IsSound a b from_a from_b → a.output ≢ out.Output.Failed }
-    ensures lent { (a b : PortState) (from_a from_b : List Event) → Covers (prios_of a.output) a.queued
-        → IsSound a b from_a from_b → distance (oldest_of a.output) (expected_of b.input) ≤ length (prios_of a.output) }
-    ensures retry { (a b : PortState) (from_a from_b : List Event) (w : Window) → a.output ≡ out.Output.RetryStopped w
-        → IsSound a b from_a from_b → distance w.oldest (expected_of b.input) ≡ 0 }
+    ensures failed { (a b : PortState) (kept_a kept_b : List Event) → IsSound a b kept_a kept_b → a.output ≢ out.Output.Failed }
+    ensures lent { (a b : PortState) (kept_a kept_b : List Event) → Covers (prios_of a.output) a.queued
+        → IsSound a b kept_a kept_b → distance (oldest_of a.output) (expected_of b.input) ≤ length (prios_of a.output) }
+    ensures retry { (a b : PortState) (kept_a kept_b : List Event) (w : Outstanding) → a.output ≡ out.Output.RetryStopped w
+        → IsSound a b kept_a kept_b → distance w.oldest (expected_of b.input) ≡ 0 }
 {}
 
 /// Not everything is sound: between two new ports there is no acceptance on its way, no link-response that nothing asked

@@ -1,5 +1,5 @@
 use Rattle.std.proofs.Common.{List}
-use Rattle.link_buffers.specs.Queues.{held}
+use Rattle.link_buffers.specs.Queues.{packet_count}
 use Rattle.fabric_model.specs.declared.lines.PortRef.{PortRef}
 use Rattle.fabric_model.specs.Network.{Registers}
 use Rattle.fabric_model.specs.Seen.{Seen}
@@ -14,4 +14,4 @@ invariant-loop-prio g l = (links : List (PortRef × PortRef)) (registers : List 
     l.way.from l.way.to links registers s l.from l.to
 
 abbrev pub decreases-loop-prio : goal.decreases-loop-prio
-decreases-loop-prio g l = held l.from.waiting
+decreases-loop-prio g l = packet_count l.from.waiting

@@ -1,5 +1,5 @@
 use Rattle.std.proofs.Common.{◌-◌, sym, ◌∙◌, arith}
-use Rattle.link_buffers.proofs.TakingLaws.{highest_below-found, highest_below-passed, highest_below-zero}
+use Rattle.link_buffers.proofs.PriorityLaws.{highest_below-found, highest_below-passed, highest_below-zero}
 use Rattle.link_port.proofs.plain.highest_waiting.Goals as goal
 
 pub returns-then-len-gt0-clause-highest : goal.returns-then-len-gt0-clause-highest

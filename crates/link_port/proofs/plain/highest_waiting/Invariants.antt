@@ -1,5 +1,5 @@
 use Rattle.std.proofs.Common.{◌≡◌}
-use Rattle.link_buffers.specs.Taking.{highest, highest_below}
+use Rattle.link_buffers.specs.Priorities.{highest, highest_below}
 use Rattle.link_port.proofs.plain.highest_waiting.Given as goal
 
 -- no higher priority has a packet

@@ -1,7 +1,7 @@
 use Rattle.std.proofs.Common.{sym, ap, ◌∙◌, arith}
 use Rattle.rio_packets.specs.Fields.{prio_of}
 use Rattle.link_buffers.specs.Queues.{popped}
-use Rattle.link_port.specs.Passing.{Plain, without}
+use Rattle.link_port.specs.Plain.{Plain, without}
 use Rattle.link_port.proofs.FirstPackets.{first_has_prio}
 use Rattle.link_port.proofs.plain.pass.Goals as goal
 

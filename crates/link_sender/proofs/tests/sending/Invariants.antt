@@ -1,4 +1,4 @@
-use Rattle.link_buffers.specs.Taking.{Covers}
+use Rattle.link_buffers.specs.Priorities.{Covers}
 use Rattle.link_sender.proofs.tests.sending.Given as goal
 
 -- the store has the outstanding packets

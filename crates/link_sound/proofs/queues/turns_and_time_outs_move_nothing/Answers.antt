@@ -1,14 +1,14 @@
 use Rattle.std.proofs.Common.{refl, map}
-use Rattle.link_buffers.specs.Taking.{highest}
+use Rattle.link_buffers.specs.Priorities.{highest}
 use Rattle.link_port.specs.Turns.{waiting_in}
-use Rattle.link_port.specs.Windows.{expected_of}
+use Rattle.link_port.specs.States.{expected_of}
 use Rattle.link_sound.specs.Meanings.{forward, backward}
 use Rattle.link_sound.proofs.Freed.{turn_stays, time_out_stays}
 use Rattle.link_sound.proofs.queues.turns_and_time_outs_move_nothing.Goals as goal
 
 pub returns-clause-turn : goal.returns-clause-turn
-returns-clause-turn c a b from_a from_b covers s =
-    let stays = turn_stays a.output (highest (waiting_in a)) b.input a.queued (map forward from_a) (map backward from_b) covers s.a_to_b in
+returns-clause-turn c a b kept_a kept_b covers s =
+    let stays = turn_stays a.output (highest (waiting_in a)) b.input a.queued (map forward kept_a) (map backward kept_b) covers s.a_to_b in
     (stays.0, stays.1, refl, refl)
 
 pub returns-clause-time_out : goal.returns-clause-time_out

@@ -1,9 +1,9 @@
 use Rattle.std.proofs.Common.{◌≡◌, ℕ, ◌<◌, List, length, Option, Some, None, IfSome, sym, ap, ◌∙◌, subst, arith}
 use Rattle.link_sender.specs.declared.answers.Started.{Started}
 use Rattle.link_buffers.specs.Queues.{list_at}
-use Rattle.link_buffers.specs.Taking.{count_of, Covers}
+use Rattle.link_buffers.specs.Priorities.{count_of, Covers}
 use Rattle.link_model.specs.Output.{Turned}
-use Rattle.link_port.specs.Windows.{prios_of}
+use Rattle.link_port.specs.States.{prios_of}
 use Rattle.link_port.specs.Sends.{starting, AreWaiting}
 use Rattle.link_port.proofs.output_half.Output.turn.Goals as goal
 

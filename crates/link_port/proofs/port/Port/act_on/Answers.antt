@@ -1,7 +1,7 @@
 use Rattle.std.proofs.Common.{◌++◌, sym, ap, ◌∙◌}
 use Rattle.std.specs.Option.{option_or}
 use Rattle.link_port.specs.Steps.{Acted}
-use Rattle.link_port.specs.Acting.{acts_first, acts_second}
+use Rattle.link_port.specs.Acts.{acts_first, acts_second}
 use Rattle.link_port.proofs.ActLaws.{all_is, second_holds_none, first_frees_none}
 use Rattle.link_port.proofs.port.Port.act_on.Goals as goal
 

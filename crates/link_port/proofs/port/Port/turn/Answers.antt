@@ -1,8 +1,8 @@
 use Rattle.std.proofs.Common.{ap, ◌∙◌}
 use Rattle.link_port.specs.declared.port.Port.TheInside.{Inside}
 use Rattle.link_port.specs.Halves.{output_of, input_of}
-use Rattle.link_port.specs.Bursts.{sent_by}
-use Rattle.link_port.specs.Turns.{Sending, turn_sends}
+use Rattle.link_port.specs.Bursts.{burst_by}
+use Rattle.link_port.specs.Turns.{Burst, turn_sends}
 use Rattle.link_port.specs.Ports.{PortState}
 use Rattle.link_port.proofs.TurnLaws.{turn_is}
 use Rattle.link_port.proofs.port.Port.turn.Goals as goal
@@ -20,8 +20,8 @@ returns-clause-chars c =
     let entry = rw c.replace-output.ensures.value at c.turn-output.ensures.entry in
     let waits = rw c.replace-output.ensures.value at c.turn-output.ensures.waiting in
     c.make_burst.ensures.chars
-    ∙ ap (λ n. (sent_by c.turn-output.result.1 n c.self.inside.queued).chars) c.expected.ensures.value
-    ∙ ap (λ (s : Sending). s.chars) (turn_is (seen c.self.inside) _ _ entry waits)
+    ∙ ap (λ n. (burst_by c.turn-output.result.1 n c.self.inside.queued).chars) c.expected.ensures.value
+    ∙ ap (λ (s : Burst). s.chars) (turn_is (seen c.self.inside) _ _ entry waits)
     ∙ ap (λ (p : PortState). (turn_sends p).chars) c.self.view_is
 
 pub returns-clause-sent : goal.returns-clause-sent
@@ -29,6 +29,6 @@ returns-clause-sent c =
     let entry = rw c.replace-output.ensures.value at c.turn-output.ensures.entry in
     let waits = rw c.replace-output.ensures.value at c.turn-output.ensures.waiting in
     c.make_burst.ensures.sent
-    ∙ ap (λ n. (sent_by c.turn-output.result.1 n c.self.inside.queued).sent) c.expected.ensures.value
-    ∙ ap (λ (s : Sending). s.sent) (turn_is (seen c.self.inside) _ _ entry waits)
+    ∙ ap (λ n. (burst_by c.turn-output.result.1 n c.self.inside.queued).sent) c.expected.ensures.value
+    ∙ ap (λ (s : Burst). s.sent) (turn_is (seen c.self.inside) _ _ entry waits)
     ∙ ap (λ (p : PortState). (turn_sends p).sent) c.self.view_is

@@ -1,0 +1,166 @@
+//! Events in a port.
+ghost use Rattle.std.specs.Prelude.{◌≡◌, ◌++◌, [], None, IfSome};
+ghost use Rattle.rio_framer.specs.Giving.{listed, IsPaired};
+ghost use Rattle.link_port.specs.Steps.{acts_all, acts_symbol, acts_packet, acts_bad, first_acted, after_hearing, heard, acknowledged, obeyed};
+ghost use Rattle.link_port.specs.Acts.{acts_first, acts_second, is_first_acted};
+ghost use Rattle.link_buffers.specs.Priorities.{packets_of};
+
+use crate::input_half::{Arrived, Input};
+use crate::output_half::Output;
+use crate::port::Port;
+use crate::taken::Taken;
+use arrayvec::ArrayVec;
+use link_model::Event;
+use link_receiver::InOk;
+use link_sender::OutFailed;
+use rio_packets::{Cause, Packet};
+use rio_symbols::Symbol;
+use std::mem;
+
+/// What an event did: the symbol to send, and a copy of the packet that was accepted.
+#[derive(Drop)]
+pub(crate) struct Done {
+    reply: Option<Symbol>,
+    held: Option<Packet>,
+}
+
+impl Done {
+    /// No packet was accepted.
+    fn replying(reply: Option<Symbol>) -> Done
+        ensures reply { result.reply ≡ reply }
+        ensures held { result.held ≡ None }
+    {
+        Done { reply, held: None }
+    }
+}
+
+impl Port {
+    /// The events of one character.
+    pub(crate) fn act_on(
+        &mut self,
+        first: Option<Event>,
+        second: Option<Symbol>,
+        freed: &mut ArrayVec<Packet, 31>,
+    ) -> Taken
+        requires empty { freed.old.items ≡ [] }
+        requires paired { IsPaired first second }
+        ensures state { self.new ≡ (acts_all self.old (listed first second)).port }
+        ensures first { result.first ≡ first }
+        ensures second { result.second ≡ second }
+        ensures first_acted { result.first_acted ≡ first_acted self.old (listed first second) }
+        ensures held { result.held ≡ (acts_all self.old (listed first second)).held }
+        ensures reply { result.reply ≡ (acts_all self.old (listed first second)).reply }
+        ensures freed { freed.new.items ≡ (acts_all self.old (listed first second)).freed }
+    {
+        let first_acted = self.is_acted(&first);
+        let Done { reply, held } = self.act_first(&first, freed);
+        let answer = self.act_second(&second, freed);
+        Taken {
+            first,
+            first_acted,
+            second,
+            held,
+            reply: reply.or(answer),
+        }
+    }
+
+    /// Returns whether the first event is a symbol, or a packet that is taken or has no room.
+    fn is_acted(&self, first: &Option<Event>) -> bool
+        ensures { result ≡ is_first_acted self.now first.now }
+    {
+        match first {
+            Some(Event::Ctl(_)) => true,
+            Some(Event::Pkt(ack, _)) => self.input.expects(*ack),
+            Some(Event::Bad(_)) | None => false,
+        }
+    }
+
+    /// The first event of a character.
+    fn act_first(&mut self, first: &Option<Event>, freed: &mut ArrayVec<Packet, 31>) -> Done
+        requires empty { freed.old.items ≡ [] }
+        ensures state { self.new ≡ (acts_first self.old first.now).port }
+        ensures held { result.held ≡ (acts_first self.old first.now).held }
+        ensures reply { result.reply ≡ (acts_first self.old first.now).reply }
+        ensures freed { freed.new.items ≡ (acts_first self.old first.now).freed }
+    {
+        match first {
+            Some(Event::Ctl(symbol)) => Done::replying(self.symbol(*symbol, freed)),
+            Some(Event::Pkt(ack, packet)) => self.packet(*ack, packet),
+            Some(Event::Bad(cause)) => Done::replying(self.bad(*cause)),
+            None => Done::replying(None),
+        }
+    }
+
+    /// The symbol that ended the packet of the first event.
+    fn act_second(
+        &mut self,
+        second: &Option<Symbol>,
+        freed: &mut ArrayVec<Packet, 31>,
+    ) -> Option<Symbol>
+        requires empty { IfSome second.now (λ _. freed.old.items ≡ []) }
+        ensures state { self.new ≡ (acts_second self.old second.now).port }
+        ensures reply { result ≡ (acts_second self.old second.now).reply }
+        ensures freed { freed.new.items ≡ freed.old.items ++ (acts_second self.old second.now).freed }
+    {
+        match second {
+            Some(symbol) => self.symbol(*symbol, freed),
+            None => None,
+        }
+    }
+
+    /// A symbol: the output half before the input half.
+    fn symbol(&mut self, symbol: Symbol, freed: &mut ArrayVec<Packet, 31>) -> Option<Symbol>
+        requires empty { freed.old.items ≡ [] }
+        ensures state { self.new ≡ (acts_symbol self.old symbol).port }
+        ensures reply { result ≡ (acts_symbol self.old symbol).reply }
+        ensures freed { freed.new.items ≡ (acts_symbol self.old symbol).freed }
+    {
+        self.hear(symbol, freed);
+        self.obey(symbol)
+    }
+
+    /// A symbol in the output half.
+    fn hear(&mut self, symbol: Symbol, freed: &mut ArrayVec<Packet, 31>)
+        requires empty { freed.old.items ≡ [] }
+        ensures state { self.new ≡ after_hearing self.old symbol }
+        ensures freed { freed.new.items ≡ packets_of (acknowledged self.old symbol) self.old.queued }
+    {
+        let output = mem::replace(&mut self.output, Output::Failed(OutFailed));
+        self.output = output.hear(symbol.s0, symbol.p0, &mut self.queued, freed);
+    }
+
+    /// A symbol in the input half.
+    fn obey(&mut self, symbol: Symbol) -> Option<Symbol>
+        ensures state { self.new ≡ record self.old { input = (obeyed self.old symbol).state } }
+        ensures reply { result ≡ (obeyed self.old symbol).reply }
+    {
+        let input = mem::replace(&mut self.input, Input::Ok(InOk::new()));
+        let (next, reply) = input.obey(symbol.s1, symbol.cmd);
+        self.input = next;
+        reply
+    }
+
+    /// A good packet with this ackID.
+    fn packet(&mut self, ack: u8, packet: &Packet) -> Done
+        ensures state { self.new ≡ (acts_packet self.old ack packet.now).port }
+        ensures reply { result.reply ≡ (acts_packet self.old ack packet.now).reply }
+        ensures held { result.held ≡ (acts_packet self.old ack packet.now).held }
+    {
+        let input = mem::replace(&mut self.input, Input::Ok(InOk::new()));
+        let Arrived { input, reply, held } = input.packet(ack, packet, &mut self.received);
+        self.input = input;
+        let held = if held { Some(packet.copy()) } else { None };
+        Done { reply, held }
+    }
+
+    /// What came is no packet or symbol.
+    fn bad(&mut self, cause: Cause) -> Option<Symbol>
+        ensures state { self.new ≡ (acts_bad self.old cause).port }
+        ensures reply { result ≡ (acts_bad self.old cause).reply }
+    {
+        let input = mem::replace(&mut self.input, Input::Ok(InOk::new()));
+        let (next, reply) = input.bad(cause);
+        self.input = next;
+        reply
+    }
+}

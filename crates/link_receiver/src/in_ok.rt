@@ -1,0 +1,111 @@
+//! `InOk`: packets are taken.
+ghost use Rattle.std.specs.Prelude.{◌≡◌, ◌<◌};
+ghost use Rattle.rio_packets.specs.CauseNumbers.{number_of};
+ghost use Rattle.rio_packets.specs.Fields.{prio_of};
+ghost use Rattle.link_buffers.specs.Queues.{room_for, stored};
+ghost use Rattle.link_model.specs.Input.{Received, packet_arrival, receives, replied};
+ghost use Rattle.link_model.specs.Input.{Input};
+ghost use Rattle.link_model.specs.Input.Arrival.{Damaged, RestartFromRetry, LinkRequest};
+ghost use Rattle.link_receiver.specs.Answers.{after_packet};
+
+use crate::in_error_stopped::InErrorStopped;
+use crate::in_retry_stopped::InRetryStopped;
+use link_buffers::InStore;
+use link_model::{PortStatus, link_response, packet_accepted, packet_not_accepted, packet_retry};
+use rio_packets::{Cause, Packet};
+use rio_symbols::Symbol;
+use std::marker::Model;
+
+/// A receiver that takes packets. Contracts see the next expected ackID.
+#[derive(Debug, Drop)]
+pub struct InOk {
+    pub(crate) expected: u8,
+}
+
+impl Model for InOk {
+    ghost use Rattle.std.specs.Prelude.{ℕ, ◌<◌};
+
+    ghost Value = { ℕ };
+
+    ghost view = { λ s. s.expected };
+
+    ghost invariant = { λ s. s.expected < 32 };
+}
+
+/// The state after a packet, and the symbol to send.
+#[derive(Debug, Drop)]
+pub enum AfterPacket {
+    /// It was put into the store.
+    Accepted(InOk, Symbol),
+    /// Its priority has no room.
+    Retry(InRetryStopped, Symbol),
+    /// It has another ackID than the expected one.
+    NotAccepted(InErrorStopped, Symbol),
+}
+
+impl InOk {
+    /// The state of a new port: ackID 0 is expected.
+    pub fn new() -> InOk
+        ensures { result ≡ 0 }
+    {
+        InOk { expected: 0 }
+    }
+
+    /// Returns the next expected ackID.
+    pub fn expected(&self) -> u8
+        ensures value { result ≡ self.now }
+        ensures range { result < 32 }
+    {
+        self.expected
+    }
+
+    /// A good packet with this ackID. With another ackID than the expected one it is an error of cause 1; where its
+    /// priority has no room it has to be sent again; else it is put into the store. In the first two cases the store
+    /// is unchanged.
+    pub fn packet(self, ack: u8, packet: &Packet, store: &mut InStore) -> AfterPacket
+        ensures entry { after_packet result
+            ≡ receives (packet_arrival self ack (room_for store.old (prio_of packet.now))) (Input.Ok self) }
+        ensures store { store.new
+            ≡ stored (receives (packet_arrival self ack (room_for store.old (prio_of packet.now))) (Input.Ok self)).held store.old packet.now }
+    {
+        let InOk { expected } = self;
+        if ack != expected {
+            let symbol = packet_not_accepted(expected, Cause::UnexpectedAck);
+            return AfterPacket::NotAccepted(InErrorStopped { expected }, symbol);
+        }
+        if !store.has_room(packet.prio()) {
+            return AfterPacket::Retry(InRetryStopped { expected }, packet_retry(expected));
+        }
+        store.put(packet.copy());
+        let next = InOk {
+            expected: (expected + 1) % 32,
+        };
+        AfterPacket::Accepted(next, packet_accepted(expected))
+    }
+
+    /// What came is no packet or symbol.
+    pub fn bad(self, cause: Cause) -> (InErrorStopped, Symbol)
+        ensures { replied (Input.ErrorStopped result.0) result.1 ≡ receives (Damaged (number_of cause)) (Input.Ok self) }
+    {
+        let InOk { expected } = self;
+        (
+            InErrorStopped { expected },
+            packet_not_accepted(expected, cause),
+        )
+    }
+
+    /// A restart-from-retry, which is an error here, of cause 31.
+    pub fn restart(self) -> (InErrorStopped, Symbol)
+        ensures { replied (Input.ErrorStopped result.0) result.1 ≡ receives RestartFromRetry (Input.Ok self) }
+    {
+        self.bad(Cause::General)
+    }
+
+    /// A link-request input-status.
+    pub fn request(self) -> (InOk, Symbol)
+        ensures { replied (Input.Ok result.0) result.1 ≡ receives LinkRequest (Input.Ok self) }
+    {
+        let symbol = link_response(self.expected, PortStatus::Ok);
+        (self, symbol)
+    }
+}

@@ -1,4 +1,0 @@
-use Rattle.link_sender.proofs.sending.OutOk.time_out.Goals as goal
-
-pub returns : goal.returns
-returns c = c.not_accepted.ensures 0
