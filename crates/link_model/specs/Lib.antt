@@ -9,4 +9,5 @@ pub mod Events
 pub mod EventsEqual
 pub mod Reading
 pub mod Places
+pub mod Fronts
 pub mod ReadingSpelt

@@ -8,7 +8,7 @@
 //! - [`Event`] is what a list of characters says: control symbols, packets, and what is neither.
 //! - [`Kind`], [`char_kind`] and [`Pending`] are the words of the reading of characters.
 //! - [`one_reading`], [`reading_in_pieces`], [`one_character_tells_at_most_two`], [`packet_in_progress_is_bounded`],
-//!   [`spelling_is_read`] and [`event_laws`] state what holds of every reading; the calls do nothing.
+//!   [`events_go_by_fronts`], [`spelling_is_read`] and [`event_laws`] state what holds of every reading; the calls do nothing.
 //! - [`WINDOW`]: the most packets that are outstanding
 //! - [`packet_accepted`] and the like: the control symbols that a port sends
 //! - [`PortStatus`]: what a link-response tells of the input
@@ -25,8 +25,8 @@ mod window;
 pub use event::Event;
 pub use reading_kinds::{Kind, Pending, char_kind};
 pub use reading_laws::{
-    event_laws, one_character_tells_at_most_two, one_reading, packet_in_progress_is_bounded,
-    reading_in_pieces, spelling_is_read,
+    event_laws, events_go_by_fronts, one_character_tells_at_most_two, one_reading,
+    packet_in_progress_is_bounded, reading_in_pieces, spelling_is_read,
 };
 pub use symbols::{
     PortStatus, end_of_packet, link_request, link_response, packet_accepted, packet_not_accepted,

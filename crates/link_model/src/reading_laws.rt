@@ -1,5 +1,5 @@
 //! What holds of every reading of characters. The calls do nothing: their clauses are the laws.
-ghost use Rattle.std.specs.Prelude.{◌≡◌, ℕ, ◌+◌, ◌<◌, ◌↔◌, nat_lt, true, false, List, [], ◌∷◌, ◌++◌, length, filter, map, ◌≤◌};
+ghost use Rattle.std.specs.Prelude.{◌≡◌, ℕ, suc, take, drop, ◌+◌, ◌<◌, ◌↔◌, nat_lt, true, false, List, [], ◌∷◌, ◌++◌, length, filter, map, ◌≤◌};
 ghost use Rattle.rio_chars.specs.declared.chars.Char.{Char};
 ghost use Rattle.rio_symbols.specs.declared.stype1.TheConstants.{START_OF_PACKET, END_OF_PACKET};
 ghost use Rattle.rio_symbols.specs.Fields.{Fields, InRange};
@@ -11,6 +11,7 @@ ghost use Rattle.rio_packets.specs.declared.cause.Cause.TheVariants.{BadPacket, 
 ghost use Rattle.link_model.specs.Events.{same_event, packet_event};
 ghost use Rattle.link_model.specs.Reading.{Text, IsOpen, text_after, told, placed, IsReading, IsCut};
 ghost use Rattle.link_model.specs.Places.{Place, place, start, step, run, place_after, at_rest, AreGiven, IsBounded};
+ghost use Rattle.link_model.specs.Fronts.{telling_front};
 ghost use Rattle.link_model.specs.ReadingSpelt.{symbol_chars_of, bytes_with_ack, packet_chars_of};
 
 /// Every list of characters has exactly one reading, and it is what the steps of one character tell. The list is cut
@@ -76,4 +77,22 @@ pub fn event_laws()
     ensures no_packet { (bytes : List ℕ) → 8 ≤ length bytes
         → ((ack : ℕ) (packet : List ℕ) → Carries bytes ack packet → ⊥)
         → packet_event bytes ≡ Event.Bad BadPacket }
+{}
+
+/// The front of characters up to and with the first that tells: it is as long as there are characters where none tells, and
+/// all events of the characters are its own, at its last character, and those of the characters behind it.
+pub fn events_go_by_fronts()
+    ensures count { (from : Place) (chars : List Char) → (telling_front from chars).count ≤ length chars }
+    ensures some { (from : Place) (chars : List Char) → 0 < length chars
+        → 0 < (telling_front from chars).count }
+    ensures all { (from : Place) (chars : List Char) → (telling_front from chars).step.gives ≡ []
+        → (telling_front from chars).count ≡ length chars }
+    ensures place { (from : Place) (chars : List Char) → (telling_front from chars).step.place
+        ≡ place_after from (take (telling_front from chars).count chars) }
+    ensures events { (from : Place) (at n : ℕ) (chars : List Char)
+        → at + (telling_front from chars).count ≡ suc n
+        → run from at chars ≡ placed n (telling_front from chars).step.gives
+        ++ run (telling_front from chars).step.place (suc n)
+        (drop (telling_front from chars).count chars) }
+    ensures two { (from : Place) (chars : List Char) → AreGiven (telling_front from chars).step.gives }
 {}
