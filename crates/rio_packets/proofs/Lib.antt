@@ -8,4 +8,6 @@ pub mod PassesLaws
 pub mod MakingLaws
 pub mod FieldLaws
 pub mod CarriesLaws
+pub mod BuildingLaws
+pub mod CheckedLaws
 pub mod LowerLaws

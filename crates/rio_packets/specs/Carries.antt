@@ -1,7 +1,9 @@
 -- What bytes on a link carry: an ackID and a packet
 -- (RapidIO Interconnect Specification 1.3, Part 6, packet format; that bit 5 is ignored is this project's profile).
-use Rattle.std.specs.Prelude.{◌≡◌, ℕ, ◌/◌, ◌%◌, ◌<◌, ◌==◌, ◌&&◌, ◌||◌, Bool, nat_lt, nat_le, List, [], ◌∷◌, length, take, slice_index, Option, Some, None, if◌then◌else◌}
+use Rattle.std.specs.Prelude.{Result, Ok, Err, ◌≡◌, ℕ, ◌/◌, ◌%◌, ◌<◌, ◌==◌, ◌&&◌, ◌||◌, Bool, nat_lt, nat_le, List, [], ◌∷◌, length, take, slice_index, Option, Some, None, if◌then◌else◌}
 use Rattle.std.specs.List.{list_all}
+use Rattle.rio_packets.specs.declared.cause.Cause.{Cause}
+use Rattle.rio_packets.specs.declared.cause.Cause.TheVariants.{BadPacket, General}
 use Rattle.rio_packets.specs.LinkForm.{LinkForm}
 use Rattle.rio_packets.specs.Register.{running}
 
@@ -34,3 +36,13 @@ unfoldable pub carried : List ℕ → Option (ℕ × List ℕ)
 carried bytes =
     if nat_lt (slice_index bytes 0) 256 && passes (at_origin bytes)
     then Some (slice_index bytes 0 / 8, at_origin bytes) else None
+
+-- what is found, or else that the bytes are bad
+abbrev pub found_or_bad : Option (ℕ × List ℕ) → Result (ℕ × List ℕ) Cause
+found_or_bad (Some found) = Ok found
+found_or_bad None = Err BadPacket
+
+-- what a receiver answers of bytes: the ackID and the packet that they carry, or why they carry none
+unfoldable pub checked : List ℕ → Result (ℕ × List ℕ) Cause
+checked bytes =
+    if nat_lt (length bytes) 8 || nat_lt 276 (length bytes) then Err General else found_or_bad (carried bytes)

@@ -4,5 +4,6 @@ pub mod LinkForm
 pub mod Making
 pub mod Fields
 pub mod Carries
+pub mod Building
 pub mod CauseNumbers
 pub mod Hops

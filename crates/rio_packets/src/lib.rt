@@ -11,6 +11,7 @@
 //! the hop count of maintenance packets. No call takes memory.
 #![tactic(auto)]
 
+mod building;
 mod cause;
 mod crc;
 mod fields;
@@ -19,6 +20,7 @@ mod making;
 mod packet;
 mod receive;
 
+pub use building::Building;
 pub use cause::{Cause, cause_number};
 pub use laws::{body_has_one_form, carried_is_exact, lowered_is_one, register_tells_forms};
 pub use making::{BadLength, Header, build};

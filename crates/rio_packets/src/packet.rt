@@ -61,6 +61,14 @@ impl Packet {
         self.form.as_slice()
     }
 
+    /// The packet of a link form that is known to be one.
+    pub fn from_form(form: &[u8]) -> Packet
+        requires { Passes form.now }
+        ensures { result ≡ form.now }
+    {
+        Packet { form: copied(form) }
+    }
+
     /// The same packet once more.
     pub fn copy(&self) -> Packet
         ensures same { result ≡ self.now }

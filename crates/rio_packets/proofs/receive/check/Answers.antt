@@ -1,63 +1,33 @@
-use Rattle.std.proofs.Common.{◌≡◌, ℕ, ◌<◌, ◌≤◌, ◌/◌, ◌∷◌, Bool, true, bit_and, List, Some, length, get_or, drop, refl, ap, ◌∙◌, sym, inl, inr, arith}
-use Rattle.std.proofs.lemmas.Nat.{and_mask}
-use Rattle.std.proofs.lemmas.List.Elements.{All-from_get_or}
-use Rattle.rio_packets.specs.LinkForm.{AreBytes}
-use Rattle.rio_packets.specs.Carries.{carried, register_passes}
-use Rattle.rio_packets.proofs.CarriesLaws.{carried-none, carried-not_passing, carried-passing, carried-out_of_range, Carries-from_carried, Passes-from_Carries}
+use Rattle.std.proofs.Common.{ℕ, List, ◌++◌, ◌∙◌, ap, sym, inr}
+use Rattle.rio_packets.specs.Carries.{checked}
+use Rattle.rio_packets.proofs.CarriesLaws.{carried-out_of_range}
+use Rattle.rio_packets.proofs.CheckedLaws.{Says, says-checked, checked-many}
 use Rattle.rio_packets.proofs.receive.check.Goals as goal
 
-pub returns-then-bytes-lt-MIN_BYTES-clause-none : goal.returns-then-bytes-lt-MIN_BYTES-clause-none
-returns-then-bytes-lt-MIN_BYTES-clause-none c =
-    elim c.then-bytes-lt-MIN_BYTES.either [
-      | inl few ↦ carried-out_of_range c.args.bytes.now (inl few)
-      | inr many ↦ carried-out_of_range c.args.bytes.now (inr many.1)
-    ]
+pub returns-then-bytes-gt-MAX_BYTES-clause-none : goal.returns-then-bytes-gt-MAX_BYTES-clause-none
+returns-then-bytes-gt-MAX_BYTES-clause-none c = carried-out_of_range c.args.bytes.now (inr c.if-bytes-gt-MAX_BYTES.true)
 
-pub returns-then-not-is_link_form-clause-none : goal.returns-then-not-is_link_form-clause-none
-returns-then-not-is_link_form-clause-none c =
-    let bytes = c.args.bytes.now in
-    let form = c.with_first-form.result.items in
-    let range = All-from_get_or (λ b. b < 256) bytes 0 (λ i _. omega (arith, c.type_inv.bytes i)) in
-    carried-not_passing bytes form (omega arith) (omega arith) range (c.with_first-form.ensures ∙ ap (λ n. n ∷ drop 1 bytes) (and_mask (get_or bytes 0 0) 2))
-    (ap register_passes (sym c.deref.ensures.0) ∙ sym c.is_link_form.ensures ∙ c.if-not-is_link_form.true)
+pub returns-then-bytes-gt-MAX_BYTES-clause-checked : goal.returns-then-bytes-gt-MAX_BYTES-clause-checked
+returns-then-bytes-gt-MAX_BYTES-clause-checked c = sym (checked-many c.args.bytes.now c.if-bytes-gt-MAX_BYTES.true)
 
-pub returns-then-not-is_link_form-clause-bad_packet : goal.returns-then-not-is_link_form-clause-bad_packet
-returns-then-not-is_link_form-clause-bad_packet c = (
-  λ _. (omega arith, omega arith, (carried-none c.args.bytes.now).0 (returns-then-not-is_link_form-clause-none c)),
-  λ _. refl,
-)
-
--- what is found once the test has passed
-found : (bytes form now : List ℕ) (told : Bool) → 8 ≤ length bytes → length bytes ≤ 276 → AreBytes bytes
-    → form ≡ bit_and (get_or bytes 0 0) 3 ∷ drop 1 bytes → now ≡ form → told ≡ register_passes now → told ≡ true
-    → carried bytes ≡ Some (get_or bytes 0 0 / 8, form)
-found bytes form now told least most range is same tells holds =
-    carried-passing bytes form least most range (is ∙ ap (λ n. n ∷ drop 1 bytes) (and_mask (get_or bytes 0 0) 2))
-    (ap register_passes (sym same) ∙ sym tells ∙ holds)
-
-pub returns-clause-found : goal.returns-clause-found
-returns-clause-found c =
-    let bytes = c.args.bytes.now in
-    let range = All-from_get_or (λ b. b < 256) bytes 0 (λ i _. omega (arith, c.type_inv.bytes i)) in
-    found bytes c.with_first-form.result.items c.deref.result.now c.is_link_form.result (omega arith) (omega arith) range
-    c.with_first-form.ensures c.deref.ensures.0 c.is_link_form.ensures c.if-not-is_link_form.false
+says : (c : goal.After-finish) → Says c.args.bytes.now c.finish.result
+says c = says-checked c.args.bytes.now c.finish.result (c.finish.ensures
+    ∙ ap checked (c.push_all.ensures ∙ ap (λ (bytes : List ℕ). bytes ++ c.args.bytes.now) c.new-building.ensures))
 
 pub returns-clause-ok : goal.returns-clause-ok
-returns-clause-ok c =
-    Carries-from_carried c.args.bytes.now (get_or c.args.bytes.now 0 0 / 8) c.with_first-form.result.items (returns-clause-found c)
+returns-clause-ok c = (says c).ok
 
-pub invariant_of-result : goal.invariant_of-result
-invariant_of-result c =
-    let bytes = c.args.bytes.now in
-    let form = c.with_first-form.result.items in
-    let range = All-from_get_or (λ b. b < 256) bytes 0 (λ i _. omega (arith, c.type_inv.bytes i)) in
-    Passes-from_Carries bytes (get_or bytes 0 0 / 8) form
-    (Carries-from_carried bytes (get_or bytes 0 0 / 8) form
-    (found bytes form c.deref.result.now c.is_link_form.result (omega arith) (omega arith) range
-    c.with_first-form.ensures c.deref.ensures.0 c.is_link_form.ensures c.if-not-is_link_form.false))
+pub returns-clause-found : goal.returns-clause-found
+returns-clause-found c = (says c).found
+
+pub returns-clause-none : goal.returns-clause-none
+returns-clause-none c = (says c).none
+
+pub returns-clause-general : goal.returns-clause-general
+returns-clause-general c = (says c).general
 
 pub returns-clause-bad_packet : goal.returns-clause-bad_packet
-returns-clause-bad_packet c = (
-  λ e. cc,
-  λ h. absurd (h.2 (get_or c.args.bytes.now 0 0 / 8) c.with_first-form.result.items (returns-clause-ok c)),
-)
+returns-clause-bad_packet c = (says c).bad_packet
+
+pub returns-clause-no_other : goal.returns-clause-no_other
+returns-clause-no_other c = (says c).no_other
