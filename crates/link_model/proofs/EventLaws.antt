@@ -1,10 +1,12 @@
 -- The event of a packet's bytes is what they carry, or why they carry nothing.
-use Rattle.std.proofs.Common.{◌≡◌, ℕ, ◌<◌, ◌≤◌, Bool, nat_lt, Option, List, length, if◌then◌else◌, inl, ap, ◌∙◌}
+use Rattle.std.proofs.Common.{◌≡◌, ℕ, ◌<◌, ◌≤◌, Bool, nat_lt, Option, Some, None, List, length, if◌then◌else◌, inl, inr, refl, sym, ap, ◌∙◌}
 use Rattle.std.proofs.lemmas.Bool.Decides.{Decides-ltb}
-use Rattle.rio_packets.specs.Carries.{Carries}
+use Rattle.std.proofs.lemmas.Bool.{cases_lt}
+use Rattle.rio_packets.specs.Carries.{Carries, carried, found_or_bad, checked}
 use Rattle.rio_packets.specs.declared.cause.Cause.TheVariants.{BadPacket, General}
 use Rattle.link_model.specs.declared.event.Event.TheVariants.{Pkt, Bad}
-use Rattle.link_model.specs.Events.{packet_or_cause, packet_event}
+use Rattle.link_model.specs.Events.{packet_or_cause, packet_event, checked_event}
+use Rattle.rio_packets.proofs.BuildingLaws.{checked-few, checked-in_range}
 use Rattle.rio_packets.proofs.CarriesLaws.{carried-from_Carries, carried-none, carried-out_of_range}
 use Rattle.link_model.proofs.ReadingSteps.{not_below}
 
@@ -24,3 +26,18 @@ unfolding packet_event
 event-no_packet bytes enough never =
     ap (λ (o : Option (ℕ × List ℕ)). packet_or_cause o (if nat_lt (length bytes) 8 then General else BadPacket)) ((carried-none bytes).1 never)
     ∙ ap (λ (b : Bool). Bad (if b then General else BadPacket)) (not_below (length bytes) 8 enough)
+
+-- The event of a packet's bytes is what a receiver answers of them.
+pub event-checked : (bytes : List ℕ) → length bytes ≤ 276 → packet_event bytes ≡ checked_event (checked bytes)
+unfolding packet_event
+event-checked bytes most =
+    elim (cases_lt (length bytes) 8) [
+      | inl few ↦ event-too_short bytes few ∙ sym (ap checked_event (checked-few bytes few))
+      | inr enough ↦
+          ap (λ (b : Bool). packet_or_cause (carried bytes) (if b then General else BadPacket)) (not_below (length bytes) 8 enough)
+          ∙ found (carried bytes) ∙ sym (ap checked_event (checked-in_range bytes enough most))
+    ]
+  where
+    found : (o : Option (ℕ × List ℕ)) → packet_or_cause o BadPacket ≡ checked_event (found_or_bad o)
+    found None = refl
+    found (Some both) = refl

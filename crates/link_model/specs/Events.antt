@@ -1,5 +1,5 @@
 -- Events, and the event of a packet's bytes.
-use Rattle.std.specs.Prelude.{ℕ, ◌==◌, ◌&&◌, Bool, false, nat_eq, nat_lt, List, length, Option, Some, None, if◌then◌else◌}
+use Rattle.std.specs.Prelude.{Result, Ok, Err, ℕ, ◌==◌, ◌&&◌, Bool, false, nat_eq, nat_lt, List, length, Option, Some, None, if◌then◌else◌}
 use Rattle.std.specs.Cmp.Lexicographic.{pointwise}
 use Rattle.rio_symbols.specs.Fields.{Fields}
 use Rattle.rio_packets.specs.Carries.{carried}
@@ -17,6 +17,11 @@ packet_or_cause None cause = Bad cause
 -- The event of the bytes between the symbols of a packet: the packet that they carry, or why they carry none.
 unfoldable pub packet_event : List ℕ → Event
 packet_event bytes = packet_or_cause (carried bytes) (if nat_lt (length bytes) 8 then General else BadPacket)
+
+-- the event of what a receiver answers of bytes
+abbrev pub checked_event : Result (ℕ × List ℕ) Cause → Event
+checked_event (Ok found) = Pkt found.0 found.1
+checked_event (Err cause) = Bad cause
 
 -- whether two symbols have the same fields
 abbrev pub same_fields : Fields → Fields → Bool

@@ -9,7 +9,7 @@ use Rattle.rio_symbols.specs.Spelling.{spelled}
 use Rattle.rio_packets.specs.declared.cause.Cause.{Cause}
 use Rattle.rio_packets.specs.declared.cause.Cause.TheVariants.{BadSymbol, BadChar, General}
 use Rattle.link_model.specs.declared.event.Event.{Event}
-use Rattle.link_model.specs.declared.event.Event.TheVariants.{Ctl, Bad}
+use Rattle.link_model.specs.declared.event.Event.TheVariants.{Ctl, Pkt, Bad}
 use Rattle.link_model.specs.declared.reading_kinds.Kind.{Kind}
 use Rattle.link_model.specs.declared.reading_kinds.Kind.TheVariants.{Byte, Opens, Idle, Stray}
 use Rattle.link_model.specs.declared.reading_kinds.Pending.{Pending}
@@ -115,11 +115,17 @@ rests_by _ _ = false
 abbrev pub at_rest : Place → Bool
 at_rest from = rests_by from.text from.pending
 
--- At most two events come of one character. The first of two is a packet's, and the second the symbol that ended the
--- packet: start-of-packet or end-of-packet.
+-- it is no packet
+abbrev pub IsNoPacket : Event → Type 0
+IsNoPacket (Ctl symbol) = Unit {0}
+IsNoPacket (Pkt ack packet) = ⊥
+IsNoPacket (Bad cause) = Unit {0}
+
+-- At most two events come of one character. One by itself is no packet. The first of two is a packet's, and the second the
+-- symbol that ended the packet: start-of-packet or end-of-packet.
 abbrev pub AreGiven : List Event → Type 0
 AreGiven [] = Unit {0}
-AreGiven (e ∷ []) = Unit {0}
+AreGiven (e ∷ []) = IsNoPacket e
 AreGiven (e ∷ x ∷ []) =
     (bytes : List ℕ) × (symbol : Fields) × (e ≡ packet_event bytes) × (x ≡ Ctl symbol)
     × ((symbol.s1 ≡ START_OF_PACKET) ⊎ (symbol.s1 ≡ END_OF_PACKET))

@@ -4,11 +4,11 @@ ghost use Rattle.rio_chars.specs.declared.chars.Char.{Char};
 ghost use Rattle.rio_symbols.specs.declared.stype1.TheConstants.{START_OF_PACKET, END_OF_PACKET};
 ghost use Rattle.rio_symbols.specs.Fields.{Fields, InRange};
 ghost use Rattle.rio_packets.specs.LinkForm.{Passes};
-ghost use Rattle.rio_packets.specs.Carries.{Carries};
+ghost use Rattle.rio_packets.specs.Carries.{Carries, checked};
 ghost use Rattle.link_model.specs.declared.event.Event.{Event};
 ghost use Rattle.link_model.specs.declared.reading_kinds.Pending.{Pending};
 ghost use Rattle.rio_packets.specs.declared.cause.Cause.TheVariants.{BadPacket, General};
-ghost use Rattle.link_model.specs.Events.{same_event, packet_event};
+ghost use Rattle.link_model.specs.Events.{same_event, packet_event, checked_event};
 ghost use Rattle.link_model.specs.Reading.{Text, IsOpen, text_after, told, placed, IsReading, IsCut};
 ghost use Rattle.link_model.specs.Places.{Place, place, start, step, run, place_after, at_rest, AreGiven, IsBounded};
 ghost use Rattle.link_model.specs.Fronts.{telling_front};
@@ -37,7 +37,8 @@ pub fn reading_in_pieces()
         → IsReading xs (filter (λ event. nat_lt event.0 (length xs)) events) }
 {}
 
-/// One character tells at most two events; the first of two is a packet's, and the second the symbol that ended it.
+/// One character tells at most two events. One by itself is no packet; the first of two is a packet's, and the second the
+/// symbol that ended it.
 pub fn one_character_tells_at_most_two()
     ensures { (from : Place) (c : Char) → AreGiven (step from c).gives }
 {}
@@ -66,7 +67,7 @@ pub fn spelling_is_read()
 {}
 
 /// Two events are the same exactly where the test of events says so; and the event of a packet's bytes is the packet that
-/// they carry, or else tells that they are too short or carry none.
+/// they carry, or else tells that they are too short or carry none: what `rio_packets::check` answers of them.
 pub fn event_laws()
     ensures same { (e x : Event) → same_event e x ≡ true → e ≡ x }
     ensures back { (e x : Event) → e ≡ x → same_event e x ≡ true }
@@ -77,6 +78,8 @@ pub fn event_laws()
     ensures no_packet { (bytes : List ℕ) → 8 ≤ length bytes
         → ((ack : ℕ) (packet : List ℕ) → Carries bytes ack packet → ⊥)
         → packet_event bytes ≡ Event.Bad BadPacket }
+    ensures checked { (bytes : List ℕ) → length bytes ≤ 276
+        → packet_event bytes ≡ checked_event (checked bytes) }
 {}
 
 /// The front of characters up to and with the first that tells: it is as long as there are characters where none tells, and

@@ -1,2 +1,4 @@
 pub mod GivingLaws
+pub mod EndedLaws
 pub mod FeedingLaws
+pub mod FrontsLaws

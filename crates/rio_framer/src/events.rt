@@ -1,9 +1,6 @@
-//! What one character tells.
-ghost use Rattle.std.specs.Prelude.{◌≡◌, ◌≤◌, length, Some, None};
-ghost use Rattle.link_model.specs.Events.{packet_event as packet_event_of};
-
+//! What characters tell.
 use link_model::Event;
-use rio_packets::{Cause, check};
+use rio_packets::Cause;
 use rio_symbols::Symbol;
 
 /// The events that one character completes.
@@ -15,35 +12,16 @@ pub struct Events {
     pub second: Option<Symbol>,
 }
 
-impl Events {
+/// What a run of characters tells, in a few bytes: a packet that ended is not in it, but is lent by
+/// [`Framer::ended`](crate::Framer::ended).
+#[derive(Clone, Copy, Debug, PartialEq, Eq)]
+pub enum Told {
     /// No event.
-    pub(crate) fn none() -> Events
-        ensures { result ≡ record { first = None; second = None } }
-    {
-        Events {
-            first: None,
-            second: None,
-        }
-    }
-
+    Nothing,
+    /// A control symbol, which ended no packet.
+    Ctl(Symbol),
+    /// The packet that was in progress, and the start-of-packet or end-of-packet symbol that ended it.
+    Ends(Symbol),
     /// What is neither a symbol nor a packet, and why.
-    pub(crate) fn bad(cause: Cause) -> Events
-        ensures { result ≡ record { first = Some (Event.Bad cause); second = None } }
-    {
-        Events {
-            first: Some(Event::Bad(cause)),
-            second: None,
-        }
-    }
-}
-
-/// The packet that bytes carry, or why they carry none.
-pub(crate) fn packet_event(bytes: &[u8]) -> Event
-    requires { length bytes.now ≤ 276 }
-    ensures { result ≡ packet_event_of bytes.now }
-{
-    match check(bytes) {
-        Ok((ack, packet)) => Event::Pkt(ack, packet),
-        Err(cause) => Event::Bad(cause),
-    }
+    Bad(Cause),
 }

@@ -15,9 +15,9 @@ impl Framer {
     /// for the events was not given; the framer is then as before.
     pub fn feed_all(&mut self, alloc: Global, chars: &[Char]) -> Result<Vec<(u32, Event)>, NoMemory>
         requires { length chars.now ≤ 4194304 }
-        ensures events { IfOk result (λ found. found.items ≡ run self.old 0 chars.now) }
-        ensures reads { self.old ≡ start → IfOk result (λ found. IsReading chars.now found.items) }
-        ensures place { OnOk result (self.new ≡ place_after self.old chars.now) }
+        ensures events { IfOk result (λ found. found.items ≡ run self.old.place 0 chars.now) }
+        ensures reads { self.old.place ≡ start → IfOk result (λ found. IsReading chars.now found.items) }
+        ensures place { OnOk result (self.new.place ≡ place_after self.old.place chars.now) }
         ensures unchanged { OnErr result (self.new ≡ self.old) }
     {
         let mut framer = self.copy();

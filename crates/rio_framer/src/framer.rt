@@ -1,12 +1,10 @@
 //! The framer.
-ghost use Rattle.std.specs.Prelude.{◌≡◌, ◌≤◌, ℕ, List, [], ◌∷◌, if◌then◌else◌};
-ghost use Rattle.link_model.specs.ReadingKinds.{kind as kind_of};
+ghost use Rattle.std.specs.Prelude.{◌≡◌, ◌≤◌, ◌<◌, ℕ, List, [], ◌∷◌, true, Some, None, IsSome, IfOk, MatchResult};
 
-use crate::events::{Events, packet_event};
-use arrayvec::ArrayVec;
+use crate::events::{Events, Told};
 use link_model::{Event, Kind, Pending, char_kind};
 use rio_chars::Char;
-use rio_packets::{Cause, MAX_BYTES};
+use rio_packets::{Building, Cause, Packet};
 use rio_symbols::{Delimiter, Symbol, from_bytes, stype1};
 use std::marker::Model;
 
@@ -48,42 +46,46 @@ pub(crate) enum Mode {
 #[derive(Debug, Drop)]
 pub struct Framer {
     mode: Mode,
-    bytes: ArrayVec<u8, MAX_BYTES>,
+    /// The bytes of the packet in progress, or of the one that the last character ended.
+    building: Building,
+    /// Whether the last character ended the packet.
+    ended: bool,
     pending: Pending,
 }
 
 impl Model for Framer {
-    ghost use Rattle.link_model.specs.Places.{Place};
+    ghost use Rattle.rio_framer.specs.Framing.{Framing, framing_of};
 
-    ghost Value = { Place };
+    ghost Value = { Framing };
 
-    ghost use Rattle.rio_framer.specs.Framing.{text_of};
-
-    ghost view = { λ f. record { text = text_of f.mode f.bytes.items; pending = f.pending } };
+    ghost view = { λ f. framing_of f.mode f.building f.pending f.ended };
 }
 
 impl Framer {
-    ghost use Rattle.std.specs.Prelude.{Some, None, option_to_list};
+    ghost use Rattle.std.specs.Prelude.{length};
+    ghost use Rattle.rio_packets.specs.LinkForm.{Passes};
     ghost use Rattle.rio_symbols.specs.Spelling.{spelled_in};
-    ghost use Rattle.link_model.specs.Reading.{Plain, Skipped, Within, text_after, told, ends_packet, ended as ended_in};
-    ghost use Rattle.link_model.specs.Places.{start, place as place_of, step, step_by, outside as outside_step, broken as broken_step, finished, at_rest as rests};
-    ghost use Rattle.rio_framer.specs.Framing.{IsWithin};
-    ghost use Rattle.rio_framer.specs.Giving.{listed, events_of, IsPaired};
+    ghost use Rattle.link_model.specs.Reading.{Plain, Skipped, Within, text_after, told};
+    ghost use Rattle.link_model.specs.Places.{Step, start, place as place_of, goes, fails, taken, step, step_by, outside as outside_step, broken as broken_step, finished, at_rest as rests};
+    ghost use Rattle.link_model.specs.Fronts.{telling_front};
+    ghost use Rattle.rio_framer.specs.Framing.{framing_at, framing_after, IsWithin};
+    ghost use Rattle.rio_framer.specs.Giving.{listed, events_of, told_of, events_by, IsPaired};
 
     /// Nothing is in progress.
     pub fn new() -> Framer
-        ensures { result ≡ start }
+        ensures { result ≡ framing_at start }
     {
         Framer {
             mode: Mode::Outside,
-            bytes: ArrayVec::new(),
+            building: Building::new(),
+            ended: false,
             pending: Pending::Nothing,
         }
     }
 
     /// Whether neither a symbol nor a packet is in progress.
     pub fn at_rest(&self) -> bool
-        ensures { result ≡ rests self.now }
+        ensures { result ≡ rests self.now.place }
     {
         match (self.mode, self.pending) {
             (Mode::Outside | Mode::Skipping, Pending::Nothing) => true,
@@ -93,19 +95,120 @@ impl Framer {
 
     /// Takes the next character, and tells the events that it completes.
     pub fn feed(&mut self, c: Char) -> Events
-        ensures place { self.new ≡ (step self.old c).place }
-        ensures exact { result ≡ events_of (step self.old c).gives }
+        ensures place { self.new.place ≡ (step self.old.place c).place }
+        ensures exact { result ≡ events_of (step self.old.place c).gives }
+        ensures state { self.new ≡ framing_after (step self.old.place c) }
 
-        ensures gives { listed result.first result.second ≡ (step self.old c).gives }
+        ensures gives { listed result.first result.second ≡ (step self.old.place c).gives }
         ensures paired { IsPaired result.first result.second }
     {
+        let told = self.read(c);
+        self.events(told)
+    }
+
+    /// Takes characters up to and with the first that tells an event, or all where none does, and answers their number and
+    /// what the last of them tells. A packet that it ended stays where it is, and is lent by [`Framer::ended`] until the next
+    /// call that takes characters. To read the characters of a list run by run is to read it character by character:
+    /// `link_model::events_go_by_fronts`.
+    pub fn read_run(&mut self, chars: &[Char]) -> (usize, Told)
+        ensures count { result.0 ≡ (telling_front self.old.place chars.now).count }
+        ensures told { result.1 ≡ told_of (telling_front self.old.place chars.now).step.gives }
+        ensures state { self.new ≡ framing_after (telling_front self.old.place chars.now).step }
+
+        ensures within { result.0 ≤ length chars.now }
+        ensures some { 0 < length chars.now → 0 < result.0 }
+    {
+        self.forget();
+        for place in 0..chars.len() {
+            match self.read(chars[place]) {
+                Told::Nothing => {}
+                told => return (place + 1, told),
+            }
+        }
+        (chars.len(), Told::Nothing)
+    }
+
+    /// Takes characters, 1 to 4,096, up to and with the first that gives an event, or all where none does, and answers their
+    /// number and the events: as [`Framer::feed`] of each in order. [`Framer::read_run`] is the same with no packet by value.
+    pub fn feed_run(&mut self, chars: &[Char]) -> (u16, Events)
+        requires least { 1 ≤ length chars.now }
+        requires most { length chars.now ≤ 4096 }
+        ensures count { result.0 ≡ (telling_front self.old.place chars.now).count }
+        ensures exact { result.1 ≡ events_of (telling_front self.old.place chars.now).step.gives }
+        ensures state { self.new ≡ framing_after (telling_front self.old.place chars.now).step }
+
+        ensures gives { listed result.1.first result.1.second
+            ≡ (telling_front self.old.place chars.now).step.gives }
+        ensures paired { IsPaired result.1.first result.1.second }
+    {
+        let (count, told) = self.read_run(chars);
+        (count as u16, self.events(told))
+    }
+
+    /// The packet that the last character ended: its ackID and its bytes with ackID 0, or the cause why its bytes carry none.
+    pub fn ended(&self) -> Result<(u8, &[u8]), Cause>
+        requires { IsSome self.now.ended }
+        ensures event { MatchResult result (λ found. self.now.ended ≡ Some (Event.Pkt found.0 found.1.now))
+            (λ cause. self.now.ended ≡ Some (Event.Bad cause)) }
+        ensures passes { IfOk result (λ found. Passes found.1.now) }
+    {
+        match self.building.carried() {
+            Ok((ack, form)) => Ok((ack, form)),
+            Err(cause) => Err(cause),
+        }
+    }
+
+    /// The events of an outcome, with the packet that ended by value.
+    pub(crate) fn events(&self, told: Told) -> Events
+        ensures { result ≡ events_by told self.now.ended }
+    {
+        let (first, second) = match told {
+            Told::Nothing => (None, None),
+            Told::Ctl(symbol) => (Some(Event::Ctl(symbol)), None),
+            Told::Ends(symbol) => (self.ended_event(), Some(symbol)),
+            Told::Bad(cause) => (Some(Event::Bad(cause)), None),
+        };
+        Events { first, second }
+    }
+
+    /// The event of the packet that the last character ended, if it ended one.
+    fn ended_event(&self) -> Option<Event>
+        ensures { result ≡ self.now.ended }
+    {
+        if !self.ended {
+            return None;
+        }
+        match self.building.carried() {
+            Ok((ack, form)) => Some(Event::Pkt(ack, Packet::from_form(form))),
+            Err(cause) => Some(Event::Bad(cause)),
+        }
+    }
+
+    /// Takes the next character.
+    fn read(&mut self, c: Char) -> Told
+        ensures state { self.new ≡ framing_after (step self.old.place c) }
+        ensures told { result ≡ told_of (step self.old.place c).gives }
+    {
+        self.forget();
         self.take(char_kind(c))
     }
 
+    /// Forgets the packet that the last character ended.
+    fn forget(&mut self)
+        ensures { self.new ≡ framing_at self.old.place }
+    {
+        if self.ended {
+            self.building.clear();
+            self.ended = false;
+        }
+    }
+
     /// Takes a character of this kind.
-    fn take(&mut self, kind: Kind) -> Events
-        ensures place { self.new ≡ (step_by self.old.text self.old.pending kind).place }
-        ensures events { result ≡ events_of (step_by self.old.text self.old.pending kind).gives }
+    fn take(&mut self, kind: Kind) -> Told
+        requires { self.old.ended ≡ None }
+        ensures state { self.new
+            ≡ framing_after (step_by self.old.place.text self.old.place.pending kind) }
+        ensures told { result ≡ told_of (step_by self.old.place.text self.old.place.pending kind).gives }
     {
         match self.pending {
             Pending::Nothing => self.outside(kind),
@@ -125,10 +228,11 @@ impl Framer {
     }
 
     /// A character while no symbol is in progress.
-    fn outside(&mut self, kind: Kind) -> Events
-        requires { self.old.pending ≡ Pending.Nothing }
-        ensures place { self.new ≡ (outside_step self.old.text kind).place }
-        ensures events { result ≡ events_of (outside_step self.old.text kind).gives }
+    fn outside(&mut self, kind: Kind) -> Told
+        requires nothing { self.old.place.pending ≡ Pending.Nothing }
+        requires ended { self.old.ended ≡ None }
+        ensures state { self.new ≡ framing_after (outside_step self.old.place.text kind) }
+        ensures told { result ≡ told_of (outside_step self.old.place.text kind).gives }
     {
         match kind {
             Kind::Opens(delimiter) => self.open(delimiter),
@@ -139,83 +243,91 @@ impl Framer {
     }
 
     /// A delimiter while no symbol is in progress.
-    fn open(&mut self, delimiter: Delimiter) -> Events
-        ensures place { self.new ≡ (outside_step self.old.text (Kind.Opens delimiter)).place }
-        ensures events { result ≡ events_of (outside_step self.old.text (Kind.Opens delimiter)).gives }
+    fn open(&mut self, delimiter: Delimiter) -> Told
+        requires { self.old.ended ≡ None }
+        ensures state { self.new ≡ framing_after (outside_step self.old.place.text (Kind.Opens delimiter)) }
+        ensures told { result ≡ Told.Nothing }
     {
         if let Mode::Skipping = self.mode {
             self.mode = Mode::Outside;
         }
         self.pending = Pending::Opened(delimiter);
-        Events::none()
+        Told::Nothing
     }
 
     /// A data character while no symbol is in progress.
-    fn data(&mut self, byte: u8) -> Events
-        requires { self.old.pending ≡ Pending.Nothing }
-        ensures place { self.new ≡ (outside_step self.old.text (Kind.Byte byte)).place }
-        ensures events { result ≡ events_of (outside_step self.old.text (Kind.Byte byte)).gives }
+    fn data(&mut self, byte: u8) -> Told
+        requires nothing { self.old.place.pending ≡ Pending.Nothing }
+        requires ended { self.old.ended ≡ None }
+        ensures state { self.new ≡ framing_after (outside_step self.old.place.text (Kind.Byte byte)) }
+        ensures told { result ≡ told_of (outside_step self.old.place.text (Kind.Byte byte)).gives }
     {
         match self.mode {
             Mode::Outside => self.skip(Cause::BadChar),
-            Mode::Skipping => Events::none(),
+            Mode::Skipping => Told::Nothing,
             Mode::InPacket => self.add(byte),
         }
     }
 
     /// A data character of a packet.
-    fn add(&mut self, byte: u8) -> Events
-        requires nothing { self.old.pending ≡ Pending.Nothing }
-        requires within { IsWithin self.old.text }
-        ensures place { self.new ≡ (outside_step self.old.text (Kind.Byte byte)).place }
-        ensures events { result ≡ events_of (outside_step self.old.text (Kind.Byte byte)).gives }
+    fn add(&mut self, byte: u8) -> Told
+        requires nothing { self.old.place.pending ≡ Pending.Nothing }
+        requires ended { self.old.ended ≡ None }
+        requires within { IsWithin self.old.place.text }
+        ensures state { self.new ≡ framing_after (outside_step self.old.place.text (Kind.Byte byte)) }
+        ensures told { result ≡ told_of (outside_step self.old.place.text (Kind.Byte byte)).gives }
     {
-        if self.bytes.is_full() {
+        if self.building.is_full() {
             return self.skip(Cause::General);
         }
-        self.bytes.push(byte);
-        Events::none()
+        self.building.push(byte);
+        Told::Nothing
     }
 
     /// An idle character while no symbol is in progress.
-    fn idle(&mut self) -> Events
-        requires { self.old.pending ≡ Pending.Nothing }
-        ensures place { self.new ≡ (outside_step self.old.text Kind.Idle).place }
-        ensures events { result ≡ events_of (outside_step self.old.text Kind.Idle).gives }
+    fn idle(&mut self) -> Told
+        requires nothing { self.old.place.pending ≡ Pending.Nothing }
+        requires ended { self.old.ended ≡ None }
+        ensures state { self.new ≡ framing_after (outside_step self.old.place.text Kind.Idle) }
+        ensures told { result ≡ told_of (outside_step self.old.place.text Kind.Idle).gives }
     {
-        let mode = self.mode;
-        self.mode = Mode::Outside;
-        match mode {
-            Mode::InPacket => Events::bad(Cause::BadChar),
-            Mode::Skipping | Mode::Outside => Events::none(),
+        match self.mode {
+            Mode::InPacket => self.restart(Pending::Nothing),
+            Mode::Skipping | Mode::Outside => {
+                self.mode = Mode::Outside;
+                Told::Nothing
+            }
         }
     }
 
     /// A stray character while no symbol is in progress.
-    fn stray(&mut self) -> Events
-        requires { self.old.pending ≡ Pending.Nothing }
-        ensures place { self.new ≡ (outside_step self.old.text Kind.Stray).place }
-        ensures events { result ≡ events_of (outside_step self.old.text Kind.Stray).gives }
+    fn stray(&mut self) -> Told
+        requires nothing { self.old.place.pending ≡ Pending.Nothing }
+        requires ended { self.old.ended ≡ None }
+        ensures state { self.new ≡ framing_after (outside_step self.old.place.text Kind.Stray) }
+        ensures told { result ≡ told_of (outside_step self.old.place.text Kind.Stray).gives }
     {
         if let Mode::Skipping = self.mode {
-            return Events::none();
+            return Told::Nothing;
         }
         self.skip(Cause::BadChar)
     }
 
     /// A byte of a symbol, which is not whole yet.
-    fn wait(&mut self, pending: Pending) -> Events
-        ensures place { self.new ≡ place_of self.old.text pending }
-        ensures events { result ≡ events_of [] }
+    fn wait(&mut self, pending: Pending) -> Told
+        requires { self.old.ended ≡ None }
+        ensures state { self.new ≡ framing_at (place_of self.old.place.text pending) }
+        ensures told { result ≡ Told.Nothing }
     {
         self.pending = pending;
-        Events::none()
+        Told::Nothing
     }
 
     /// A character, no data, while a symbol is in progress.
-    fn broken(&mut self, kind: Kind) -> Events
-        ensures place { self.new ≡ (broken_step kind).place }
-        ensures events { result ≡ events_of (broken_step kind).gives }
+    fn broken(&mut self, kind: Kind) -> Told
+        requires { self.old.ended ≡ None }
+        ensures state { self.new ≡ framing_after (broken_step kind) }
+        ensures told { result ≡ told_of (broken_step kind).gives }
     {
         match kind {
             Kind::Opens(delimiter) => self.restart(Pending::Opened(delimiter)),
@@ -224,86 +336,68 @@ impl Framer {
         }
     }
 
-    /// Drops the symbol and the packet in progress, since a character broke the symbol off.
-    fn restart(&mut self, pending: Pending) -> Events
-        ensures place { self.new ≡ place_of Plain pending }
-        ensures events { result ≡ events_of (Event.Bad Cause.BadChar ∷ []) }
+    /// Drops the symbol and the packet in progress, since a character broke one of them off.
+    fn restart(&mut self, pending: Pending) -> Told
+        requires { self.old.ended ≡ None }
+        ensures state { self.new ≡ framing_at (place_of Plain pending) }
+        ensures told { result ≡ Told.Bad Cause.BadChar }
     {
         self.mode = Mode::Outside;
         self.pending = pending;
-        Events::bad(Cause::BadChar)
+        Told::Bad(Cause::BadChar)
     }
 
     /// Drops what is in progress, and skips data from now on.
-    fn skip(&mut self, cause: Cause) -> Events
-        ensures place { self.new ≡ place_of Skipped Pending.Nothing }
-        ensures events { result ≡ events_of (Event.Bad cause ∷ []) }
+    fn skip(&mut self, cause: Cause) -> Told
+        requires { self.old.ended ≡ None }
+        ensures state { self.new ≡ framing_at (place_of Skipped Pending.Nothing) }
+        ensures told { result ≡ Told.Bad cause }
     {
         self.mode = Mode::Skipping;
         self.pending = Pending::Nothing;
-        Events::bad(cause)
+        Told::Bad(cause)
     }
 
     /// The delimiter and the three bytes of a symbol.
-    fn finish(&mut self, delimiter: Delimiter, bytes: [u8; 3]) -> Events
-        ensures place { self.new ≡ (finished self.old.text delimiter (spelled_in bytes)).place }
-        ensures events { result ≡ events_of (finished self.old.text delimiter (spelled_in bytes)).gives }
+    fn finish(&mut self, delimiter: Delimiter, bytes: [u8; 3]) -> Told
+        requires { self.old.ended ≡ None }
+        ensures state { self.new ≡ framing_after (finished self.old.place.text delimiter (spelled_in bytes)) }
+        ensures told { result ≡ told_of (finished self.old.place.text delimiter (spelled_in bytes)).gives }
     {
         match from_bytes(&bytes) {
-            Ok(symbol) => {
-                if symbol.may_follow(delimiter) {
-                    self.read(symbol)
-                } else {
-                    self.skip(Cause::General)
-                }
-            }
+            Ok(symbol) if symbol.may_follow(delimiter) => self.meet(symbol),
+            Ok(_) => self.skip(Cause::General),
             Err(_) => self.skip(Cause::BadSymbol),
         }
     }
 
-    /// A symbol that its delimiter allows.
-    fn read(&mut self, symbol: Symbol) -> Events
-        ensures place { self.new ≡ place_of (text_after self.old.text symbol.s1) Pending.Nothing }
-        ensures events { result ≡ events_of (told self.old.text symbol) }
-    {
-        let ended = self.ended_by(symbol.s1);
-        self.go_on(symbol.s1);
-        match ended {
-            Some(event) => Events {
-                first: Some(event),
-                second: Some(symbol),
-            },
-            None => Events {
-                first: Some(Event::Ctl(symbol)),
-                second: None,
-            },
-        }
-    }
-
-    /// The event of the packet in progress, where there is one and a symbol of this stype1 delivers it.
-    fn ended_by(&self, s1: u8) -> Option<Event>
-        ensures { option_to_list result ≡ (if ends_packet s1 then ended_in self.now.text else []) }
-    {
-        match (self.mode, s1) {
-            (Mode::InPacket, stype1::START_OF_PACKET | stype1::END_OF_PACKET) => {
-                Some(packet_event(self.bytes.as_slice()))
-            }
-            _ => None,
-        }
-    }
-
-    /// The text behind a symbol of this stype1.
-    fn go_on(&mut self, s1: u8)
-        ensures { self.new ≡ place_of (text_after self.old.text s1) Pending.Nothing }
+    /// A symbol that may follow its delimiter, by its stype1.
+    fn meet(&mut self, symbol: Symbol) -> Told
+        requires { self.old.ended ≡ None }
+        ensures state { self.new ≡ framing_after (taken self.old.place.text symbol true) }
+        ensures told { result ≡ told_of (told self.old.place.text symbol) }
     {
         self.pending = Pending::Nothing;
-        match s1 {
-            stype1::START_OF_PACKET => {
-                self.bytes.clear();
-                self.mode = Mode::InPacket;
+        match (self.mode, symbol.s1) {
+            (Mode::InPacket, stype1::START_OF_PACKET) => {
+                self.ended = true;
+                Told::Ends(symbol)
             }
-            stype1::STOMP..=stype1::LINK_REQUEST => self.mode = Mode::Outside,
-            _ => {}
+            (Mode::InPacket, stype1::END_OF_PACKET) => {
+                self.ended = true;
+                self.mode = Mode::Outside;
+                Told::Ends(symbol)
+            }
+            (_, stype1::START_OF_PACKET) => {
+                self.building.clear();
+                self.mode = Mode::InPacket;
+                Told::Ctl(symbol)
+            }
+            (_, stype1::STOMP..=stype1::LINK_REQUEST) => {
+                self.mode = Mode::Outside;
+                Told::Ctl(symbol)
+            }
+            _ => Told::Ctl(symbol),
         }
     }
 
@@ -311,13 +405,10 @@ impl Framer {
     pub(crate) fn copy(&self) -> Framer
         ensures { result ≡ self.now }
     {
-        let mut bytes = ArrayVec::new();
-        if bytes.try_extend_from_slice(self.bytes.as_slice()).is_err() {
-            unreachable!();
-        }
         Framer {
             mode: self.mode,
-            bytes,
+            building: self.building.copy(),
+            ended: self.ended,
             pending: self.pending,
         }
     }

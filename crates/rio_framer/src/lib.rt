@@ -3,7 +3,8 @@
 //! Promised: the events of characters are their reading, as `link_model` defines it, however the characters are cut into
 //! pieces; and what is sent for a symbol or a packet is what is read as it. Left out: what a port does with events.
 //!
-//! - [`Framer`] takes characters, one or many at a time; [`Events`] is what one character tells.
+//! - [`Framer`] takes characters, one or a run at a time, where a run goes up to the first character that tells an event.
+//! - [`Events`] is what a character tells, by value; [`Told`] is the same in a few bytes, with the packet lent.
 //! - [`symbol_chars`] and [`packet_chars`] are what is sent.
 //!
 //! Only [`Framer::feed_all`] takes memory.
@@ -16,6 +17,6 @@ mod sending;
 #[cfg(test)]
 mod tests;
 
-pub use events::Events;
+pub use events::{Events, Told};
 pub use framer::Framer;
 pub use sending::{packet_chars, symbol_chars};

@@ -75,6 +75,14 @@ impl Building {
         self.form.is_empty()
     }
 
+    /// Whether no byte more fits, since 276 have come.
+    pub fn is_full(&self) -> bool
+        ensures value { result ≡ (length self.now == 276) }
+        ensures fits { length self.now ≤ 276 }
+    {
+        self.form.is_full()
+    }
+
     /// Takes the next byte.
     pub fn push(&mut self, byte: u8)
         requires { length self.old < 276 }
@@ -151,6 +159,7 @@ impl Building {
         ensures checked { MatchResult result (λ found. checked self.now ≡ Ok (found.0, found.1.now))
             (λ cause. checked self.now ≡ Err cause) }
         ensures passes { IfOk result (λ found. Passes found.1.now) }
+        ensures fits { length self.now ≤ 276 }
     {
         read(self.first, self.form.as_slice(), self.register, self.middle)
     }
