@@ -47,14 +47,14 @@ impl Model for Port {
     ghost Value = { PortState };
 
     ghost view = { λ port. record {
-      place = port.framer;
+      place = port.framer.place;
       output = output_of port.output;
       input = input_of port.input;
       queued = port.queued;
       received = port.received;
     } };
 
-    ghost invariant = { λ port. Covers (prios_of (output_of port.output)) port.queued × IsBounded port.framer.text };
+    ghost invariant = { λ port. Covers (prios_of (output_of port.output)) port.queued × IsBounded port.framer.place.text };
 }
 
 impl Port {

@@ -1,9 +1,10 @@
-use Rattle.std.proofs.Common.{sym, ◌∙◌}
+use Rattle.std.proofs.Common.{sym, ap, ◌∙◌}
+use Rattle.rio_framer.specs.Framing.{Framing}
 use Rattle.rio_cli.proofs.DecodeLaws.{Going-begin, Going-more, Going-front, Going-rose, Going-end, Puts-whole, Puts-front}
 use Rattle.rio_cli.proofs.decode.decode_chars.Goals as goal
 
 pub loop-place-init : goal.loop-place-init
-loop-place-init g c = Going-begin c.args.chars.now _ _ _ _ c.new-framer.ensures c.in-Ok.ensures
+loop-place-init g c = Going-begin c.args.chars.now _ _ _ _ (ap (λ (f : Framing). f.place) c.new-framer.ensures) c.in-Ok.ensures
 
 pub returns-then-failed-clause-write_fault : goal.returns-then-failed-clause-write_fault
 returns-then-failed-clause-write_fault g c = λ e.

@@ -9,7 +9,7 @@ use Rattle.link_port.proofs.port.Port.turn.Goals as goal
 
 -- what contracts see of the fields
 abbrev seen : Inside → PortState
-seen p = record { place = p.framer; output = output_of p.output; input = input_of p.input; queued = p.queued; received = p.received }
+seen p = record { place = p.framer.place; output = output_of p.output; input = input_of p.input; queued = p.queued; received = p.received }
 
 pub invariant_of-self : goal.invariant_of-self
 invariant_of-self c =
