@@ -10,4 +10,6 @@ pub mod FieldLaws
 pub mod CarriesLaws
 pub mod BuildingLaws
 pub mod CheckedLaws
+pub mod TableLaws
+pub mod LinearLaws
 pub mod LowerLaws

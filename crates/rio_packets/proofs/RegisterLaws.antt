@@ -14,11 +14,11 @@ use Rattle.rio_packets.specs.Crc16.{crc16_divisor, crc16_of}
 use Rattle.rio_packets.specs.Register.{shifted, shifted_times, fed, fed_all, running}
 use Rattle.rio_packets.specs.LinkForm.{AreBytes}
 
-shifted_low : (r : ℕ) → r < 0x8000 → shifted r ≡ r * 2
+pub shifted_low : (r : ℕ) → r < 0x8000 → shifted r ≡ r * 2
 unfolding shifted
 shifted_low r h = rw (lt-ltb r 0x8000 h) refl
 
-shifted_high : (r : ℕ) → 0x8000 ≤ r → r < 0x10000 → shifted r ≡ bit_xor ((r - 0x8000) * 2) 0x1021
+pub shifted_high : (r : ℕ) → 0x8000 ≤ r → r < 0x10000 → shifted r ≡ bit_xor ((r - 0x8000) * 2) 0x1021
 unfolding shifted
 shifted_high r low high =
     let doubled : r * 2 % 0x10000 ≡ (r - 0x8000) * 2 = omega arith in

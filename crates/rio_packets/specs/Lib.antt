@@ -4,6 +4,7 @@ pub mod LinkForm
 pub mod Making
 pub mod Fields
 pub mod Carries
+pub mod Tables
 pub mod Building
 pub mod CauseNumbers
 pub mod Hops

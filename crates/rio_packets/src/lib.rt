@@ -19,6 +19,7 @@ mod laws;
 mod making;
 mod packet;
 mod receive;
+mod tables;
 
 pub use building::Building;
 pub use cause::{Cause, cause_number};
@@ -26,6 +27,7 @@ pub use laws::{body_has_one_form, carried_is_exact, lowered_is_one, register_tel
 pub use making::{BadLength, Header, build};
 pub use packet::{MAX_BYTES, Packet};
 pub use receive::check;
+pub use tables::CRC16_TABLE;
 
 #[cfg(test)]
 mod tests;

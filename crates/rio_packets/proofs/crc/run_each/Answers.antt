@@ -1,7 +1,7 @@
 use Rattle.std.proofs.Common.{ap, ◌∙◌, sym, arith}
 use Rattle.std.proofs.lemmas.List.{drop_more, drop_all}
 use Rattle.rio_packets.specs.Register.{fed_all}
-use Rattle.rio_packets.proofs.crc.run.Goals as goal
+use Rattle.rio_packets.proofs.crc.run_each.Goals as goal
 
 pub loop-byte-preserved : goal.loop-byte-preserved
 loop-byte-preserved c =

@@ -1,0 +1,7 @@
+use Rattle.std.proofs.Common.{get_or, ap, ◌∙◌, arith}
+use Rattle.rio_packets.specs.declared.tables.TheConstants.{AFTER_TWO_ZEROS}
+use Rattle.rio_packets.proofs.TableLaws.{entry_two}
+use Rattle.rio_packets.proofs.crc.after_two_zeros.Goals as goal
+
+pub returns : goal.returns
+returns c = ap (λ n. get_or AFTER_TWO_ZEROS n 0) c.from.ensures ∙ entry_two c.args.byte (omega arith)
