@@ -17,10 +17,11 @@ use Rattle.rio_packets.proofs.CarriesLaws.{Carries-with_ack, carried-from_Carrie
 use Rattle.link_model.specs.declared.event.Event.{Event}
 use Rattle.link_model.specs.declared.event.Event.TheVariants.{Ctl, Pkt}
 use Rattle.link_model.specs.declared.reading_kinds.Kind.TheVariants.{Byte, Opens}
-use Rattle.link_model.specs.declared.reading_kinds.Pending.TheVariants.{Nothing}
+use Rattle.link_model.specs.declared.reading_kinds.Pending.{Pending}
+use Rattle.link_model.specs.declared.reading_kinds.Pending.TheVariants.{Nothing, Opened, One, Two}
 use Rattle.link_model.specs.Events.{packet_event, packet_or_cause}
-use Rattle.link_model.specs.Places.{Place, place, added, taken, finished, start, run, place_after}
-use Rattle.link_model.specs.Reading.{Text, Within, IsOpen, IsWhole, text_after, ends_packet, ended, told, placed}
+use Rattle.link_model.specs.Places.{Place, Step, place, opened, broken_off, begins_in, added, taken, finished, start, step_by, step, run, place_after}
+use Rattle.link_model.specs.Reading.{Text, Plain, Skipped, Within, IsOpen, IsWhole, text_after, ends_packet, ended, told, placed}
 use Rattle.link_model.specs.ReadingKinds.{kind}
 use Rattle.link_model.specs.ReadingSpelt.{delimiter_char, data_chars, symbol_chars_of, bytes_with_ack, packet_chars_of}
 use Rattle.link_model.proofs.ReadingSteps.{course, follow_to, course_step, course_whole, below}
@@ -159,3 +160,82 @@ place_after-packet t first ack packet last may in_first starts few passes in_las
     ap (place_after (place t Nothing)) (sym (append-nil (packet_chars_of first ack packet last)))
     ∙ ap (λ (r : List (ℕ × Event) × Place). r.1)
     (packet_course t 0 (0 + 7 + length packet) first ack packet last [] may in_first starts few passes in_last ends refl)
+
+-- ---- from any place
+
+opened_twice : (t : Text) → opened (opened t) ≡ opened t
+opened_twice Plain = refl
+opened_twice Skipped = refl
+opened_twice (Within bytes) = refl
+
+begins_opened : (t : Text) (p : Pending) → opened (begins_in t p) ≡ begins_in t p
+begins_opened t Nothing = opened_twice t
+begins_opened t (Opened d) = refl
+begins_opened t (One d x) = refl
+begins_opened t (Two d x y) = refl
+
+pub begins_open : (t : Text) (p : Pending) → IsOpen (begins_in t p)
+begins_open Plain Nothing = tt
+begins_open Skipped Nothing = tt
+begins_open (Within bytes) Nothing = tt
+begins_open t (Opened d) = tt
+begins_open t (One d x) = tt
+begins_open t (Two d x y) = tt
+
+-- a delimiter breaks off a symbol in progress, and begins one
+delimiter-step : (t : Text) (p : Pending) (d : Delimiter)
+    → step (place t p) (delimiter_char d) ≡ record { place = place (begins_in t p) (Opened d); gives = broken_off p }
+delimiter-step t Nothing d = ap (step_by t Nothing) (kind-delimiter d)
+delimiter-step t (Opened e) d = ap (step_by t (Opened e)) (kind-delimiter d)
+delimiter-step t (One e x) d = ap (step_by t (One e x)) (kind-delimiter d)
+delimiter-step t (Two e x y) d = ap (step_by t (Two e x y)) (kind-delimiter d)
+
+run-delimited : (t : Text) (p : Pending) (at : ℕ) (d : Delimiter) (cs : List Char)
+    → run (place t p) at (delimiter_char d ∷ cs) ≡ placed at (broken_off p) ++ run (place (begins_in t p) Nothing) at (delimiter_char d ∷ cs)
+unfolding run
+run-delimited t p at d cs =
+    ap (λ (s : Step). placed at s.gives ++ run s.place (suc at) cs) (delimiter-step t p d)
+    ∙ ap (λ (u : Text). placed at (broken_off p) ++ run (place u (Opened d)) (suc at) cs) (sym (begins_opened t p))
+    ∙ ap (λ (s : Step). placed at (broken_off p) ++ (placed at s.gives ++ run s.place (suc at) cs)) (sym (delimiter-step (begins_in t p) Nothing d))
+
+place_after-delimited : (t : Text) (p : Pending) (d : Delimiter) (cs : List Char)
+    → place_after (place t p) (delimiter_char d ∷ cs) ≡ place_after (place (begins_in t p) Nothing) (delimiter_char d ∷ cs)
+unfolding place_after
+place_after-delimited t p d cs =
+    ap (λ (s : Step). place_after s.place cs) (delimiter-step t p d)
+    ∙ ap (λ (u : Text). place_after (place u (Opened d)) cs) (sym (begins_opened t p))
+    ∙ ap (λ (s : Step). place_after s.place cs) (sym (delimiter-step (begins_in t p) Nothing d))
+
+pub run-symbol_anywhere : (t : Text) (p : Pending) (at : ℕ) (s : Fields) → InRange s
+    → run (place t p) at (symbol_chars_of s) ≡ placed at (broken_off p) ++ placed (at + 3) (told (begins_in t p) s)
+unfolding symbol_chars_of
+run-symbol_anywhere t p at s range =
+    run-delimited t p at (delimiter_of s) (data_chars (symbol_bytes s))
+    ∙ ap (λ (es : List (ℕ × Event)). placed at (broken_off p) ++ es) (run-symbol (begins_in t p) at s (begins_open t p) range)
+
+pub place_after-symbol_anywhere : (t : Text) (p : Pending) (s : Fields) → InRange s
+    → place_after (place t p) (symbol_chars_of s) ≡ place (text_after (begins_in t p) s.s1) Nothing
+unfolding symbol_chars_of
+place_after-symbol_anywhere t p s range =
+    place_after-delimited t p (delimiter_of s) (data_chars (symbol_bytes s))
+    ∙ place_after-symbol (begins_in t p) s (begins_open t p) range
+
+pub run-packet_anywhere : (t : Text) (p : Pending) (at n : ℕ) (first : Fields) (ack : ℕ) (packet : List ℕ) (last : Fields)
+    → InRange first → first.s1 ≡ 0 → ack < 32 → Passes packet → InRange last → last.s1 ≡ 2 → n ≡ at + 7 + length packet
+    → run (place t p) at (packet_chars_of first ack packet last)
+    ≡ placed at (broken_off p) ++ (placed (at + 3) (told (begins_in t p) first) ++ (n, Pkt ack packet) ∷ (n, Ctl last) ∷ [])
+unfolding packet_chars_of symbol_chars_of
+run-packet_anywhere t p at n first ack packet last in_first starts few passes in_last ends e =
+    run-delimited t p at (delimiter_of first)
+    (data_chars (symbol_bytes first) ++ (data_chars (bytes_with_ack ack packet) ++ symbol_chars_of last))
+    ∙ ap (λ (es : List (ℕ × Event)). placed at (broken_off p) ++ es)
+    (run-packet (begins_in t p) at n first ack packet last (begins_open t p) in_first starts few passes in_last ends e)
+
+pub place_after-packet_anywhere : (t : Text) (p : Pending) (first : Fields) (ack : ℕ) (packet : List ℕ) (last : Fields)
+    → InRange first → first.s1 ≡ 0 → ack < 32 → Passes packet → InRange last → last.s1 ≡ 2
+    → place_after (place t p) (packet_chars_of first ack packet last) ≡ start
+unfolding packet_chars_of symbol_chars_of
+place_after-packet_anywhere t p first ack packet last in_first starts few passes in_last ends =
+    place_after-delimited t p (delimiter_of first)
+    (data_chars (symbol_bytes first) ++ (data_chars (bytes_with_ack ack packet) ++ symbol_chars_of last))
+    ∙ place_after-packet (begins_in t p) first ack packet last (begins_open t p) in_first starts few passes in_last ends

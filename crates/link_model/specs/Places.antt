@@ -52,6 +52,20 @@ abbrev pub added : List ℕ → ℕ → Bool → Step
 added bytes byte true = goes (Within (bytes ++ byte ∷ [])) Nothing
 added bytes byte false = fails Skipped Nothing General
 
+-- the event of a symbol in progress that a delimiter breaks off
+abbrev pub broken_off : Pending → List Event
+broken_off Nothing = []
+broken_off (Opened d) = Bad BadChar ∷ []
+broken_off (One d x) = Bad BadChar ∷ []
+broken_off (Two d x y) = Bad BadChar ∷ []
+
+-- the text in which a symbol begins, where another may be in progress: a delimiter that breaks one off ends a packet
+abbrev pub begins_in : Text → Pending → Text
+begins_in text Nothing = opened text
+begins_in text (Opened d) = Plain
+begins_in text (One d x) = Plain
+begins_in text (Two d x y) = Plain
+
 -- a character while no symbol is in progress
 abbrev pub outside : Text → Kind → Step
 outside text (Opens d) = goes (opened text) (Opened d)

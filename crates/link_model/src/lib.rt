@@ -27,6 +27,7 @@ pub use reading_kinds::{Kind, Pending, char_kind};
 pub use reading_laws::{
     event_laws, events_go_by_fronts, one_character_tells_at_most_two, one_reading,
     packet_in_progress_is_bounded, reading_in_pieces, spelling_is_read,
+    spelling_is_read_from_any_place,
 };
 pub use symbols::{
     PortStatus, end_of_packet, link_request, link_response, packet_accepted, packet_not_accepted,

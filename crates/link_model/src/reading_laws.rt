@@ -10,7 +10,7 @@ ghost use Rattle.link_model.specs.declared.reading_kinds.Pending.{Pending};
 ghost use Rattle.rio_packets.specs.declared.cause.Cause.TheVariants.{BadPacket, General};
 ghost use Rattle.link_model.specs.Events.{same_event, packet_event, checked_event};
 ghost use Rattle.link_model.specs.Reading.{Text, IsOpen, text_after, told, placed, IsReading, IsCut};
-ghost use Rattle.link_model.specs.Places.{Place, place, start, step, run, place_after, at_rest, AreGiven, IsBounded};
+ghost use Rattle.link_model.specs.Places.{Place, place, start, broken_off, begins_in, step, run, place_after, at_rest, AreGiven, IsBounded};
 ghost use Rattle.link_model.specs.Fronts.{telling_front};
 ghost use Rattle.link_model.specs.ReadingSpelt.{symbol_chars_of, bytes_with_ack, packet_chars_of};
 
@@ -64,6 +64,29 @@ pub fn spelling_is_read()
     ensures after_packet { (text : Text) (first : Fields) (ack : ℕ) (packet : List ℕ) (last : Fields) → IsOpen text
         → InRange first → first.s1 ≡ START_OF_PACKET → ack < 32 → Passes packet → InRange last → last.s1 ≡ 2
         → place_after (place text Pending.Nothing) (packet_chars_of first ack packet last) ≡ start }
+{}
+
+/// From any place, also where a symbol or a packet is in progress or data is skipped, what is sent for a symbol is read as
+/// it, and what is sent for a packet as its start symbol, the packet and its end symbol. What was in progress breaks off: a
+/// symbol with an event of its own, and a packet with that symbol, or else by what the new symbol does to it.
+pub fn spelling_is_read_from_any_place()
+    ensures symbol { (text : Text) (pending : Pending) (at : ℕ) (s : Fields) → InRange s
+        → run (place text pending) at (symbol_chars_of s)
+        ≡ placed at (broken_off pending) ++ placed (at + 3) (told (begins_in text pending) s) }
+    ensures after_symbol { (text : Text) (pending : Pending) (s : Fields) → InRange s
+        → place_after (place text pending) (symbol_chars_of s)
+        ≡ place (text_after (begins_in text pending) s.s1) Pending.Nothing }
+
+    ensures packet { (text : Text) (pending : Pending) (at n : ℕ) (first : Fields) (ack : ℕ)
+        (packet : List ℕ) (last : Fields) → InRange first → first.s1 ≡ START_OF_PACKET → ack < 32
+        → Passes packet → InRange last → last.s1 ≡ END_OF_PACKET → n ≡ at + 7 + length packet
+        → run (place text pending) at (packet_chars_of first ack packet last)
+        ≡ placed at (broken_off pending) ++ (placed (at + 3) (told (begins_in text pending) first)
+        ++ (n, Event.Pkt ack packet) ∷ (n, Event.Ctl last) ∷ []) }
+    ensures after_packet { (text : Text) (pending : Pending) (first : Fields) (ack : ℕ)
+        (packet : List ℕ) (last : Fields) → InRange first → first.s1 ≡ START_OF_PACKET → ack < 32
+        → Passes packet → InRange last → last.s1 ≡ END_OF_PACKET
+        → place_after (place text pending) (packet_chars_of first ack packet last) ≡ start }
 {}
 
 /// Two events are the same exactly where the test of events says so; and the event of a packet's bytes is the packet that
