@@ -5,7 +5,8 @@ use Rattle.std.proofs.lemmas.Bool.{lt-ltb, le-ltb}
 use Rattle.rio_packets.specs.LinkForm.{LinkForm}
 use Rattle.rio_packets.proofs.FieldLaws.{is_request-link_form}
 use Rattle.rio_packets.specs.Fields.{prio_of, is_request, body_of}
-use Rattle.rio_chars.specs.Telling.{Pending, Puts}
+use Rattle.rio_chars.specs.Written.{Writes}
+use Rattle.rio_chars.specs.declared.outbox.Outbox.{Outbox}
 use Rattle.link_buffers.specs.Queues.{list_at, appended, popped, Buffered}
 use Rattle.fabric_model.specs.declared.lines.PortRef.{PortRef}
 use Rattle.fabric_model.specs.Network.{Item, Registers, Network, port_of, room_out, base_of, link_in}
@@ -30,15 +31,15 @@ use Rattle.fabric_replay.specs.Showing.{ShowsPort, ShowsEnds}
 use Rattle.fabric_replay.specs.Passing.{Passed}
 use Rattle.fabric_replay.specs.Showing.{AreEnds}
 use Rattle.fabric_replay.specs.Forms.{IsEventForm}
-use Rattle.fabric_replay.proofs.PassingLaws.{Puts-lines}
+use Rattle.fabric_replay.proofs.PassingLaws.{Writes-lines}
 use Rattle.fabric_replay.specs.Events.{pair_links, pair_registers, ShowsFabric, Evented}
 use Rattle.fabric_replay.proofs.ShowingLaws.{ShowsLanes-appended, ShowsLanes-popped, ShowsLanes-elsewhere}
 use Rattle.fabric_replay.proofs.TurnLaws.{first_packet-shows, next_packet-shows, next_of-head, holds_of_first}
 use Rattle.fabric_replay.proofs.PassLaws.{lane_length, AsksNothing-appended, AsksNothing-popped}
 
 -- one line's text
-pub Puts-line : (names : List (List ℕ)) (line : TraceLine) {w w' : Option (List ℕ)} {f f2 : ℕ} {b b2 : Pending} → Puts w f b w' f2 b2 (trace_line_text names line) → Puts w f b w' f2 b2 (trace_text names (line ∷ []))
-Puts-line names line {w} {w'} {f} {f2} {b} {b2} h = subst (Puts w f b w' f2 b2) (sym (append-nil (trace_line_text names line))) h
+pub Writes-line : (names : List (List ℕ)) (line : TraceLine) {K : Type 0} {written : K → Option (List ℕ)} {faults : K → ℕ} {b b2 : Outbox K} → Writes written faults b b2 (trace_line_text names line) → Writes written faults b b2 (trace_text names (line ∷ []))
+Writes-line names line {K} {written} {faults} {b} {b2} h = subst (Writes written faults b b2) (sym (append-nil (trace_line_text names line))) h
 
 room_out-shows : (waiting : List (List (List ℕ))) (received : Buffered) (net : Network) (p : PortRef) (prio : ℕ) → prio < 4 → ShowsPort waiting received net p → room_out net p prio ≡ nat_lt (length (list_at waiting prio)) 16
 room_out-shows waiting received net p prio few shows =
@@ -51,13 +52,13 @@ is_endpoint net n known some = subst (λ registers. IsSome (slice_get registers 
 not_below : (a b : ℕ) → ¬ (a < b) → b ≤ a
 not_below a b h = omega arith
 
-module _ (names : List (List ℕ)) (w : Option (List ℕ)) (f : ℕ) (b : Pending) (w' : Option (List ℕ)) (f2 : ℕ) (b2 : Pending) (s : Seen) (old : Fabric) (new new_there : Queues) where
+module _ (names : List (List ℕ)) {K : Type 0} (written : K → Option (List ℕ)) (faults : K → ℕ) (b b2 : Outbox K) (s : Seen) (old : Fabric) (new new_there : Queues) where
   abbrev Did : (List TraceLine → Type 0) → Type 0
-  Did Is = Passed Is names w f b w' f2 b2 (port_of 0) (port_of 1) pair_links pair_registers s new new_there
+  Did Is = Passed Is names written faults b b2 (port_of 0) (port_of 1) pair_links pair_registers s new new_there
 
   -- an endpoint takes a packet
   pub Does-take : (packet : List ℕ) → prio_of packet < 4 → is_request packet ≡ false → ShowsFabric old s.network → length (list_at old.a.waiting (prio_of packet)) < 16
-      → Puts w f b w' f2 b2 (trace_line_text names (Stepped (AtNode (Take 0 packet))))
+      → Writes written faults b b2 (trace_line_text names (Stepped (AtNode (Take 0 packet))))
       → new.waiting ≡ appended old.a.waiting (prio_of packet) packet → new.received ≡ old.a.received → new_there ≡ old.b
       → Did (λ block. block ≡ sends s 0 packet)
   Does-take packet few plain shows room printed put kept rest =
@@ -86,7 +87,7 @@ module _ (names : List (List ℕ)) (w : Option (List ℕ)) (f : ℕ) (b : Pendin
       } in
       record {
         block = Stepped (AtNode (Take 0 packet)) ∷ [];
-        prints = Puts-line names (Stepped (AtNode (Take 0 packet))) printed;
+        prints = Writes-line names (Stepped (AtNode (Take 0 packet))) printed;
         legal = ((is_endpoint s.network 0 shows.known refl, may), refl);
         all = ap (λ t. cond t (Stepped (AtNode (Take 0 packet)) ∷ []) (Lacked Full ∷ [])) (sym may);
         shows = rw (put, kept, rest) moved;
@@ -94,13 +95,13 @@ module _ (names : List (List ℕ)) (w : Option (List ℕ)) (f : ℕ) (b : Pendin
 
   -- there is no room for it
   pub Does-full : (packet : List ℕ) → prio_of packet < 4 → ShowsFabric old s.network → ¬ (length (list_at old.a.waiting (prio_of packet)) < 16)
-      → Puts w f b w' f2 b2 (trace_line_text names (Lacked Full)) → new ≡ old.a → new_there ≡ old.b
+      → Writes written faults b b2 (trace_line_text names (Lacked Full)) → new ≡ old.a → new_there ≡ old.b
       → Did (λ block. block ≡ sends s 0 packet)
   Does-full packet few shows none printed rest rest_there =
       let not_now : room_out s.network (port_of 0) (prio_of packet) ≡ false = room_out-shows old.a.waiting old.a.received s.network (port_of 0) (prio_of packet) few shows.here ∙ le-ltb _ _ (not_below (length (list_at old.a.waiting (prio_of packet))) 16 none) in
       record {
         block = Lacked Full ∷ [];
-        prints = Puts-line names (Lacked Full) printed;
+        prints = Writes-line names (Lacked Full) printed;
         legal = refl;
         all = ap (λ t. cond t (Stepped (AtNode (Take 0 packet)) ∷ []) (Lacked Full ∷ [])) (sym not_now);
         shows = rw (rest, rest_there) shows;
@@ -111,7 +112,7 @@ module _ (names : List (List ℕ)) (w : Option (List ℕ)) (f : ℕ) (b : Pendin
 
   -- a packet leaves
   pub Does-leave : (packet : List ℕ) → ShowsFabric old s.network → next_of old.b.received.lists ≡ Some packet
-      → Puts w f b w' f2 b2 (trace_line_text names (Stepped (AtNode (Leave 1 packet))))
+      → Writes written faults b b2 (trace_line_text names (Stepped (AtNode (Leave 1 packet))))
       → new_there.received ≡ record old.b.received { lists = popped old.b.received.lists (prio_of packet) } → new_there.waiting ≡ old.b.waiting → new ≡ old.a
       → Did (λ block. block ≡ collects s 1)
   Does-leave packet shows next printed popped_is kept rest =
@@ -140,7 +141,7 @@ module _ (names : List (List ℕ)) (w : Option (List ℕ)) (f : ℕ) (b : Pendin
       } in
       record {
         block = Stepped (AtNode (Leave 1 packet)) ∷ [];
-        prints = Puts-line names (Stepped (AtNode (Leave 1 packet))) printed;
+        prints = Writes-line names (Stepped (AtNode (Leave 1 packet))) printed;
         legal = ((is_endpoint s.network 1 shows.known refl, first_packet-shows old.b.received.lists (s.network.received (port_of 1)) (prio_of packet) head.few shows.there.holds ∙ head.first, plain), refl);
         all = sym (collects-is shows ∙ ap (leaves 1) next);
         shows = rw (popped_is, kept, rest) moved;
@@ -148,23 +149,23 @@ module _ (names : List (List ℕ)) (w : Option (List ℕ)) (f : ℕ) (b : Pendin
 
   -- nothing is held
   pub Does-empty : ShowsFabric old s.network → next_of old.b.received.lists ≡ None
-      → Puts w f b w' f2 b2 (trace_line_text names (Lacked Empty)) → new_there.received ≡ old.b.received → new_there.waiting ≡ old.b.waiting → new ≡ old.a
+      → Writes written faults b b2 (trace_line_text names (Lacked Empty)) → new_there.received ≡ old.b.received → new_there.waiting ≡ old.b.waiting → new ≡ old.a
       → Did (λ block. block ≡ collects s 1)
   Does-empty shows next printed kept kept_too rest = record {
     block = Lacked Empty ∷ [];
-    prints = Puts-line names (Lacked Empty) printed;
+    prints = Writes-line names (Lacked Empty) printed;
     legal = refl;
     all = sym (collects-is shows ∙ ap (leaves 1) next);
     shows = rw (kept, kept_too, rest) shows;
   }
 
 -- the line that an event begins with, and its block
-pub Evented-of : (line : Line) (names : List (List ℕ)) (s : Seen) (fabric : Fabric) (Is : List TraceLine → Type 0) {w w' w'' : Option (List ℕ)} {f f2 f3 : ℕ} {b b2 b3 : Pending}
-    → Puts w f b w' f2 b2 (trace_line_text names (Begun line)) → Passed Is names w' f2 b2 w'' f3 b3 (port_of 0) (port_of 1) pair_links pair_registers s fabric.a fabric.b
-    → ((block : List TraceLine) → Is block → IsBlock s line block) → Evented line names w f b w'' f3 b3 s fabric
+pub Evented-of : (line : Line) (names : List (List ℕ)) (s : Seen) (fabric : Fabric) (Is : List TraceLine → Type 0) {K : Type 0} {written : K → Option (List ℕ)} {faults : K → ℕ} {b b2 b3 : Outbox K}
+    → Writes written faults b b2 (trace_line_text names (Begun line)) → Passed Is names written faults b2 b3 (port_of 0) (port_of 1) pair_links pair_registers s fabric.a fabric.b
+    → ((block : List TraceLine) → Is block → IsBlock s line block) → Evented line names written faults b b3 s fabric
 Evented-of line names s fabric Is begun done is = record {
   block = done.block;
-  prints = Puts-lines names (Begun line ∷ []) done.block (Puts-line names (Begun line) begun) done.prints;
+  prints = Writes-lines names (Begun line ∷ []) done.block (Writes-line names (Begun line) begun) done.prints;
   legal = done.legal;
   is = is done.block done.all;
   shows = done.shows;
@@ -185,15 +186,15 @@ block-send s line node prio ftype dest hex packet e form known made block is =
     rw (e, zero_is, first_base s.network known) (packet, made, is)
 
 -- both ways over the one link
-pub both_ways : (s : Seen) (names : List (List ℕ)) (a b2 b3 a3 : Queues) (from to : Queues) {w w' w'' : Option (List ℕ)} {f f2 f3 : ℕ} {x x2 x3 : Pending}
+pub both_ways : (s : Seen) (names : List (List ℕ)) (a b2 b3 a3 : Queues) (from to : Queues) {K : Type 0} {written : K → Option (List ℕ)} {faults : K → ℕ} {x x2 x3 : Outbox K}
     → ((links : List (PortRef × PortRef)) (registers : List Registers) (s : Seen) → AreEnds (port_of 0) (port_of 1) links
     → ShowsEnds from.waiting from.received (port_of 0) to.waiting to.received (port_of 1) links registers s.network
-    → Passed (PassesAll (port_of 0) (port_of 1) s) names w f x w' f2 x2 (port_of 0) (port_of 1) links registers s a b2)
+    → Passed (PassesAll (port_of 0) (port_of 1) s) names written faults x x2 (port_of 0) (port_of 1) links registers s a b2)
     → ((links : List (PortRef × PortRef)) (registers : List Registers) (s : Seen) → AreEnds (port_of 1) (port_of 0) links
     → ShowsEnds b2.waiting b2.received (port_of 1) a.waiting a.received (port_of 0) links registers s.network
-    → Passed (PassesAll (port_of 1) (port_of 0) s) names w' f2 x2 w'' f3 x3 (port_of 1) (port_of 0) links registers s b3 a3)
+    → Passed (PassesAll (port_of 1) (port_of 0) s) names written faults x2 x3 (port_of 1) (port_of 0) links registers s b3 a3)
     → ShowsEnds from.waiting from.received (port_of 0) to.waiting to.received (port_of 1) pair_links pair_registers s.network
-    → Passed (IsSettle s (port_of 0)) names w f x w'' f3 x3 (port_of 0) (port_of 1) pair_links pair_registers s a3 b3
+    → Passed (IsSettle s (port_of 0)) names written faults x x3 (port_of 0) (port_of 1) pair_links pair_registers s a3 b3
 both_ways s names a b2 b3 a3 from to there back shows =
     let first = there pair_links pair_registers s (record { apart = refl; apart_too = refl; peer = refl }) shows in
     let mid : Seen = seen s first.block in
@@ -202,7 +203,7 @@ both_ways s names a b2 b3 a3 from to there back shows =
     let joined : seen s (first.block ++ second.block) ≡ seen mid second.block = seen-append s first.block second.block in
     record {
       block = first.block ++ second.block;
-      prints = Puts-lines names first.block second.block first.prints second.prints;
+      prints = Writes-lines names first.block second.block first.prints second.prints;
       legal = subst (λ steps. LegalFrom s.network steps (seen s (first.block ++ second.block)).network) (sym (steps_of-append first.block second.block))
           (subst (λ t. LegalFrom s.network (steps_of first.block ++ steps_of second.block) t.network) (sym joined)
           (legal_joined s.network (steps_of first.block) (steps_of second.block) mid.network _ first.legal second.legal));

@@ -3,8 +3,9 @@ use Rattle.std.proofs.Common.{◌≡◌, ℕ, ◌<◌, true, false, List, [], �
 use Rattle.std.specs.Prelude.{slice_get}
 use Rattle.std.proofs.lemmas.List.Concat.{flat_map-append}
 use Rattle.rio_packets.specs.Fields.{prio_of}
-use Rattle.rio_chars.specs.Telling.{Pending, Puts}
-use Rattle.rio_chars.proofs.TellingLaws.{Puts-nil, Puts-trans}
+use Rattle.rio_chars.specs.Written.{Writes}
+use Rattle.rio_chars.specs.declared.outbox.Outbox.{Outbox}
+use Rattle.rio_chars.proofs.WrittenLaws.{Writes-nil, Writes-then}
 use Rattle.link_buffers.specs.Queues.{list_at, appended, popped, packet_count}
 use Rattle.link_buffers.proofs.QueueLemmas.{packet_count-popped}
 use Rattle.fabric_model.specs.declared.lines.PortRef.{PortRef}
@@ -25,25 +26,25 @@ use Rattle.fabric_replay.proofs.TurnLaws.{next_packet-shows}
 use Rattle.fabric_replay.proofs.PassLaws.{Passing, Passing-legal, Passing-shows, can_pass-shows}
 
 -- the lines of a hold and a free
-pub Puts-pass : (names : List (List ℕ)) (p q : PortRef) (packet : List ℕ) {w w' w'' : Option (List ℕ)} {f f2 f3 : ℕ} {b b2 b3 : Pending}
-    → Puts w f b w' f2 b2 (trace_line_text names (Stepped (Linked (Hold q packet)))) → Puts w' f2 b2 w'' f3 b3 (trace_line_text names (Stepped (Linked (Free p packet))))
-    → Puts w f b w'' f3 b3 (trace_text names (passes p q (Some packet)))
-Puts-pass names p q packet {w} {w'} {w''} {f} {f2} {f3} {b} {b2} {b3} hold free =
-    subst (λ text. Puts w f b w'' f3 b3 (trace_line_text names (Stepped (Linked (Hold q packet))) ++ text)) (sym (append-nil (trace_line_text names (Stepped (Linked (Free p packet))))))
-    (Puts-trans w f b w' f2 b2 w'' f3 b3 _ _ hold free)
+pub Writes-pass : (names : List (List ℕ)) (p q : PortRef) (packet : List ℕ) {K : Type 0} {written : K → Option (List ℕ)} {faults : K → ℕ} {b b2 b3 : Outbox K}
+    → Writes written faults b b2 (trace_line_text names (Stepped (Linked (Hold q packet)))) → Writes written faults b2 b3 (trace_line_text names (Stepped (Linked (Free p packet))))
+    → Writes written faults b b3 (trace_text names (passes p q (Some packet)))
+Writes-pass names p q packet {K} {written} {faults} {b} {b2} {b3} hold free =
+    subst (λ text. Writes written faults b b3 (trace_line_text names (Stepped (Linked (Hold q packet))) ++ text)) (sym (append-nil (trace_line_text names (Stepped (Linked (Free p packet))))))
+    (Writes-then _ _ hold free)
 
 -- text behind text
-pub Puts-lines : (names : List (List ℕ)) (front more : List TraceLine) {w w' w'' : Option (List ℕ)} {f f2 f3 : ℕ} {b b2 b3 : Pending}
-    → Puts w f b w' f2 b2 (trace_text names front) → Puts w' f2 b2 w'' f3 b3 (trace_text names more) → Puts w f b w'' f3 b3 (trace_text names (front ++ more))
-Puts-lines names front more {w} {w'} {w''} {f} {f2} {f3} {b} {b2} {b3} first second =
-    subst (Puts w f b w'' f3 b3) (sym (flat_map-append (trace_line_text names) front more)) (Puts-trans w f b w' f2 b2 w'' f3 b3 _ _ first second)
+pub Writes-lines : (names : List (List ℕ)) (front more : List TraceLine) {K : Type 0} {written : K → Option (List ℕ)} {faults : K → ℕ} {b b2 b3 : Outbox K}
+    → Writes written faults b b2 (trace_text names front) → Writes written faults b2 b3 (trace_text names more) → Writes written faults b b3 (trace_text names (front ++ more))
+Writes-lines names front more {K} {written} {faults} {b} {b2} {b3} first second =
+    subst (Writes written faults b b3) (sym (flat_map-append (trace_line_text names) front more)) (Writes-then _ _ first second)
 
-module _ (names : List (List ℕ)) (p q : PortRef) (links : List (PortRef × PortRef)) (registers : List Registers) (s : Seen) (w : Option (List ℕ)) (f : ℕ) (b : Pending) where
-  abbrev SoFar : Option (List ℕ) → ℕ → Pending → Queues → Queues → Type 0
-  SoFar w' f2 b2 from to = Passed (Fronts p q s) names w f b w' f2 b2 p q links registers s from to
+module _ (names : List (List ℕ)) (p q : PortRef) (links : List (PortRef × PortRef)) (registers : List Registers) (s : Seen) {K : Type 0} (written : K → Option (List ℕ)) (faults : K → ℕ) (b : Outbox K) where
+  abbrev SoFar : Outbox K → Queues → Queues → Type 0
+  SoFar b2 from to = Passed (Fronts p q s) names written faults b b2 p q links registers s from to
 
-  pub Passed-begin : (from to : Queues) → ShowsEnds from.waiting from.received p to.waiting to.received q links registers s.network → SoFar w f b from to
-  Passed-begin from to shows = record { block = []; prints = Puts-nil w f b; legal = refl; all = λ rest r. r; shows = shows }
+  pub Passed-begin : (from to : Queues) → ShowsEnds from.waiting from.received p to.waiting to.received q links registers s.network → SoFar b from to
+  Passed-begin from to shows = record { block = []; prints = Writes-nil written faults b; legal = refl; all = λ rest r. r; shows = shows }
 
   -- the queues after a packet passed
   after_one : (from to from2 to2 : Queues) (packet : List ℕ) (net : Network) → PassedOne from to from2 to2 packet
@@ -51,12 +52,12 @@ module _ (names : List (List ℕ)) (p q : PortRef) (links : List (PortRef × Por
       → ShowsEnds from2.waiting from2.received p to2.waiting to2.received q links registers net
   after_one from to from2 to2 packet net one shows = rw (one.popped, one.stays, one.stays_there, one.appended) shows
 
-  pub Passed-more : (w' : Option (List ℕ)) (f2 : ℕ) (b2 : Pending) (w'' : Option (List ℕ)) (f3 : ℕ) (b3 : Pending) (from to from2 to2 : Queues) (prio : ℕ)
+  pub Passed-more : (b2 b3 : Outbox K) (from to from2 to2 : Queues) (prio : ℕ)
       → AreEnds p q links → IsTurn from.waiting prio → admits to.received (next_of from.waiting) ≡ true
       → IfSome (next_of from.waiting) (PassedOne from to from2 to2)
-      → Puts w' f2 b2 w'' f3 b3 (trace_text names (passes p q (next_of from.waiting)))
-      → SoFar w' f2 b2 from to → SoFar w'' f3 b3 from2 to2
-  Passed-more w' f2 b2 w'' f3 b3 from to from2 to2 prio ends turn room one printed h =
+      → Writes written faults b2 b3 (trace_text names (passes p q (next_of from.waiting)))
+      → SoFar b2 from to → SoFar b3 from2 to2
+  Passed-more b2 b3 from to from2 to2 prio ends turn room one printed h =
       let packet : List ℕ = turn.packet in
       let now : Seen = seen s h.block in
       let done : PassedOne from to from2 to2 packet = subst (λ o. IfSome o (PassedOne from to from2 to2)) turn.next one in
@@ -66,7 +67,7 @@ module _ (names : List (List ℕ)) (p q : PortRef) (links : List (PortRef × Por
       let then_is : seen s (h.block ++ passes p q (Some packet)) ≡ seen now (passes p q (Some packet)) = seen-append s h.block (passes p q (Some packet)) in
       record {
         block = h.block ++ passes p q (Some packet);
-        prints = Puts-lines names h.block (passes p q (Some packet)) h.prints (subst (λ o. Puts w' f2 b2 w'' f3 b3 (trace_text names (passes p q o))) turn.next printed);
+        prints = Writes-lines names h.block (passes p q (Some packet)) h.prints (subst (λ o. Writes written faults b2 b3 (trace_text names (passes p q o))) turn.next printed);
         legal = subst (λ steps. LegalFrom s.network steps (seen s (h.block ++ passes p q (Some packet))).network) (sym (steps_of-append h.block (passes p q (Some packet))))
             (subst (λ t. LegalFrom s.network (steps_of h.block ++ Linked (Hold q packet) ∷ Linked (Free p packet) ∷ []) t.network) (sym then_is)
             (legal_joined s.network (steps_of h.block) (Linked (Hold q packet) ∷ Linked (Free p packet) ∷ []) now.network _ h.legal
@@ -80,9 +81,9 @@ module _ (names : List (List ℕ)) (p q : PortRef) (links : List (PortRef × Por
             (after_one from to from2 to2 packet _ done (Passing-shows from.waiting from.received p to.waiting to.received q links registers now.network packet passing));
       }
 
-  pub Passed-end : (w' : Option (List ℕ)) (f2 : ℕ) (b2 : Pending) (from to : Queues) → admits to.received (next_of from.waiting) ≡ false
-      → SoFar w' f2 b2 from to → Passed (PassesAll p q s) names w f b w' f2 b2 p q links registers s from to
-  Passed-end w' f2 b2 from to none h = record {
+  pub Passed-end : (b2 : Outbox K) (from to : Queues) → admits to.received (next_of from.waiting) ≡ false
+      → SoFar b2 from to → Passed (PassesAll p q s) names written faults b b2 p q links registers s from to
+  Passed-end b2 from to none h = record {
     block = h.block;
     prints = h.prints;
     legal = h.legal;

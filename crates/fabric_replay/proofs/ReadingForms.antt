@@ -88,7 +88,7 @@ same_event a b form_a form_b =
         let words : codes "send A " ++ send_words p x ≡ codes "send A " ++ send_words q y = sym (text-send p x below_p) ∙ e ∙ text-send q y below_q in
         let digit : 48 + p ≡ 48 + q = cc in
         let prio : p ≡ q = omega arith in
-        let hex : x ≡ y = hex_text-injective x y bytes_x bytes_y cc in
+        let hex : x ≡ y = hex_text-injective x y cc in
         cc
 
 -- the text of a line is its own alone, at its place

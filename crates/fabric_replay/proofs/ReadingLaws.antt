@@ -14,7 +14,8 @@ use Rattle.fabric_replay.specs.declared.parsing.Refusal.{Refusal}
 use Rattle.fabric_replay.specs.declared.parsing.ScriptEnd.{ScriptEnd}
 use Rattle.fabric_replay.specs.declared.parsing.ScriptEnd.TheVariants.{Refused, NoMemory}
 use Rattle.fabric_replay.specs.Forms.{two_names, PassesFrom, Passes}
-use Rattle.fabric_replay.specs.Spelling.{pieces_of, is_skipped, Spells, SpellsFrom, IsScript, Hits, RefusedAt}
+use Rattle.rio_chars.specs.Lines.{lines_of}
+use Rattle.fabric_replay.specs.Spelling.{is_skipped, Spells, SpellsFrom, IsScript, Hits, RefusedAt}
 use Rattle.fabric_replay.proofs.ReadingForms.{same_spelled, no_hit, same_reason}
 
 -- by whether a piece is skipped, of one fact or of two
@@ -46,7 +47,7 @@ PassesFrom-from_spelled number place (text ∷ texts) lines spelled =
     (is_skipped text) spelled
 
 pub Passes-from_script : (bytes : List ℕ) (names : List (List ℕ)) (lines : List Numbered) → IsScript bytes names lines → Passes names lines
-Passes-from_script bytes names lines script = (script.0, PassesFrom-from_spelled 1 0 (pieces_of bytes) lines script.1)
+Passes-from_script bytes names lines script = (script.0, PassesFrom-from_spelled 1 0 (lines_of bytes) lines script.1)
 
 -- ---- one script at most
 
@@ -90,7 +91,7 @@ HitsFrom-from_parts number place line reason (t ∷ ts) text behind lines spelle
     inr (h.0, h.3, HitsFrom-from_parts (suc number) (suc place) line reason ts text behind h.1 h.4 kept at' (rw same at hits)))
     (is_skipped t) spelled
 
-HitsFrom-from_refused : (bytes : List ℕ) (line reason : ℕ) → RefusedAt bytes line reason → HitsFrom 1 0 (pieces_of bytes) line reason
+HitsFrom-from_refused : (bytes : List ℕ) (line reason : ℕ) → RefusedAt bytes line reason → HitsFrom 1 0 (lines_of bytes) line reason
 HitsFrom-from_refused bytes line reason r =
     let hits : Hits (0 + length r.lines) r.text reason = rw zero-add r.hits in
     subst (λ texts. HitsFrom 1 0 texts line reason) (sym r.split)
@@ -120,16 +121,16 @@ HitsFrom-not_spelled number place (text ∷ texts) line reason lines h spelled =
 
 pub refused_once : (bytes : List ℕ) (line reason line' reason' : ℕ) → RefusedAt bytes line reason → RefusedAt bytes line' reason' → (line ≡ line') × (reason ≡ reason')
 refused_once bytes line reason line' reason' h k =
-    HitsFrom-once 1 0 (pieces_of bytes) line reason line' reason' (HitsFrom-from_refused bytes line reason h) (HitsFrom-from_refused bytes line' reason' k)
+    HitsFrom-once 1 0 (lines_of bytes) line reason line' reason' (HitsFrom-from_refused bytes line reason h) (HitsFrom-from_refused bytes line' reason' k)
 
 -- what is spelled is not refused
 pub not_refused : (bytes : List ℕ) (names : List (List ℕ)) (lines : List Numbered) (line reason : ℕ) → IsScript bytes names lines → RefusedAt bytes line reason → ⊥
 not_refused bytes names lines line reason script h =
-    HitsFrom-not_spelled 1 0 (pieces_of bytes) line reason lines (HitsFrom-from_refused bytes line reason h) script.1
+    HitsFrom-not_spelled 1 0 (lines_of bytes) line reason lines (HitsFrom-from_refused bytes line reason h) script.1
 
 pub script_once : (bytes : List ℕ) (names names' : List (List ℕ)) (lines lines' : List Numbered) → IsScript bytes names lines → IsScript bytes names' lines' → (names ≡ names') × (lines ≡ lines')
 script_once bytes names names' lines lines' h k =
-    let same : lines ≡ lines' = same_lines 1 0 (pieces_of bytes) lines lines' h.1 k.1 in
+    let same : lines ≡ lines' = same_lines 1 0 (lines_of bytes) lines lines' h.1 k.1 in
     (h.0 ∙ ap (λ x. take (length x) two_names) same ∙ sym k.0, same)
 
 -- ---- so one answer at most
@@ -173,14 +174,14 @@ SpellsFrom-keep number place (t ∷ ts) text lines n line kept at spells spelled
     (is_skipped t) spelled
 
 -- the n-th of the pieces is hit, and those before it spell lines
-pub RefusedAt-from_turn : (bytes : List ℕ) (n : ℕ) (before : List (List ℕ)) (text : List ℕ) (lines : List Numbered) (reason : ℕ) → before ≡ take n (pieces_of bytes) → n < length (pieces_of bytes) → text ≡ get_or (pieces_of bytes) n text → n ≡ length before → SpellsFrom 1 0 before lines → is_skipped text ≡ false → Hits (length lines) text reason → RefusedAt bytes (n + 1) reason
+pub RefusedAt-from_turn : (bytes : List ℕ) (n : ℕ) (before : List (List ℕ)) (text : List ℕ) (lines : List Numbered) (reason : ℕ) → before ≡ take n (lines_of bytes) → n < length (lines_of bytes) → text ≡ get_or (lines_of bytes) n text → n ≡ length before → SpellsFrom 1 0 before lines → is_skipped text ≡ false → Hits (length lines) text reason → RefusedAt bytes (n + 1) reason
 RefusedAt-from_turn bytes n before text lines reason so_far within here counted spelled kept hits =
-    let pieces = pieces_of bytes in
+    let pieces = lines_of bytes in
     let behind = drop (suc n) pieces in
     let at : drop n pieces ≡ get_or pieces n text ∷ behind = drop-cons pieces n text within in
     let split : pieces ≡ before ++ text ∷ behind = sym (take-append-drop n pieces) ∙ ap (λ x. take n pieces ++ x) at ∙ ap (λ x. x ++ get_or pieces n text ∷ behind) (sym so_far) ∙ ap (λ x. before ++ x ∷ behind) (sym here) in
     record { before = before; text = text; behind = behind; lines = lines; split = split; spelled = spelled; kept = kept; place = omega arith; hits = hits }
 
 -- what a loop over the pieces goes over
-pub pieces-road : {F : Type 0} {g : Mut F (Bor ℕ × Unit {0}) Bool} {f : F} {s : _} (bytes : List ℕ) (xs : List (Bor (List ℕ))) (t : _) → Yields (split_steps g) s xs t → split_rest s ≡ bytes → split_done s ≡ false → split_callee s ≡ f → ((x : ℕ) (b : Bool) (q : F) → CalledAt g f x b q → (q ≡ f) × (b ≡ (x == 10))) → YieldsList (split_steps g) (λ x. x.now) s (pieces_of bytes)
+pub pieces-road : {F : Type 0} {g : Mut F (Bor ℕ × Unit {0}) Bool} {f : F} {s : _} (bytes : List ℕ) (xs : List (Bor (List ℕ))) (t : _) → Yields (split_steps g) s xs t → split_rest s ≡ bytes → split_done s ≡ false → split_callee s ≡ f → ((x : ℕ) (b : Bool) (q : F) → CalledAt g f x b q → (q ≡ f) × (b ≡ (x == 10))) → YieldsList (split_steps g) (λ x. x.now) s (lines_of bytes)
 pieces-road {g} bytes xs t yields rest done closure calls = YieldsList-from_slice_split g (λ b. b == 10) bytes rest done closure calls

@@ -1,12 +1,10 @@
 -- How a replay goes from event to event.
-use Rattle.std.proofs.Common.{◌≡◌, ℕ, ◌+◌, ◌<◌, ◌≤◌, zero, suc, Bool, true, false, MatchBool, List, [], ◌∷◌, ◌++◌, length, take, get_or, refl, sym, ap, ◌∙◌, subst, arith, Option, inr, append-nil, length-take, drop, take-append-drop, All, inl}
-use Rattle.std.proofs.lemmas.List.Concat.{flat_map-append}
+use Rattle.std.proofs.Common.{◌≡◌, ℕ, ◌+◌, ◌<◌, ◌≤◌, zero, suc, true, false, MatchBool, List, [], ◌∷◌, ◌++◌, length, take, get_or, refl, sym, ap, ◌∙◌, subst, arith, Option, inr, append-nil, length-take, drop, take-append-drop, All, inl}
 use Rattle.std.proofs.lemmas.Bool.{false≢true}
 use Rattle.std.proofs.lemmas.List.{take_more, take_all}
-use Rattle.rio_chars.specs.Telling.{Pending, Puts, Told, Tells, empty_outbox}
-use Rattle.rio_chars.specs.Faults.{Rose, FailedBy}
-use Rattle.rio_chars.proofs.FaultLaws.{Rose-before}
-use Rattle.rio_chars.proofs.TellingLaws.{Told-begin, Told-end, Told-front}
+use Rattle.rio_chars.specs.Written.{Writes}
+use Rattle.rio_chars.specs.declared.outbox.Outbox.{Outbox}
+use Rattle.rio_chars.proofs.WrittenLaws.{Writes-nil, Writes-then, Writes-whole, Writes-front}
 use Rattle.fabric_model.specs.declared.lines.Line.{Line}
 use Rattle.fabric_model.specs.declared.lines.Line.TheVariants.{Endpoint, Link, Send, Settle, Collect}
 use Rattle.fabric_model.specs.declared.lines.Numbered.{Numbered}
@@ -31,7 +29,8 @@ use Rattle.rio_packets.specs.Fields.{is_request}
 use Rattle.fabric_model.specs.declared.lines.PortRef.{PortRef}
 use Rattle.fabric_replay.specs.Events.{IsBare, ShowsFabric, Evented}
 use Rattle.fabric_replay.specs.Replaying.{Replayed, ReplayedFront, Going}
-use Rattle.fabric_replay.proofs.EventLaws.{Puts-line}
+use Rattle.fabric_replay.proofs.EventLaws.{Writes-line}
+use Rattle.fabric_replay.proofs.PassingLaws.{Writes-lines}
 
 -- ---- the lines of a script that passes
 
@@ -148,139 +147,132 @@ bare_shows fabric is = rw (is.a.waiting, is.a.received, is.b.waiting, is.b.recei
 
 -- ---- from event to event
 
-pub Going-begin : (names : List (List ℕ)) (script : List Numbered) (w : Option (List ℕ)) (f : ℕ) (fabric : Fabric) → Passes names script → IsBare fabric → Going names script 0 w f w f empty_outbox fabric
-Going-begin names script w f fabric p is = record {
-  lines = [];
-  told = Told-begin w;
-  fine = refl;
-  never_falls = omega arith;
-  blocks = refl;
-  legal = refl;
-  shows = λ late. subst (ShowsFabric fabric) (sym (start-pair script p.1 late)) (bare_shows fabric is);
-}
-
 one_line : (script : List Numbered) (i : ℕ) (item : Numbered) (lines more : List TraceLine) → IsItem script i item → BlocksFrom (start script) (take i script) lines
     → BlocksFrom (seen (start script) lines) (item ∷ []) more → BlocksFrom (start script) (take (i + 1) script) (lines ++ more)
 one_line script i item lines more is done next =
     subst (λ front. BlocksFrom (start script) front (lines ++ more)) (ap (λ x. take i script ++ x ∷ []) is.at ∙ sym (take_more script i item is.within))
     (BlocksFrom-append (start script) (take i script) (item ∷ []) lines more done next)
 
-pub Going-skip : (names : List (List ℕ)) (script : List Numbered) (i : ℕ) (d : Numbered) (w : Option (List ℕ)) (f : ℕ) (w' : Option (List ℕ)) (f2 : ℕ) (box : Pending) (fabric : Fabric)
-    → IsItem script i d → is_event d.line ≡ false → Going names script i w f w' f2 box fabric → Going names script (i + 1) w f w' f2 box fabric
-Going-skip names script i d w f w' f2 box fabric within no_event h = record {
-  lines = h.lines;
-  told = h.told;
-  fine = h.fine;
-  never_falls = h.never_falls;
-  legal = h.legal;
-  shows = h.shows;
-  blocks = subst (BlocksFrom (start script) (take (i + 1) script)) (append-nil h.lines) (one_line script i d h.lines [] within h.blocks
-      (subst (λ t. MatchBool t (BlockThen (λ s rest. BlocksFrom s [] rest) (seen (start script) h.lines) d.line []) (BlocksFrom (seen (start script) h.lines) [] [])) (sym no_event) refl));
-}
+module _ {K : Type 0} (written : K → Option (List ℕ)) (faults : K → ℕ) (begun : Outbox K) (names : List (List ℕ)) (script : List Numbered) where
+  abbrev Gone : Outbox K → ℕ → Fabric → Type 0
+  Gone out count fabric = Going written faults begun out names script count fabric
 
--- an event was carried out
-pub record Step (names : List (List ℕ)) (script : List Numbered) (i : ℕ) (d : Numbered) (w : Option (List ℕ)) (f : ℕ) (w'' : Option (List ℕ)) (f3 : ℕ) (box : Pending) (fabric : Fabric) : Type 0 where
-  pub lines : List TraceLine
-  pub told : Told w w'' box (trace_text names lines)
-  pub never_falls : f ≤ f3
-  pub blocks : BlocksFrom (start script) (take (i + 1) script) lines
-  pub legal : LegalFrom (start script).network (steps_of lines) (seen (start script) lines).network
-  pub shows : ShowsFabric fabric (seen (start script) lines).network
+  pub Going-begin : (fabric : Fabric) → begun.failed ≡ false → Passes names script → IsBare fabric → Gone begun 0 fabric
+  Going-begin fabric fine p is = record {
+    lines = [];
+    told = Writes-nil written faults begun;
+    fine = fine;
+    blocks = refl;
+    legal = refl;
+    shows = λ late. subst (ShowsFabric fabric) (sym (start-pair script p.1 late)) (bare_shows fabric is);
+  }
 
-pub Going-event : (names : List (List ℕ)) (script : List Numbered) (i : ℕ) (d : Numbered) (w : Option (List ℕ)) (f : ℕ) (w' : Option (List ℕ)) (f2 : ℕ) (box : Pending) (fabric : Fabric)
-    (w'' : Option (List ℕ)) (f3 : ℕ) (box2 : Pending) (fabric2 : Fabric) → IsItem script i d → is_event d.line ≡ true → (h : Going names script i w f w' f2 box fabric)
-    → Evented d.line names w' f2 box w'' f3 box2 (seen (start script) h.lines) fabric2 → Step names script i d w f w'' f3 box2 fabric2
-Going-event names script i d w f w' f2 box fabric w'' f3 box2 fabric2 within event h e =
-    let line : Line = d.line in
-    let more : List TraceLine = Begun line ∷ e.block in
-    let now : Seen = seen (start script) h.lines in
-    let then_is : seen (start script) (h.lines ++ more) ≡ seen now more = seen-append (start script) h.lines more in
-    record {
-      lines = h.lines ++ more;
-      told = subst (Told w w'' box2) (sym (flat_map-append (trace_line_text names) h.lines more)) (e.prints.told w (trace_text names h.lines) h.told);
-      never_falls = let first = h.never_falls in let second = e.prints.never_falls in omega arith;
-      blocks = one_line script i d h.lines more within h.blocks
-          (subst (λ t. MatchBool t (BlockThen (λ s rest. BlocksFrom s [] rest) now line more) (BlocksFrom now [] more)) (sym event)
-          (e.block, [], sym (append-nil more), e.is, refl));
-      legal = subst (λ steps. LegalFrom (start script).network steps (seen (start script) (h.lines ++ more)).network) (sym (steps_of-append h.lines more))
-          (subst (λ t. LegalFrom (start script).network (steps_of h.lines ++ steps_of e.block) t.network) (sym then_is)
-          (legal_joined (start script).network (steps_of h.lines) (steps_of e.block) now.network _ h.legal e.legal));
-      shows = subst (λ t. ShowsFabric fabric2 t.network) (sym then_is) e.shows;
-    }
+  pub Going-skip : (i : ℕ) (d : Numbered) (out : Outbox K) (fabric : Fabric) → IsItem script i d → is_event d.line ≡ false → Gone out i fabric → Gone out (i + 1) fabric
+  Going-skip i d out fabric within no_event h = record {
+    lines = h.lines;
+    told = h.told;
+    fine = h.fine;
+    legal = h.legal;
+    shows = h.shows;
+    blocks = subst (BlocksFrom (start script) (take (i + 1) script)) (append-nil h.lines) (one_line script i d h.lines [] within h.blocks
+        (subst (λ t. MatchBool t (BlockThen (λ s rest. BlocksFrom s [] rest) (seen (start script) h.lines) d.line []) (BlocksFrom (seen (start script) h.lines) [] [])) (sym no_event) refl));
+  }
 
-pub Going-more : (names : List (List ℕ)) (script : List Numbered) (i : ℕ) (d : Numbered) (w : Option (List ℕ)) (f : ℕ) (w'' : Option (List ℕ)) (f3 : ℕ) (box : Pending) (fabric : Fabric)
-    → Step names script i d w f w'' f3 box fabric → box.failed ≡ false → Going names script (i + 1) w f w'' f3 box fabric
-Going-more names script i d w f w'' f3 box fabric h fine = record {
-  lines = h.lines;
-  told = h.told;
-  fine = fine;
-  never_falls = h.never_falls;
-  blocks = h.blocks;
-  legal = h.legal;
-  shows = λ late. h.shows;
-}
+  -- an event was carried out
+  pub record Step (i : ℕ) (out : Outbox K) (fabric : Fabric) : Type 0 where
+    pub lines : List TraceLine
+    pub told : Writes written faults begun out (trace_text names lines)
+    pub blocks : BlocksFrom (start script) (take (i + 1) script) lines
+    pub legal : LegalFrom (start script).network (steps_of lines) (seen (start script) lines).network
+    pub shows : ShowsFabric fabric (seen (start script) lines).network
 
--- a write failed in an event
-pub Step-front : (names : List (List ℕ)) (script : List Numbered) (i : ℕ) (d : Numbered) (w : Option (List ℕ)) (f : ℕ) (w'' : Option (List ℕ)) (f3 : ℕ) (box : Pending) (fabric : Fabric)
-    → Passes names script → Step names script i d w f w'' f3 box fabric → ReplayedFront names script w w''
-Step-front names script i d w f w'' f3 box fabric p h =
-    let first : Begins script h.lines = record { done = take (i + 1) script; rest = drop (i + 1) script; whole = sym (take-append-drop (i + 1) script); blocks = h.blocks } in
-    record {
-      lines = h.lines;
-      network = (seen (start script) h.lines).network;
-      told = Told-front w w'' box (trace_text names h.lines) h.told;
-      begins = inl first;
-      front = λ all runs. first_blocks_front script h.lines all first runs;
-      lawful = lawful script (steps_of h.lines) _ (links_proper script p.1) h.legal;
-    }
+  pub Going-event : (i : ℕ) (d : Numbered) (out : Outbox K) (fabric : Fabric) (out2 : Outbox K) (fabric2 : Fabric) → IsItem script i d → is_event d.line ≡ true → (h : Gone out i fabric)
+      → Evented d.line names written faults out out2 (seen (start script) h.lines) fabric2 → Step i out2 fabric2
+  Going-event i d out fabric out2 fabric2 within event h e =
+      let line : Line = d.line in
+      let more : List TraceLine = Begun line ∷ e.block in
+      let now : Seen = seen (start script) h.lines in
+      let then_is : seen (start script) (h.lines ++ more) ≡ seen now more = seen-append (start script) h.lines more in
+      record {
+        lines = h.lines ++ more;
+        told = Writes-lines names h.lines more h.told e.prints;
+        blocks = one_line script i d h.lines more within h.blocks
+            (subst (λ t. MatchBool t (BlockThen (λ s rest. BlocksFrom s [] rest) now line more) (BlocksFrom now [] more)) (sym event)
+            (e.block, [], sym (append-nil more), e.is, refl));
+        legal = subst (λ steps. LegalFrom (start script).network steps (seen (start script) (h.lines ++ more)).network) (sym (steps_of-append h.lines more))
+            (subst (λ t. LegalFrom (start script).network (steps_of h.lines ++ steps_of e.block) t.network) (sym then_is)
+            (legal_joined (start script).network (steps_of h.lines) (steps_of e.block) now.network _ h.legal e.legal));
+        shows = subst (λ t. ShowsFabric fabric2 t.network) (sym then_is) e.shows;
+      }
 
--- ---- the end
+  pub Going-more : (i : ℕ) (out : Outbox K) (fabric : Fabric) → Step i out fabric → out.failed ≡ false → Gone out (i + 1) fabric
+  Going-more i out fabric h fine = record {
+    lines = h.lines;
+    told = h.told;
+    fine = fine;
+    blocks = h.blocks;
+    legal = h.legal;
+    shows = λ late. h.shows;
+  }
 
--- all blocks and the last line were told
-pub record Ending (names : List (List ℕ)) (script : List Numbered) (w : Option (List ℕ)) (w'' : Option (List ℕ)) (box : Pending) : Type 0 where
-  pub lines : List TraceLine
-  pub told : Told w w'' box (trace_text names lines)
-  pub runs : Runs script lines
-  pub legal : LegalFrom (start script).network (steps_of lines) (seen (start script) lines).network
+  -- a write failed in an event
+  pub Step-front : (i : ℕ) (out : Outbox K) (fabric : Fabric) → begun.buffer.now ≡ [] → Passes names script → Step i out fabric
+      → ReplayedFront names script (written begun.sink.now) (written out.sink.now)
+  Step-front i out fabric empty p h =
+      let first : Begins script h.lines = record { done = take (i + 1) script; rest = drop (i + 1) script; whole = sym (take-append-drop (i + 1) script); blocks = h.blocks } in
+      record {
+        lines = h.lines;
+        network = (seen (start script) h.lines).network;
+        told = Writes-front written faults begun out (trace_text names h.lines) empty h.told;
+        begins = inl first;
+        front = λ all runs. first_blocks_front script h.lines all first runs;
+        lawful = lawful script (steps_of h.lines) _ (links_proper script p.1) h.legal;
+      }
 
-pub Going-end : (names : List (List ℕ)) (script : List Numbered) (count : ℕ) (w : Option (List ℕ)) (f : ℕ) (w' : Option (List ℕ)) (f2 : ℕ) (box : Pending) (fabric : Fabric) (w'' w''' : Option (List ℕ)) (f3 : ℕ) (box2 box3 : Pending)
-    → length script ≤ count → Going names script count w f w' f2 box fabric → Puts w' f2 box w'' f3 box2 (trace_line_text names Ended) → Tells w'' box2 w''' box3 [] → Ending names script w w''' box3
-Going-end names script count w f w' f2 box fabric w'' w''' f3 box2 box3 whole h ended flushed =
-    let all : take count script ≡ script = take_all count script whole in
-    let text = trace_text names (h.lines ++ Ended ∷ []) in
-    record {
-      lines = h.lines ++ Ended ∷ [];
-      told = subst (Told w w''' box3) (append-nil _) (flushed w _ (subst (Told w w'' box2) (sym (flat_map-append (trace_line_text names) h.lines (Ended ∷ []))) ((Puts-line names Ended ended).told w (trace_text names h.lines) h.told)));
-      runs = BlocksFrom-run (start script) script h.lines (subst (λ front. BlocksFrom (start script) front h.lines) all h.blocks);
-      legal = subst (λ steps. LegalFrom (start script).network steps (seen (start script) (h.lines ++ Ended ∷ [])).network) (sym (steps_of-append h.lines (Ended ∷ []) ∙ append-nil (steps_of h.lines)))
-          (subst (λ t. LegalFrom (start script).network (steps_of h.lines) t.network) (sym (seen-append (start script) h.lines (Ended ∷ []))) h.legal);
-    }
+  -- ---- the end
 
-pub Ending-done : (names : List (List ℕ)) (script : List Numbered) (w w'' : Option (List ℕ)) (box : Pending) → Passes names script → Ending names script w w'' box → box.failed ≡ false → box.pending ≡ [] → Replayed names script w w''
-Ending-done names script w w'' box p h fine none = record {
-  lines = h.lines;
-  network = (seen (start script) h.lines).network;
-  told = Told-end w w'' box (trace_text names h.lines) h.told fine none;
-  runs = h.runs;
-  only = λ other r. runs_one script other h.lines r h.runs;
-  lawful = lawful script (steps_of h.lines) _ (links_proper script p.1) h.legal;
-}
+  -- all blocks and the last line were told
+  pub record Ending (out : Outbox K) : Type 0 where
+    pub lines : List TraceLine
+    pub told : Writes written faults begun out (trace_text names lines)
+    pub runs : Runs script lines
+    pub legal : LegalFrom (start script).network (steps_of lines) (seen (start script) lines).network
 
-pub Ending-front : (names : List (List ℕ)) (script : List Numbered) (w w'' : Option (List ℕ)) (box : Pending) → Passes names script → Ending names script w w'' box → ReplayedFront names script w w''
-Ending-front names script w w'' box p h = record {
-  lines = h.lines;
-  network = (seen (start script) h.lines).network;
-  told = Told-front w w'' box (trace_text names h.lines) h.told;
-  begins = inr h.runs;
-  front = λ all runs. ([], runs_one script all h.lines runs h.runs ∙ sym (append-nil h.lines));
-  lawful = lawful script (steps_of h.lines) _ (links_proper script p.1) h.legal;
-}
+  pub Going-end : (count : ℕ) (out : Outbox K) (fabric : Fabric) (out2 out3 : Outbox K) → length script ≤ count → Gone out count fabric
+      → Writes written faults out out2 (trace_line_text names Ended) → Writes written faults out2 out3 [] → Ending out3
+  Going-end count out fabric out2 out3 whole h ended flushed =
+      let all : take count script ≡ script = take_all count script whole in
+      record {
+        lines = h.lines ++ Ended ∷ [];
+        told = subst (Writes written faults begun out3) (append-nil _)
+            (Writes-then _ [] (Writes-lines names h.lines (Ended ∷ []) h.told (Writes-line names Ended ended)) flushed);
+        runs = BlocksFrom-run (start script) script h.lines (subst (λ front. BlocksFrom (start script) front h.lines) all h.blocks);
+        legal = subst (λ steps. LegalFrom (start script).network steps (seen (start script) (h.lines ++ Ended ∷ [])).network) (sym (steps_of-append h.lines (Ended ∷ []) ∙ append-nil (steps_of h.lines)))
+            (subst (λ t. LegalFrom (start script).network (steps_of h.lines) t.network) (sym (seen-append (start script) h.lines (Ended ∷ []))) h.legal);
+      }
 
--- the first write that failed did so in this call
-pub rose_in : (f f2 f3 : ℕ) (failed failed2 : Bool) → f ≤ f2 → failed ≡ false → FailedBy failed f2 failed2 f3 → failed2 ≡ true → Rose f f3
-rose_in f f2 f3 failed failed2 le fine by now = elim (by now) [ inl was ↦ absurd (false≢true (sym fine ∙ was)) | inr rose ↦ Rose-before f f2 f3 le rose ]
+  pub Ending-done : (out : Outbox K) → begun.buffer.now ≡ [] → Passes names script → Ending out → out.failed ≡ false → out.buffer.now ≡ []
+      → Replayed names script (written begun.sink.now) (written out.sink.now)
+  Ending-done out empty p h fine none = record {
+    lines = h.lines;
+    network = (seen (start script) h.lines).network;
+    told = Writes-whole written faults begun out (trace_text names h.lines) empty h.told fine none;
+    runs = h.runs;
+    only = λ other r. runs_one script other h.lines r h.runs;
+    lawful = lawful script (steps_of h.lines) _ (links_proper script p.1) h.legal;
+  }
+
+  pub Ending-front : (out : Outbox K) → begun.buffer.now ≡ [] → Passes names script → Ending out → ReplayedFront names script (written begun.sink.now) (written out.sink.now)
+  Ending-front out empty p h = record {
+    lines = h.lines;
+    network = (seen (start script) h.lines).network;
+    told = Writes-front written faults begun out (trace_text names h.lines) empty h.told;
+    begins = inr h.runs;
+    front = λ all runs. ([], runs_one script all h.lines runs h.runs ∙ sym (append-nil h.lines));
+    lawful = lawful script (steps_of h.lines) _ (links_proper script p.1) h.legal;
+  }
 
 -- the names were read from where they stand
-pub Evented-names : (line : Line) (read names : List (List ℕ)) {w w' : Option (List ℕ)} {f f2 : ℕ} {b b2 : Pending} {s : Seen} {fabric : Fabric} → read ≡ names
-    → Evented line read w f b w' f2 b2 s fabric → Evented line names w f b w' f2 b2 s fabric
-Evented-names line read names {w} {w'} {f} {f2} {b} {b2} {s} {fabric} same e = subst (λ names. Evented line names w f b w' f2 b2 s fabric) same e
+pub Evented-names : (line : Line) (read names : List (List ℕ)) {K : Type 0} {written : K → Option (List ℕ)} {faults : K → ℕ} {out out2 : Outbox K} {s : Seen} {fabric : Fabric} → read ≡ names
+    → Evented line read written faults out out2 s fabric → Evented line names written faults out out2 s fabric
+Evented-names line read names {K} {written} {faults} {out} {out2} {s} {fabric} same e = subst (λ names. Evented line names written faults out out2 s fabric) same e

@@ -1,6 +1,7 @@
 -- What an event of a script does to a fabric, and what it prints.
 use Rattle.std.specs.Prelude.{◌≡◌, ℕ, List, [], ◌∷◌, Option}
-use Rattle.rio_chars.specs.Telling.{Pending, Puts}
+use Rattle.rio_chars.specs.Written.{Writes}
+use Rattle.rio_chars.specs.declared.outbox.Outbox.{Outbox}
 use Rattle.link_buffers.specs.Queues.{no_packets}
 use Rattle.fabric_model.specs.declared.lines.PortRef.{PortRef}
 use Rattle.fabric_model.specs.declared.lines.Line.{Line}
@@ -37,15 +38,15 @@ abbrev pub ShowsFabric : Fabric → Network → Type 0
 ShowsFabric fabric net = ShowsEnds fabric.a.waiting fabric.a.received (port_of 0) fabric.b.waiting fabric.b.received (port_of 1) pair_links pair_registers net
 
 -- a call printed lines that are such, and the fabric shows what the network has then
-abbrev pub Does : (List TraceLine → Type 0) → List (List ℕ) → Option (List ℕ) → ℕ → Pending → Option (List ℕ) → ℕ → Pending → Seen → Fabric → Type 0
-Does Is names written faults box written_after faults_after box_after s fabric =
-    Passed Is names written faults box written_after faults_after box_after (port_of 0) (port_of 1) pair_links pair_registers s fabric.a fabric.b
+abbrev pub Does : (List TraceLine → Type 0) → List (List ℕ) → {K : Type 0} → (K → Option (List ℕ)) → (K → ℕ) → Outbox K → Outbox K → Seen → Fabric → Type 0
+Does Is names written faults old new s fabric =
+    Passed Is names written faults old new (port_of 0) (port_of 1) pair_links pair_registers s fabric.a fabric.b
 
 -- a call carried out an event: it printed the line that the event begins with and its block
-pub record Evented (line : Line) (names : List (List ℕ)) (written : Option (List ℕ)) (faults : ℕ) (box : Pending) (written_after : Option (List ℕ)) (faults_after : ℕ) (box_after : Pending)
+pub record Evented (line : Line) (names : List (List ℕ)) {K : Type 0} (written : K → Option (List ℕ)) (faults : K → ℕ) (old new : Outbox K)
     (s : Seen) (fabric : Fabric) : Type 0 where
   pub block : List TraceLine
-  pub prints : Puts written faults box written_after faults_after box_after (trace_text names (Begun line ∷ block))
+  pub prints : Writes written faults old new (trace_text names (Begun line ∷ block))
   pub legal : LegalFrom s.network (steps_of block) (seen s block).network
   pub is : IsBlock s line block
   pub shows : ShowsFabric fabric (seen s block).network

@@ -1,7 +1,8 @@
 -- What a call did that passes packets over a link.
 use Rattle.std.specs.Prelude.{◌≡◌, ℕ, Option, Some, List, ◌++◌}
 use Rattle.rio_packets.specs.Fields.{prio_of}
-use Rattle.rio_chars.specs.Telling.{Pending, Puts}
+use Rattle.rio_chars.specs.Written.{Writes}
+use Rattle.rio_chars.specs.declared.outbox.Outbox.{Outbox}
 use Rattle.link_buffers.specs.Queues.{appended, popped}
 use Rattle.fabric_model.specs.declared.lines.PortRef.{PortRef}
 use Rattle.fabric_model.specs.Network.{Registers}
@@ -24,14 +25,13 @@ pub record PassedOne (old old_there new new_there : Queues) (packet : List ℕ) 
 
 -- The packets that passed from one port to the other: the lines that were printed say so, their steps are legal, and
 -- the queues show what the network has then. `All` is what the lines are.
-pub record Passed (All : List TraceLine → Type 0) (names : List (List ℕ)) (written : Option (List ℕ)) (faults : ℕ) (box : Pending)
-    (written_after : Option (List ℕ)) (faults_after : ℕ) (box_after : Pending)
-    (p q : PortRef) (links : List (PortRef × PortRef)) (registers : List Registers) (s : Seen) (new new_there : Queues) : Type 0 where
+pub record Passed (All : List TraceLine → Type 0) (names : List (List ℕ)) {K : Type 0} (written : K → Option (List ℕ)) (faults : K → ℕ) (old new : Outbox K)
+    (p q : PortRef) (links : List (PortRef × PortRef)) (registers : List Registers) (s : Seen) (here there : Queues) : Type 0 where
   pub block : List TraceLine
-  pub prints : Puts written faults box written_after faults_after box_after (trace_text names block)
+  pub prints : Writes written faults old new (trace_text names block)
   pub legal : LegalFrom s.network (steps_of block) (seen s block).network
   pub all : All block
-  pub shows : ShowsEnds new.waiting new.received p new_there.waiting new_there.received q links registers (seen s block).network
+  pub shows : ShowsEnds here.waiting here.received p there.waiting there.received q links registers (seen s block).network
 
 -- These lines are a front of what all packets that pass make: whatever passes behind them, they and it are.
 abbrev pub Fronts : PortRef → PortRef → Seen → List TraceLine → Type 0

@@ -2,7 +2,8 @@
 use Rattle.std.specs.Prelude.{◌≡◌, ◌≤◌, ℕ, ◌⊎◌, false, List, length, take, Option}
 use Rattle.std.specs.Io.KnownBytes.{Appends}
 use Rattle.rio_chars.specs.Fronts.{AppendsFront}
-use Rattle.rio_chars.specs.Telling.{Pending, Told}
+use Rattle.rio_chars.specs.Written.{Writes}
+use Rattle.rio_chars.specs.declared.outbox.Outbox.{Outbox}
 use Rattle.fabric_model.specs.declared.lines.Numbered.{Numbered}
 use Rattle.fabric_model.specs.Network.{Network}
 use Rattle.fabric_model.specs.Steps.{LegalFrom}
@@ -35,11 +36,10 @@ pub record ReplayedFront (names : List (List ℕ)) (script : List Numbered) (wri
   pub lawful : Lawful (start script).network (steps_of lines) network
 
 -- how far a replay has come: the blocks of the first events of the script were told
-pub record Going (names : List (List ℕ)) (script : List Numbered) (count : ℕ) (written : Option (List ℕ)) (faults : ℕ) (written_now : Option (List ℕ)) (faults_now : ℕ) (box : Pending) (fabric : Fabric) : Type 0 where
+pub record Going {K : Type 0} (written : K → Option (List ℕ)) (faults : K → ℕ) (begun out : Outbox K) (names : List (List ℕ)) (script : List Numbered) (count : ℕ) (fabric : Fabric) : Type 0 where
   pub lines : List TraceLine
-  pub told : Told written written_now box (trace_text names lines)
-  pub fine : box.failed ≡ false
-  pub never_falls : faults ≤ faults_now
+  pub told : Writes written faults begun out (trace_text names lines)
+  pub fine : out.failed ≡ false
   pub blocks : BlocksFrom (start script) (take count script) lines
   pub legal : LegalFrom (start script).network (steps_of lines) (seen (start script) lines).network
   pub shows : 3 ≤ length script → ShowsFabric fabric (seen (start script) lines).network

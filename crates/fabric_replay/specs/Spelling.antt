@@ -1,6 +1,6 @@
 -- Which bytes spell a script, and which are refused. A line is spelled as its text and in no other way.
 use Rattle.std.specs.Prelude.{◌≡◌, ◌≢◌, ℕ, ◌+◌, Bool, true, false, ◌==◌, suc, ◌⊎◌, List, [], ◌∷◌, ◌++◌, length, take, MatchBool, Result, MatchResult}
-use Rattle.std.specs.List.{slice_split}
+use Rattle.rio_chars.specs.Lines.{lines_of}
 use Rattle.fabric_model.specs.declared.lines.Line.{Line}
 use Rattle.fabric_model.specs.declared.lines.Numbered.{Numbered}
 use Rattle.fabric_model.specs.Text.{line_text}
@@ -8,11 +8,7 @@ use Rattle.fabric_replay.specs.Forms.{two_names, IsFormAt, HasGoodLength}
 use Rattle.fabric_replay.specs.declared.reading.Reason.{Reason}
 use Rattle.fabric_replay.specs.declared.reading.Reason.TheVariants.{UnknownLine, BadLength}
 
--- the lines of a text; an empty last one, after a final line feed, is skipped as any empty line
-abbrev pub pieces_of : List ℕ → List (List ℕ)
-pieces_of bytes = slice_split (λ byte. byte == 10) bytes
-
--- an empty line and a comment are counted and not kept
+-- an empty line and a comment are counted and not kept; so is what stands behind a final line feed
 abbrev pub is_skipped : List ℕ → Bool
 is_skipped [] = true
 is_skipped (byte ∷ bytes) = byte == 35
@@ -32,7 +28,7 @@ SpellsFrom number place (text ∷ texts) lines = MatchBool (is_skipped text)
 
 -- the bytes spell a script of these names and lines
 abbrev pub IsScript : List ℕ → List (List ℕ) → List Numbered → Type 0
-IsScript bytes names lines = (names ≡ take (length lines) two_names) × SpellsFrom 1 0 (pieces_of bytes) lines
+IsScript bytes names lines = (names ≡ take (length lines) two_names) × SpellsFrom 1 0 (lines_of bytes) lines
 
 -- no line of the form of this place has this text
 abbrev pub IsUnknown : ℕ → List ℕ → Type 0
@@ -64,7 +60,7 @@ pub record RefusedAt (bytes : List ℕ) (line reason : ℕ) : Type 0 where
   pub text : List ℕ
   pub behind : List (List ℕ)
   pub lines : List Numbered
-  pub split : pieces_of bytes ≡ before ++ text ∷ behind
+  pub split : lines_of bytes ≡ before ++ text ∷ behind
   pub spelled : SpellsFrom 1 0 before lines
   pub kept : is_skipped text ≡ false
   pub place : line ≡ length before + 1

@@ -12,7 +12,7 @@ ghost use Rattle.fabric_replay.specs.Printing.{AreNamed};
 ghost use Rattle.fabric_replay.specs.Events.{IsBare, ShowsFabric, Does, Evented};
 
 use crate::passing::{Way, pass_all};
-use crate::printing::{put, put_begun, put_leave, put_take};
+use crate::printing::{write_begun, write_leave, write_take};
 use crate::queues::Queues;
 use crate::{FIRST, SECOND};
 use fabric_model::{Line, Name};
@@ -42,20 +42,14 @@ impl Fabric {
     }
 
     /// Carries out an event and tells its block.
-    pub(crate) fn event<K: Sink>(
-        &mut self,
-        names: &[Name],
-        line: &Line,
-        outbox: &mut Outbox,
-        sink: &mut K,
-    )
+    pub(crate) fn event<K: Sink>(&mut self, names: &[Name], line: &Line, outbox: &mut Outbox<K>)
         requires named { 1 < length names.now }
         requires form { IsEventForm line.now }
         requires fits { HasGoodLength line.now }
         ensures { (s : Seen) → ShowsFabric self.old s.network
-            → Evented line.now names.now (K.written sink.old) (K.faults sink.old) outbox.old (K.written sink.new) (K.faults sink.new) outbox.new s self.new }
+            → Evented line.now names.now K.written K.faults outbox.old outbox.new s self.new }
     {
-        put_begun(outbox, sink, names, line);
+        write_begun(outbox, names, line);
         match line {
             Line::Send {
                 prio,
@@ -71,60 +65,60 @@ impl Fabric {
                     source: FIRST_ID,
                 };
                 if let Ok(packet) = build(&header, hex.as_slice()) {
-                    self.send(names, packet, outbox, sink);
+                    self.send(names, packet, outbox);
                 }
             }
-            Line::Settle { .. } => self.settle(names, outbox, sink),
-            Line::Collect { .. } => self.collect(names, outbox, sink),
+            Line::Settle { .. } => self.settle(names, outbox),
+            Line::Collect { .. } => self.collect(names, outbox),
             Line::Endpoint { .. } | Line::Link { .. } => {}
         }
     }
 
     // The first endpoint takes a packet where there is room.
-    fn send<K: Sink>(&mut self, names: &[Name], packet: Packet, outbox: &mut Outbox, sink: &mut K)
+    fn send<K: Sink>(&mut self, names: &[Name], packet: Packet, outbox: &mut Outbox<K>)
         requires named { 1 < length names.now }
         requires plain { is_request packet ≡ false }
         ensures { (s : Seen) → ShowsFabric self.old s.network
-            → Does (λ block. block ≡ sends s 0 packet) names.now (K.written sink.old) (K.faults sink.old) outbox.old (K.written sink.new) (K.faults sink.new) outbox.new s self.new }
+            → Does (λ block. block ≡ sends s 0 packet) names.now K.written K.faults outbox.old outbox.new s self.new }
     {
         if self.a.waiting.has_room(packet.prio()) {
-            put_take(outbox, sink, names, FIRST.node, &packet);
+            write_take(outbox, names, FIRST.node, &packet);
             self.a.waiting.put(packet);
         } else {
-            put(outbox, sink, b"full\n");
+            outbox.write(b"full\n");
         }
     }
 
     // The link passes what waits, from the first endpoint and then from the second.
-    fn settle<K: Sink>(&mut self, names: &[Name], outbox: &mut Outbox, sink: &mut K)
+    fn settle<K: Sink>(&mut self, names: &[Name], outbox: &mut Outbox<K>)
         requires named { 1 < length names.now }
         ensures { (s : Seen) → ShowsFabric self.old s.network
-            → Does (IsSettle s (port_of 0)) names.now (K.written sink.old) (K.faults sink.old) outbox.old (K.written sink.new) (K.faults sink.new) outbox.new s self.new }
+            → Does (IsSettle s (port_of 0)) names.now K.written K.faults outbox.old outbox.new s self.new }
     {
         let there = Way {
             names,
             from: FIRST,
             to: SECOND,
         };
-        pass_all(&mut self.a, &mut self.b, &there, outbox, sink);
+        pass_all(&mut self.a, &mut self.b, &there, outbox);
         let back = Way {
             names,
             from: SECOND,
             to: FIRST,
         };
-        pass_all(&mut self.b, &mut self.a, &back, outbox, sink);
+        pass_all(&mut self.b, &mut self.a, &back, outbox);
     }
 
     // The packet whose turn it is leaves at the second endpoint.
-    fn collect<K: Sink>(&mut self, names: &[Name], outbox: &mut Outbox, sink: &mut K)
+    fn collect<K: Sink>(&mut self, names: &[Name], outbox: &mut Outbox<K>)
         requires named { 1 < length names.now }
         ensures { (s : Seen) → ShowsFabric self.old s.network
-            → Does (λ block. block ≡ collects s 1) names.now (K.written sink.old) (K.faults sink.old) outbox.old (K.written sink.new) (K.faults sink.new) outbox.new s self.new }
+            → Does (λ block. block ≡ collects s 1) names.now K.written K.faults outbox.old outbox.new s self.new }
     {
         if let Some(packet) = self.b.leave() {
-            put_leave(outbox, sink, names, SECOND.node, &packet);
+            write_leave(outbox, names, SECOND.node, &packet);
         } else {
-            put(outbox, sink, b"empty\n");
+            outbox.write(b"empty\n");
         }
     }
 }

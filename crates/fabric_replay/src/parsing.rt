@@ -1,9 +1,10 @@
 //! A script from its bytes.
 
 ghost use Rattle.std.specs.Prelude.{◌≡◌, ℕ, ◌≤◌, ◌⊎◌, List, length, take, IfOk, IsOk, IsErrOf};
+ghost use Rattle.rio_chars.specs.Lines.{lines_of};
 ghost use Rattle.fabric_model.specs.declared.lines.Numbered.{Numbered as NumberedLine};
 ghost use Rattle.fabric_replay.specs.Forms.{two_names};
-ghost use Rattle.fabric_replay.specs.Spelling.{IsScript, RefusedAt, SpellsFrom, pieces_of};
+ghost use Rattle.fabric_replay.specs.Spelling.{IsScript, RefusedAt, SpellsFrom};
 ghost use Rattle.fabric_replay.specs.declared.parsing.ScriptEnd.TheVariants.{NoMemory};
 
 use crate::reading::{is_skipped, read_line};
@@ -65,7 +66,7 @@ pub fn parse(alloc: Global, bytes: &[u8]) -> Result<Script, ScriptEnd>
 // The kept lines, each with its number.
 fn read_lines(alloc: Global, bytes: &[u8]) -> Result<Vec<Numbered>, ScriptEnd>
     requires { length bytes.now ≤ 16777216 }
-    ensures lines { IfOk result (λ lines. SpellsFrom 1 0 (pieces_of bytes.now) lines.items) }
+    ensures lines { IfOk result (λ lines. SpellsFrom 1 0 (lines_of bytes.now) lines.items) }
     ensures refused { (refusal : _) → IsErrOf result (ScriptEnd.Refused refusal) → RefusedAt bytes.now refusal.line refusal.reason }
 {
     let mut lines = Vec::new(alloc);

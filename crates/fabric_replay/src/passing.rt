@@ -1,6 +1,6 @@
 //! Packets pass from one end of a link to the other.
 ghost use Rattle.std.specs.Prelude.{◌≡◌, ◌<◌, true, List, length, is_some, IfSome};
-ghost use Rattle.rio_chars.specs.Telling.{Puts};
+ghost use Rattle.rio_chars.specs.Written.{Writes};
 ghost use Rattle.fabric_model.specs.declared.lines.PortRef.{PortRef as Port};
 ghost use Rattle.fabric_model.specs.Network.{Registers};
 ghost use Rattle.fabric_model.specs.Text.{trace_text};
@@ -10,7 +10,7 @@ ghost use Rattle.fabric_replay.specs.Turns.{next_of, admits, IsTurn};
 ghost use Rattle.fabric_replay.specs.Showing.{ShowsEnds, AreEnds};
 ghost use Rattle.fabric_replay.specs.Passing.{PassedOne, Passed};
 
-use crate::printing::{put_free, put_hold};
+use crate::printing::{write_free, write_hold};
 use crate::queues::Queues;
 use fabric_model::{Name, PortRef};
 use rio_chars::{Outbox, Sink};
@@ -28,18 +28,17 @@ pub(crate) fn pass_all<K: Sink>(
     from: &mut Queues,
     to: &mut Queues,
     way: &Way,
-    outbox: &mut Outbox,
-    sink: &mut K,
+    outbox: &mut Outbox<K>,
 )
     requires from { way.now.from.node < length way.now.names.now }
     requires to { way.now.to.node < length way.now.names.now }
     ensures { (links : List (Port × Port)) (registers : List Registers) (s : Seen) → AreEnds way.now.from way.now.to links
         → ShowsEnds from.old.waiting from.old.received way.now.from to.old.waiting to.old.received way.now.to links registers s.network
-        → Passed (PassesAll way.now.from way.now.to s) way.now.names.now (K.written sink.old) (K.faults sink.old) outbox.old (K.written sink.new) (K.faults sink.new) outbox.new
+        → Passed (PassesAll way.now.from way.now.to s) way.now.names.now K.written K.faults outbox.old outbox.new
         way.now.from way.now.to links registers s from.new to.new }
 {
     while let Some(prio) = next_to_pass(from, to) {
-        pass(from, to, prio, way, outbox, sink);
+        pass(from, to, prio, way, outbox);
     }
 }
 
@@ -53,25 +52,18 @@ fn next_to_pass(from: &Queues, to: &Queues) -> Option<u8>
 }
 
 // Passes the packet whose turn it is, which is of this priority and has room.
-fn pass<K: Sink>(
-    from: &mut Queues,
-    to: &mut Queues,
-    prio: u8,
-    way: &Way,
-    outbox: &mut Outbox,
-    sink: &mut K,
-)
+fn pass<K: Sink>(from: &mut Queues, to: &mut Queues, prio: u8, way: &Way, outbox: &mut Outbox<K>)
     requires from { way.now.from.node < length way.now.names.now }
     requires to { way.now.to.node < length way.now.names.now }
     requires turn { IsTurn from.old.waiting prio }
     requires room { admits to.old.received (next_of from.old.waiting) ≡ true }
     ensures passed { IfSome (next_of from.old.waiting) (PassedOne from.old to.old from.new to.new) }
-    ensures printed { Puts (K.written sink.old) (K.faults sink.old) outbox.old (K.written sink.new) (K.faults sink.new) outbox.new
+    ensures printed { Writes K.written K.faults outbox.old outbox.new
         (trace_text way.now.names.now (passes way.now.from way.now.to (next_of from.old.waiting))) }
 {
     if let Some(packet) = from.waiting.pop(prio) {
-        put_hold(outbox, sink, way.names, way.to, &packet);
-        put_free(outbox, sink, way.names, way.from, &packet);
+        write_hold(outbox, way.names, way.to, &packet);
+        write_free(outbox, way.names, way.from, &packet);
         to.received.put(packet);
     }
 }

@@ -2,7 +2,7 @@
 ghost use Rattle.std.specs.Prelude.{◌<◌, ◌++◌, length, codes, slice_index};
 ghost use Rattle.std.specs.Fmt.{decimal};
 ghost use Rattle.rio_chars.specs.HexText.{hex_of};
-ghost use Rattle.rio_chars.specs.Telling.{Puts};
+ghost use Rattle.rio_chars.specs.Written.{Writes};
 ghost use Rattle.fabric_model.specs.Steps.{Hold, Free, Linked, Take, Leave, AtNode};
 ghost use Rattle.fabric_model.specs.Lines.{Begun, Stepped};
 ghost use Rattle.fabric_model.specs.Text.{name_of, port_text, hex_text, line_text, trace_line_text};
@@ -12,102 +12,86 @@ use fabric_model::{Line, Name, PortRef};
 use rio_chars::{Outbox, Sink};
 use rio_packets::Packet;
 
-/// Tells text as it is.
-pub(crate) fn put<K: Sink>(outbox: &mut Outbox, sink: &mut K, text: &[u8])
-    ensures { Puts (K.written sink.old) (K.faults sink.old) outbox.old (K.written sink.new) (K.faults sink.new) outbox.new (text.now) }
-{
-    outbox.put(sink, text);
-}
-
 /// Tells the line by which an event begins.
-pub(crate) fn put_begun<K: Sink>(outbox: &mut Outbox, sink: &mut K, names: &[Name], line: &Line)
+pub(crate) fn write_begun<K: Sink>(outbox: &mut Outbox<K>, names: &[Name], line: &Line)
     requires { AreNamed names.now line.now }
-    ensures { Puts (K.written sink.old) (K.faults sink.old) outbox.old (K.written sink.new) (K.faults sink.new) outbox.new (trace_line_text names.now (Begun line.now)) }
+    ensures { Writes K.written K.faults outbox.old outbox.new (trace_line_text names.now (Begun line.now)) }
 {
-    put(outbox, sink, b"> ");
-    put_line(outbox, sink, names, line);
-    put(outbox, sink, b"\n");
+    outbox.write(b"> ");
+    write_line(outbox, names, line);
+    outbox.write(b"\n");
 }
 
 /// Tells that a port holds a packet.
-pub(crate) fn put_hold<K: Sink>(
-    outbox: &mut Outbox,
-    sink: &mut K,
+pub(crate) fn write_hold<K: Sink>(
+    outbox: &mut Outbox<K>,
     names: &[Name],
     port: PortRef,
     packet: &Packet,
 )
     requires { port.node < length names.now }
-    ensures { Puts (K.written sink.old) (K.faults sink.old) outbox.old (K.written sink.new) (K.faults sink.new) outbox.new (trace_line_text names.now (Stepped (Linked (Hold port packet.now)))) }
+    ensures { Writes K.written K.faults outbox.old outbox.new (trace_line_text names.now (Stepped (Linked (Hold port packet.now)))) }
 {
-    put(outbox, sink, b"hold ");
-    put_port(outbox, sink, names, port);
-    put_packet(outbox, sink, packet);
+    outbox.write(b"hold ");
+    write_port(outbox, names, port);
+    write_packet(outbox, packet);
 }
 
 /// Tells that a port frees a packet.
-pub(crate) fn put_free<K: Sink>(
-    outbox: &mut Outbox,
-    sink: &mut K,
+pub(crate) fn write_free<K: Sink>(
+    outbox: &mut Outbox<K>,
     names: &[Name],
     port: PortRef,
     packet: &Packet,
 )
     requires { port.node < length names.now }
-    ensures { Puts (K.written sink.old) (K.faults sink.old) outbox.old (K.written sink.new) (K.faults sink.new) outbox.new (trace_line_text names.now (Stepped (Linked (Free port packet.now)))) }
+    ensures { Writes K.written K.faults outbox.old outbox.new (trace_line_text names.now (Stepped (Linked (Free port packet.now)))) }
 {
-    put(outbox, sink, b"free ");
-    put_port(outbox, sink, names, port);
-    put_packet(outbox, sink, packet);
+    outbox.write(b"free ");
+    write_port(outbox, names, port);
+    write_packet(outbox, packet);
 }
 
 /// Tells that an endpoint takes a packet.
-pub(crate) fn put_take<K: Sink>(
-    outbox: &mut Outbox,
-    sink: &mut K,
-    names: &[Name],
-    node: u8,
-    packet: &Packet,
-)
+pub(crate) fn write_take<K: Sink>(outbox: &mut Outbox<K>, names: &[Name], node: u8, packet: &Packet)
     requires { node < length names.now }
-    ensures { Puts (K.written sink.old) (K.faults sink.old) outbox.old (K.written sink.new) (K.faults sink.new) outbox.new (trace_line_text names.now (Stepped (AtNode (Take node packet.now)))) }
+    ensures { Writes K.written K.faults outbox.old outbox.new (trace_line_text names.now (Stepped (AtNode (Take node packet.now)))) }
 {
-    put(outbox, sink, b"take ");
-    put_name(outbox, sink, names, node);
-    put_packet(outbox, sink, packet);
+    outbox.write(b"take ");
+    write_name(outbox, names, node);
+    write_packet(outbox, packet);
 }
 
 /// Tells that a packet leaves at an endpoint.
-pub(crate) fn put_leave<K: Sink>(
-    outbox: &mut Outbox,
-    sink: &mut K,
+pub(crate) fn write_leave<K: Sink>(
+    outbox: &mut Outbox<K>,
     names: &[Name],
     node: u8,
     packet: &Packet,
 )
     requires { node < length names.now }
-    ensures { Puts (K.written sink.old) (K.faults sink.old) outbox.old (K.written sink.new) (K.faults sink.new) outbox.new (trace_line_text names.now (Stepped (AtNode (Leave node packet.now)))) }
+    ensures { Writes K.written K.faults outbox.old outbox.new (trace_line_text names.now (Stepped (AtNode (Leave node packet.now)))) }
 {
-    put(outbox, sink, b"leave ");
-    put_name(outbox, sink, names, node);
-    put_packet(outbox, sink, packet);
+    outbox.write(b"leave ");
+    write_name(outbox, names, node);
+    write_packet(outbox, packet);
 }
 
-fn put_packet<K: Sink>(outbox: &mut Outbox, sink: &mut K, packet: &Packet)
-    ensures { Puts (K.written sink.old) (K.faults sink.old) outbox.old (K.written sink.new) (K.faults sink.new) outbox.new (codes " " ++ (hex_of packet.now ++ codes "\n")) }
+fn write_packet<K: Sink>(outbox: &mut Outbox<K>, packet: &Packet)
+    ensures { Writes K.written K.faults outbox.old outbox.new (codes " " ++ (hex_of packet.now ++ codes "\n")) }
 {
-    put(outbox, sink, b" ");
-    outbox.put_hex(sink, packet.bytes());
-    put(outbox, sink, b"\n");
+    outbox.write(b" ");
+    outbox.write_hex(packet.bytes());
+    outbox.write(b"\n");
 }
 
-fn put_line<K: Sink>(outbox: &mut Outbox, sink: &mut K, names: &[Name], line: &Line)
+fn write_line<K: Sink>(outbox: &mut Outbox<K>, names: &[Name], line: &Line)
     requires { AreNamed names.now line.now }
-    ensures { Puts (K.written sink.old) (K.faults sink.old) outbox.old (K.written sink.new) (K.faults sink.new) outbox.new (line_text names.now line.now) }
+    ensures { Writes K.written K.faults outbox.old outbox.new (line_text names.now line.now) }
 {
     match line {
-        Line::Endpoint { name, id } => put_endpoint(outbox, sink, names, *name, *id),
-        Line::Link { a, b } => put_link(outbox, sink, names, *a, *b),
+        Line::Endpoint { name, id } => write_endpoint(outbox, names, *name, *id),
+        Line::Link { a, b } => write_link(outbox, names, *a, *b),
         Line::Send {
             node,
             prio,
@@ -122,32 +106,32 @@ fn put_line<K: Sink>(outbox: &mut Outbox, sink: &mut K, names: &[Name], line: &L
                 dest: *dest,
                 bytes: hex.as_slice(),
             };
-            put_send(outbox, sink, names, &sending);
+            write_send(outbox, names, &sending);
         }
-        Line::Settle { port } => put_settle(outbox, sink, names, *port),
-        Line::Collect { node } => put_collect(outbox, sink, names, *node),
+        Line::Settle { port } => write_settle(outbox, names, *port),
+        Line::Collect { node } => write_collect(outbox, names, *node),
     }
 }
 
-fn put_endpoint<K: Sink>(outbox: &mut Outbox, sink: &mut K, names: &[Name], name: u8, id: u8)
+fn write_endpoint<K: Sink>(outbox: &mut Outbox<K>, names: &[Name], name: u8, id: u8)
     requires { name < length names.now }
-    ensures { Puts (K.written sink.old) (K.faults sink.old) outbox.old (K.written sink.new) (K.faults sink.new) outbox.new (codes "endpoint " ++ name_of names.now name ++ codes " " ++ decimal id) }
+    ensures { Writes K.written K.faults outbox.old outbox.new (codes "endpoint " ++ name_of names.now name ++ codes " " ++ decimal id) }
 {
-    put(outbox, sink, b"endpoint ");
-    put_name(outbox, sink, names, name);
-    put(outbox, sink, b" ");
-    put_number(outbox, sink, id);
+    outbox.write(b"endpoint ");
+    write_name(outbox, names, name);
+    outbox.write(b" ");
+    write_number(outbox, id);
 }
 
-fn put_link<K: Sink>(outbox: &mut Outbox, sink: &mut K, names: &[Name], a: PortRef, b: PortRef)
+fn write_link<K: Sink>(outbox: &mut Outbox<K>, names: &[Name], a: PortRef, b: PortRef)
     requires a { a.node < length names.now }
     requires b { b.node < length names.now }
-    ensures { Puts (K.written sink.old) (K.faults sink.old) outbox.old (K.written sink.new) (K.faults sink.new) outbox.new (codes "link " ++ port_text names.now a ++ codes " " ++ port_text names.now b) }
+    ensures { Writes K.written K.faults outbox.old outbox.new (codes "link " ++ port_text names.now a ++ codes " " ++ port_text names.now b) }
 {
-    put(outbox, sink, b"link ");
-    put_port(outbox, sink, names, a);
-    put(outbox, sink, b" ");
-    put_port(outbox, sink, names, b);
+    outbox.write(b"link ");
+    write_port(outbox, names, a);
+    outbox.write(b" ");
+    write_port(outbox, names, b);
 }
 
 // What a `send` line says.
@@ -160,74 +144,74 @@ struct Sending<'a> {
     bytes: &'a [u8],
 }
 
-fn put_send<K: Sink>(outbox: &mut Outbox, sink: &mut K, names: &[Name], sending: &Sending)
+fn write_send<K: Sink>(outbox: &mut Outbox<K>, names: &[Name], sending: &Sending)
     requires { sending.now.node < length names.now }
-    ensures { Puts (K.written sink.old) (K.faults sink.old) outbox.old (K.written sink.new) (K.faults sink.new) outbox.new (codes "send " ++ name_of names.now sending.now.node ++ codes " " ++ decimal sending.now.prio ++ codes " " ++ decimal sending.now.ftype ++ codes " " ++ decimal sending.now.dest ++ codes " " ++ hex_text sending.now.bytes.now) }
+    ensures { Writes K.written K.faults outbox.old outbox.new (codes "send " ++ name_of names.now sending.now.node ++ codes " " ++ decimal sending.now.prio ++ codes " " ++ decimal sending.now.ftype ++ codes " " ++ decimal sending.now.dest ++ codes " " ++ hex_text sending.now.bytes.now) }
 {
-    put(outbox, sink, b"send ");
-    put_name(outbox, sink, names, sending.node);
-    put(outbox, sink, b" ");
-    put_header(outbox, sink, sending.prio, sending.ftype, sending.dest);
-    put(outbox, sink, b" ");
-    put_bytes(outbox, sink, sending.bytes);
+    outbox.write(b"send ");
+    write_name(outbox, names, sending.node);
+    outbox.write(b" ");
+    write_header(outbox, sending.prio, sending.ftype, sending.dest);
+    outbox.write(b" ");
+    write_bytes(outbox, sending.bytes);
 }
 
 // Priority, packet type and destination ID.
-fn put_header<K: Sink>(outbox: &mut Outbox, sink: &mut K, prio: u8, ftype: u8, dest: u8)
-    ensures { Puts (K.written sink.old) (K.faults sink.old) outbox.old (K.written sink.new) (K.faults sink.new) outbox.new (decimal prio ++ codes " " ++ decimal ftype ++ codes " " ++ decimal dest) }
+fn write_header<K: Sink>(outbox: &mut Outbox<K>, prio: u8, ftype: u8, dest: u8)
+    ensures { Writes K.written K.faults outbox.old outbox.new (decimal prio ++ codes " " ++ decimal ftype ++ codes " " ++ decimal dest) }
 {
-    put_number(outbox, sink, prio);
-    put(outbox, sink, b" ");
-    put_number(outbox, sink, ftype);
-    put(outbox, sink, b" ");
-    put_number(outbox, sink, dest);
+    write_number(outbox, prio);
+    outbox.write(b" ");
+    write_number(outbox, ftype);
+    outbox.write(b" ");
+    write_number(outbox, dest);
 }
 
-fn put_settle<K: Sink>(outbox: &mut Outbox, sink: &mut K, names: &[Name], port: PortRef)
+fn write_settle<K: Sink>(outbox: &mut Outbox<K>, names: &[Name], port: PortRef)
     requires { port.node < length names.now }
-    ensures { Puts (K.written sink.old) (K.faults sink.old) outbox.old (K.written sink.new) (K.faults sink.new) outbox.new (codes "settle " ++ port_text names.now port) }
+    ensures { Writes K.written K.faults outbox.old outbox.new (codes "settle " ++ port_text names.now port) }
 {
-    put(outbox, sink, b"settle ");
-    put_port(outbox, sink, names, port);
+    outbox.write(b"settle ");
+    write_port(outbox, names, port);
 }
 
-fn put_collect<K: Sink>(outbox: &mut Outbox, sink: &mut K, names: &[Name], node: u8)
+fn write_collect<K: Sink>(outbox: &mut Outbox<K>, names: &[Name], node: u8)
     requires { node < length names.now }
-    ensures { Puts (K.written sink.old) (K.faults sink.old) outbox.old (K.written sink.new) (K.faults sink.new) outbox.new (codes "collect " ++ name_of names.now node) }
+    ensures { Writes K.written K.faults outbox.old outbox.new (codes "collect " ++ name_of names.now node) }
 {
-    put(outbox, sink, b"collect ");
-    put_name(outbox, sink, names, node);
+    outbox.write(b"collect ");
+    write_name(outbox, names, node);
 }
 
 // Bytes in hexadecimal, and a hyphen for no bytes.
-fn put_bytes<K: Sink>(outbox: &mut Outbox, sink: &mut K, bytes: &[u8])
-    ensures { Puts (K.written sink.old) (K.faults sink.old) outbox.old (K.written sink.new) (K.faults sink.new) outbox.new (hex_text bytes.now) }
+fn write_bytes<K: Sink>(outbox: &mut Outbox<K>, bytes: &[u8])
+    ensures { Writes K.written K.faults outbox.old outbox.new (hex_text bytes.now) }
 {
     if bytes.is_empty() {
-        put(outbox, sink, b"-");
+        outbox.write(b"-");
     } else {
-        outbox.put_hex(sink, bytes);
+        outbox.write_hex(bytes);
     }
 }
 
-fn put_number<K: Sink>(outbox: &mut Outbox, sink: &mut K, number: u8)
-    ensures { Puts (K.written sink.old) (K.faults sink.old) outbox.old (K.written sink.new) (K.faults sink.new) outbox.new (decimal number) }
+fn write_number<K: Sink>(outbox: &mut Outbox<K>, number: u8)
+    ensures { Writes K.written K.faults outbox.old outbox.new (decimal number) }
 {
-    outbox.put_decimal(sink, u32::from(number));
+    outbox.write_decimal(u32::from(number));
 }
 
-fn put_name<K: Sink>(outbox: &mut Outbox, sink: &mut K, names: &[Name], node: u8)
+fn write_name<K: Sink>(outbox: &mut Outbox<K>, names: &[Name], node: u8)
     requires { node < length names.now }
-    ensures { Puts (K.written sink.old) (K.faults sink.old) outbox.old (K.written sink.new) (K.faults sink.new) outbox.new (name_of names.now node) }
+    ensures { Writes K.written K.faults outbox.old outbox.new (name_of names.now node) }
 {
-    put(outbox, sink, names[usize::from(node)].as_slice());
+    outbox.write(names[usize::from(node)].as_slice());
 }
 
-fn put_port<K: Sink>(outbox: &mut Outbox, sink: &mut K, names: &[Name], port: PortRef)
+fn write_port<K: Sink>(outbox: &mut Outbox<K>, names: &[Name], port: PortRef)
     requires { port.node < length names.now }
-    ensures { Puts (K.written sink.old) (K.faults sink.old) outbox.old (K.written sink.new) (K.faults sink.new) outbox.new (port_text names.now port) }
+    ensures { Writes K.written K.faults outbox.old outbox.new (port_text names.now port) }
 {
-    put_name(outbox, sink, names, port.node);
-    put(outbox, sink, b".");
-    put_number(outbox, sink, port.port);
+    write_name(outbox, names, port.node);
+    outbox.write(b".");
+    write_number(outbox, port.port);
 }

@@ -1,7 +1,6 @@
 //! The line that a piece of a script's text is.
 
-ghost use Rattle.std.specs.Prelude.{◌≡◌, ◌≢◌, ℕ, ◌+◌, ◌/◌, ◌%◌, ◌<◌, ◌↔◌, List, ◌∷◌, ◌++◌, All, codes, length, IfOk, IsTrue, MatchOption, MatchResult};
-ghost use Rattle.rio_chars.specs.HexText.{hex_digit};
+ghost use Rattle.std.specs.Prelude.{◌≡◌, ◌≢◌, ℕ, ◌+◌, ◌<◌, ◌↔◌, List, ◌∷◌, ◌++◌, All, codes, length, IfOk, IsTrue, MatchOption, MatchResult};
 ghost use Rattle.fabric_model.specs.Text.{hex_text};
 ghost use Rattle.fabric_replay.specs.Forms.{IsGoodLength};
 ghost use Rattle.fabric_replay.specs.Spelling.{Reads, is_skipped, reason_number};
@@ -138,39 +137,8 @@ fn read_hex(alloc: Global, word: &[u8]) -> Result<Option<Hex>, AllocError>
     if word.is_empty() {
         return Ok(None);
     }
-    let mut bytes = Vec::with_capacity(alloc, word.len() / 2)?;
-    let mut left = word;
-    while let [high, low, rest @ ..] = left {
-        let Some(byte) = read_byte(*high, *low) else {
-            return Ok(None);
-        };
-        bytes.push(byte)?;
-        left = rest;
-    }
-    if !left.is_empty() {
+    let Some(bytes) = rio_chars::read_hex(alloc, word)? else {
         return Ok(None);
-    }
+    };
     Ok(Some(Hex::new(bytes)))
-}
-
-// The byte of two digits.
-fn read_byte(high: u8, low: u8) -> Option<u8>
-    ensures { MatchOption result
-        ((byte : ℕ) → byte < 256 → high ≡ hex_digit (byte / 16) → low ≢ hex_digit (byte % 16))
-        (λ byte. (byte < 256) × (high ≡ hex_digit (byte / 16)) × (low ≡ hex_digit (byte % 16))) }
-{
-    Some(digit_value(high)? * 16 + digit_value(low)?)
-}
-
-// The value of a lower-case hexadecimal digit.
-fn digit_value(digit: u8) -> Option<u8>
-    ensures { MatchOption result
-        ((value : ℕ) → value < 16 → digit ≢ hex_digit value)
-        (λ value. (value < 16) × (digit ≡ hex_digit value)) }
-{
-    match digit {
-        b'0'..=b'9' => Some(digit - b'0'),
-        b'a'..=b'f' => Some(digit - b'a' + 10),
-        _ => None,
-    }
 }

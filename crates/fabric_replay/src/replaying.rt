@@ -1,14 +1,15 @@
 //! A script is carried out and its trace written.
-ghost use Rattle.std.specs.Prelude.{◌≤◌, ◌≡◌, IsErrOf, OnOk};
+ghost use Rattle.std.specs.Prelude.{◌≤◌, ◌≡◌, true, false, [], IsErrOf, OnOk};
 ghost use Rattle.std.specs.Io.KnownBytes.{Keeps};
 ghost use Rattle.rio_chars.specs.Faults.{Rose};
+ghost use Rattle.fabric_replay.specs.Events.{IsBare};
 ghost use Rattle.fabric_replay.specs.Forms.{Passes};
 ghost use Rattle.fabric_replay.specs.Replaying.{Replayed, ReplayedFront};
+ghost use Rattle.fabric_replay.specs.declared.replaying.ReplayEnd.TheVariants.{NoMemory};
 
 use crate::fabric::Fabric;
-use crate::printing::put;
 use fabric_model::Script;
-use rio_chars::{Outbox, Sink};
+use rio_chars::{Outbox, Sink, TextBuffer};
 use std::alloc::Global;
 
 /// Why a replay ended early.
@@ -20,36 +21,69 @@ pub enum ReplayEnd {
     NoMemory,
 }
 
+impl From<rio_chars::NoMemory> for ReplayEnd {
+    ghost from_gives = { λ _ end. end ≡ NoMemory };
+
+    fn from(_: rio_chars::NoMemory) -> Self {
+        ReplayEnd::NoMemory
+    }
+}
+
 /// Carries out the events of a script in order and writes its trace, in pieces of kilobytes.
 ///
-/// WriteFault comes only where the sink's count of faults rose: then a front of the trace was written, and nothing more
-/// is carried out after the event in which a write failed. All memory is taken before anything is written.
+/// WriteFault comes only if the sink's count of faults rose, and the count rises at no other answer: then a front of the
+/// trace was written, and nothing more is carried out after the event in which a write failed. All memory is taken before
+/// anything is written.
 pub fn replay<K: Sink>(alloc: Global, script: &Script, sink: &mut K) -> Result<(), ReplayEnd>
     requires { Passes script.now.names.items script.now.lines.items }
-    ensures done { OnOk result (Replayed script.now.names.items script.now.lines.items (K.written sink.old) (K.written sink.new)) }
-    ensures write_fault { IsErrOf result ReplayEnd.WriteFault → Rose (K.faults sink.old) (K.faults sink.new)
-        × ReplayedFront script.now.names.items script.now.lines.items (K.written sink.old) (K.written sink.new) }
-    ensures no_memory { IsErrOf result ReplayEnd.NoMemory → (K.faults sink.new ≡ K.faults sink.old) × Keeps (K.written sink.old) (K.written sink.new) }
+    ensures done { OnOk result (Replayed script.now.names.items script.now.lines.items
+        (K.written sink.old) (K.written sink.new)) }
+    ensures write_fault { IsErrOf result ReplayEnd.WriteFault
+        → Rose (K.faults sink.old) (K.faults sink.new)
+        × ReplayedFront script.now.names.items script.now.lines.items
+        (K.written sink.old) (K.written sink.new) }
+    ensures no_memory { IsErrOf result ReplayEnd.NoMemory
+        → Keeps (K.written sink.old) (K.written sink.new) }
+    ensures counts { ¬ IsErrOf result ReplayEnd.WriteFault
+        → K.faults sink.new ≡ K.faults sink.old }
     ensures never_falls { K.faults sink.old ≤ K.faults sink.new }
 {
-    let Ok(mut outbox) = Outbox::new(alloc) else {
-        return Err(ReplayEnd::NoMemory);
-    };
-    let Ok(mut fabric) = Fabric::new(alloc) else {
-        return Err(ReplayEnd::NoMemory);
-    };
-    for numbered in &script.lines {
-        if numbered.line.is_event() {
-            fabric.event(&script.names, &numbered.line, &mut outbox, sink);
-            if outbox.failed() {
-                return Err(ReplayEnd::WriteFault);
-            }
-        }
-    }
-    put(&mut outbox, sink, b"end\n");
-    outbox.flush(sink);
+    let mut buffer = TextBuffer::new(alloc)?;
+    let mut fabric = Fabric::new(alloc)?;
+    let mut outbox = Outbox::new(&mut buffer, sink);
+    write_trace(script, &mut fabric, &mut outbox);
     if outbox.failed() {
         return Err(ReplayEnd::WriteFault);
     }
     Ok(())
+}
+
+// Carries out the events and writes the trace, up to the event in which a write failed.
+fn write_trace<K: Sink>(script: &Script, fabric: &mut Fabric, outbox: &mut Outbox<K>)
+    requires passes { Passes script.now.names.items script.now.lines.items }
+    requires bare { IsBare fabric.old }
+    requires fine { outbox.old.failed ≡ false }
+    requires empty { outbox.old.buffer.now ≡ [] }
+    ensures same { outbox.new.sink.ghost_name ≡ outbox.old.sink.ghost_name }
+    ensures done { outbox.new.failed ≡ false
+        → Replayed script.now.names.items script.now.lines.items
+        (K.written outbox.old.sink.now) (K.written outbox.new.sink.now) }
+    ensures write_fault { outbox.new.failed ≡ true
+        → Rose (K.faults outbox.old.sink.now) (K.faults outbox.new.sink.now)
+        × ReplayedFront script.now.names.items script.now.lines.items
+        (K.written outbox.old.sink.now) (K.written outbox.new.sink.now) }
+    ensures counts { outbox.new.failed ≡ false
+        → K.faults outbox.new.sink.now ≡ K.faults outbox.old.sink.now }
+    ensures never_falls { K.faults outbox.old.sink.now ≤ K.faults outbox.new.sink.now }
+{
+    for numbered in &script.lines {
+        if numbered.line.is_event() {
+            fabric.event(&script.names, &numbered.line, outbox);
+            if outbox.failed() {
+                return;
+            }
+        }
+    }
+    outbox.write(b"end\n");
+    outbox.flush();
 }

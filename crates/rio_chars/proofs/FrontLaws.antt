@@ -25,3 +25,12 @@ AppendsFront-kept a b c bytes f kept = record { front = f.front; rest = f.rest; 
 
 pub AppendsFront-whole : (a b : Option (List ℕ)) (bytes : List ℕ) (f : AppendsFront a b bytes) → f.rest ≡ [] → Appends a b bytes
 AppendsFront-whole a b bytes f e = subst (Appends a b) (sym (f.whole ∙ ap (λ l. f.front ++ l) e ∙ append-nil f.front)) f.told
+
+-- a front of the first bytes is one of all
+pub AppendsFront-longer : (a b : Option (List ℕ)) (bytes more : List ℕ) → AppendsFront a b bytes → AppendsFront a b (bytes ++ more)
+AppendsFront-longer a b bytes more f = record {
+  front = f.front;
+  rest = f.rest ++ more;
+  whole = ap (λ l. l ++ more) f.whole ∙ append_assoc f.front f.rest more;
+  told = f.told;
+}

@@ -1,8 +1,10 @@
 pub mod FrontLaws
 pub mod TakingLaws
-pub mod TellingLaws
+pub mod WrittenLaws
 pub mod FaultLaws
 pub mod HexLaws
+pub mod HexTable
+pub mod HexWords
 mod DecimalText
 mod Given
 pub mod CharLaws

@@ -1,6 +1,8 @@
 pub mod Faults
 pub mod Fronts
-pub mod Telling
+pub mod Unless
+pub mod Written
+pub mod Lines
 pub mod HexText
 pub mod Takings
 pub mod Memory

@@ -1,13 +1,14 @@
 //! The characters of a serial link, and the edge of the program: where bytes come from and where they go.
 //!
 //! It promises that input is read whole or its fault told, that text is written whole and in order up to the first
-//! write that fails, and that a failure is told only where a count of faults rose. It leaves out 8b/10b code groups,
-//! and it says nothing of the bytes that standard streams give or take: `StdSource` and `StdSink` are trusted.
+//! write that fails, and that a count of faults rises in the calls that tell a fault and in no others. It leaves out
+//! 8b/10b code groups, and it knows of a standard stream's bytes only what std tells of them: nothing.
 //!
 //! - `Char` and `Chars`: a character after 8b/10b decoding, and a list of them; `char_text`, `read_char`.
+//! - `read_hex` and `read_hex_byte`: bytes from hexadecimal digits.
 //! - `Source` and `Sink`: what reads and writes may do; `Failed` and `NoMemory`, why a call gives up.
 //! - `read_all`, with `ReadEnd`, and `write_all`: a whole input, a whole text.
-//! - `Outbox`: text on its way to a sink in pieces of kilobytes, with no branch at each word.
+//! - `Outbox`, over a `TextBuffer`: text on its way to a sink in pieces of kilobytes, with no branch at each word.
 //! - `MemSource` and `MemSink`: in memory, failing in listed calls; `PlainSource` and `PlainSink`: never failing;
 //!   `StdSource` and `StdSink`: over readers and writers of the standard library.
 #![tactic(auto)]
@@ -27,10 +28,12 @@ mod source;
 mod standard;
 #[cfg(test)]
 mod tests;
+mod text_buffer;
 mod texts;
 mod writing;
 
 pub use chars::{Char, Chars};
+pub use digits::{read_hex, read_hex_byte};
 pub use failures::{Failed, NoMemory};
 pub use memory_sink::MemSink;
 pub use memory_source::MemSource;
@@ -40,5 +43,6 @@ pub use reading::{ReadEnd, read_all};
 pub use sink::Sink;
 pub use source::Source;
 pub use standard::{StdSink, StdSource};
+pub use text_buffer::TextBuffer;
 pub use texts::{char_text, read_char};
 pub use writing::write_all;

@@ -1,4 +1,4 @@
-ghost use Rattle.std.specs.Prelude.{◌≡◌, ◌≤◌, ◌<◌, ℕ, List, Some, None, Ok, length, min, IfOk, IsOk, OnErr};
+ghost use Rattle.std.specs.Prelude.{◌≡◌, ◌≤◌, ◌<◌, ℕ, List, Some, None, Ok, length, min, IfOk, OnOk, OnErr};
 ghost use Rattle.std.specs.Io.KnownBytes.{ReadConsumes, WriteAppends};
 ghost use Rattle.rio_chars.specs.Faults.{Rose};
 
@@ -41,6 +41,7 @@ impl Source for PlainSource {
         ensures count { IfOk result (λ n. n ≤ length piece.old) }
         ensures bytes { ReadConsumes (Some self.old) (Some self.new) result piece.new }
         ensures cause { OnErr result (Rose 0 0) }
+        ensures counts { OnOk result (◌≡◌ {A = ℕ} 0 0) }
         ensures never_falls { 0 ≤ 0 }
         ensures amount { result ≡ Ok (min (length piece.old) (length self.old)) }
     {
@@ -74,6 +75,7 @@ impl Sink for PlainSink {
         ensures progress { IfOk result (λ n. 0 < length piece.now → 0 < n) }
         ensures bytes { WriteAppends None None result piece.now }
         ensures cause { OnErr result (Rose 0 0) }
+        ensures counts { OnOk result (◌≡◌ {A = ℕ} 0 0) }
         ensures never_falls { 0 ≤ 0 }
         ensures whole { result ≡ Ok (length piece.now) }
     {

@@ -42,9 +42,9 @@ impl From<AllocError> for ReadEnd {
 // A piece is a multiple of the pages that systems hand over, and small enough for a near cache.
 const PIECE: usize = 65536;
 
-/// Reads all bytes up to the end of input, at most `limit` of them. TooLong comes where there is one more, which is the last
-/// that it reads; Fault where a read failed; and NoMemory where memory was not given, for the piece that it reads into or
-/// for the bytes. At each of them the bytes that it has read are lost.
+/// Reads all bytes up to the end of input, at most `limit` of them. TooLong comes if there is one more, which is the last
+/// that it reads; Fault if a read failed, and then the count of faults rose, as at no other answer; NoMemory if memory was
+/// not given, for the piece that it reads into or for the bytes. At each of them the bytes that it has read are lost.
 pub fn read_all<S: Source>(alloc: Global, source: &mut S, limit: usize) -> Result<Vec<u8>, ReadEnd>
     ensures whole { IfOk result (λ bytes. Consumes (S.left source.old) (S.left source.new) bytes.items) }
     ensures end { OnOk result (IsAtEnd (S.left source.new)) }
@@ -54,6 +54,7 @@ pub fn read_all<S: Source>(alloc: Global, source: &mut S, limit: usize) -> Resul
     ensures fits { IfSome (S.left source.old) (λ left. length left ≤ limit → ¬ IsErrOf result ReadEnd.TooLong) }
     ensures longer { IfSome (S.left source.old) (λ left. limit < length left → ¬ IsOk result) }
     ensures bounded { ConsumesUpTo (S.left source.old) (S.left source.new) (limit + 1) }
+    ensures counts { ¬ IsErrOf result ReadEnd.Fault → S.faults source.new ≡ S.faults source.old }
     ensures never_falls { S.faults source.old ≤ S.faults source.new }
 {
     let mut bytes = Vec::new(alloc);
@@ -78,6 +79,7 @@ fn take_up<S: Source>(
     ensures fault { IsErrOf result ReadEnd.Fault → Rose (S.faults source.old) (S.faults source.new) }
     ensures too_long { IsErrOf result ReadEnd.TooLong → (taken : List ℕ) × Consumes (S.left source.old) (S.left source.new) taken × (length bytes.old.items + length taken ≡ limit + 1) }
     ensures bounded { (taken : List ℕ) × Consumes (S.left source.old) (S.left source.new) taken × (length bytes.old.items + length taken ≤ limit + 1) }
+    ensures counts { ¬ IsErrOf result ReadEnd.Fault → S.faults source.new ≡ S.faults source.old }
     ensures never_falls { S.faults source.old ≤ S.faults source.new }
 {
     let room = limit - bytes.len();

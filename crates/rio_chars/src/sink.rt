@@ -1,4 +1,4 @@
-ghost use Rattle.std.specs.Prelude.{List, ℕ, Option, length, ◌≤◌, ◌<◌, IfOk, OnErr};
+ghost use Rattle.std.specs.Prelude.{◌≡◌, List, ℕ, Option, length, ◌≤◌, ◌<◌, IfOk, OnOk, OnErr};
 ghost use Rattle.std.specs.Io.KnownBytes.{WriteAppends};
 ghost use Rattle.rio_chars.specs.Faults.{Rose};
 
@@ -13,11 +13,12 @@ pub trait Sink {
     ghost faults: { Self → ℕ };
 
     /// Writes some of the first bytes of the piece and answers how many: at least one of a piece that is not empty.
-    /// Failed comes only where the count of faults rose, and then nothing was written.
+    /// Failed comes only if the count of faults rose, and then nothing was written. The count rises in no other call.
     fn write(&mut self, piece: &[u8]) -> Result<usize, Failed>
         ensures count { IfOk result (λ n. n ≤ length piece.now) }
         ensures progress { IfOk result (λ n. 0 < length piece.now → 0 < n) }
         ensures bytes { WriteAppends (written self.old) (written self.new) result piece.now }
         ensures cause { OnErr result (Rose (faults self.old) (faults self.new)) }
+        ensures counts { OnOk result (faults self.new ≡ faults self.old) }
         ensures never_falls { faults self.old ≤ faults self.new };
 }

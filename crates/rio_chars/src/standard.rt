@@ -1,13 +1,13 @@
-ghost use Rattle.std.specs.Prelude.{◌≡◌, ◌≤◌, ◌<◌, ℕ, None, length, OnErr, IfOk, IfSome, OnOk};
-ghost use Rattle.std.specs.Io.KnownBytes.{ReadConsumes, WriteAppends};
+ghost use Rattle.std.specs.Prelude.{◌≡◌, ◌≤◌, ◌<◌, ℕ, Option, Some, None, List, [], length, take, MatchOption, OnErr, IfOk, IfSome, OnOk};
+ghost use Rattle.std.specs.Io.KnownBytes.{ReadConsumes, WriteAppends, Consumes, Appends, Keeps, IsAtEnd};
 ghost use Rattle.rio_chars.specs.Faults.{Rose};
 ghost use Rattle.rio_chars.specs.Memory.{counted};
 
 use crate::{Failed, Sink, Source};
 use std::io::{ErrorKind, Read, Write};
 
-/// A source over a reader of the standard library, as standard input: `StdSource::new(rt.reader())`. It tells
-/// nothing of the bytes that are left.
+/// A source over a reader of the standard library, as standard input: `StdSource::new(rt.reader())`. It tells of the
+/// bytes that are left what the reader tells of itself: those of a slice, and nothing of standard input.
 #[derive(Drop)]
 pub struct StdSource<R> {
     reader: R,
@@ -17,24 +17,25 @@ pub struct StdSource<R> {
 impl<R: Read> StdSource<R> {
     /// A source that has not failed yet.
     pub fn new(reader: R) -> StdSource<R>
-        ensures { result.faults ≡ 0 }
+        ensures reader { result.reader ≡ reader }
+        ensures faults { result.faults ≡ 0 }
     {
         StdSource { reader, faults: 0 }
     }
 }
 
 impl<R: Read> Source for StdSource<R> {
-    ghost left = { λ _. None };
+    ghost left = { λ source. R.remaining source.reader };
 
     ghost faults = { λ source. source.faults };
 
     fn read(&mut self, piece: &mut [u8]) -> Result<usize, Failed>
         ensures count { IfOk result (λ n. n ≤ length piece.old) }
-        ensures bytes { ReadConsumes None None result piece.new }
+        ensures bytes { ReadConsumes (R.remaining self.old.reader) (R.remaining self.new.reader) result piece.new }
         ensures cause { OnErr result (Rose self.old.faults self.new.faults) }
-        ensures never_falls { self.old.faults ≤ self.new.faults }
         ensures counts { OnOk result (self.new.faults ≡ self.old.faults) }
         ensures counts_failure { OnErr result (self.new.faults ≡ counted self.old.faults) }
+        ensures never_falls { self.old.faults ≤ self.new.faults }
     {
         match read_once(&mut self.reader, piece) {
             Some(count) => Ok(count),
@@ -46,9 +47,12 @@ impl<R: Read> Source for StdSource<R> {
     }
 }
 
-// One read, tried again where a signal interrupts it.
+// One read, tried again if a signal interrupts it.
 fn read_once<R: Read>(reader: &mut R, piece: &mut [u8]) -> Option<usize>
-    ensures { IfSome result (λ n. n ≤ length piece.old) }
+    ensures count { IfSome result (λ n. n ≤ length piece.old) }
+    ensures bytes { MatchOption result (Keeps (R.remaining reader.old) (R.remaining reader.new))
+        (λ n. Consumes (R.remaining reader.old) (R.remaining reader.new) (take n piece.new)
+        × (n ≡ 0 → 0 < length piece.new → IsAtEnd (R.remaining reader.new))) }
 {
     for _ in 0..u64::MAX {
         match reader.read(piece) {
@@ -63,8 +67,10 @@ fn read_once<R: Read>(reader: &mut R, piece: &mut [u8]) -> Option<usize>
     None
 }
 
-/// A sink over a writer of the standard library, as standard output: `StdSink::new(io::writer(&rt))`. It keeps
-/// nothing back: what a write took is flushed before it answers. It tells nothing of the bytes that were written.
+/// A sink over a writer of the standard library, as standard output: `StdSink::new(io::writer(&rt))`. It wants a writer
+/// that keeps nothing back, as this one is, and does not flush it: a flush that failed after bytes were taken could not
+/// be answered. It tells of the bytes that were written what the writer tells of itself: those in a `Vec`, and nothing
+/// of standard output.
 #[derive(Drop)]
 pub struct StdSink<W> {
     writer: W,
@@ -74,25 +80,26 @@ pub struct StdSink<W> {
 impl<W: Write> StdSink<W> {
     /// A sink that has not failed yet.
     pub fn new(writer: W) -> StdSink<W>
-        ensures { result.faults ≡ 0 }
+        ensures writer { result.writer ≡ writer }
+        ensures faults { result.faults ≡ 0 }
     {
         StdSink { writer, faults: 0 }
     }
 }
 
 impl<W: Write> Sink for StdSink<W> {
-    ghost written = { λ _. None };
+    ghost written = { λ sink. W.contents sink.writer };
 
     ghost faults = { λ sink. sink.faults };
 
     fn write(&mut self, piece: &[u8]) -> Result<usize, Failed>
         ensures count { IfOk result (λ n. n ≤ length piece.now) }
         ensures progress { IfOk result (λ n. 0 < length piece.now → 0 < n) }
-        ensures bytes { WriteAppends None None result piece.now }
+        ensures bytes { WriteAppends (W.contents self.old.writer) (W.contents self.new.writer) result piece.now }
         ensures cause { OnErr result (Rose self.old.faults self.new.faults) }
-        ensures never_falls { self.old.faults ≤ self.new.faults }
         ensures counts { OnOk result (self.new.faults ≡ self.old.faults) }
         ensures counts_failure { OnErr result (self.new.faults ≡ counted self.old.faults) }
+        ensures never_falls { self.old.faults ≤ self.new.faults }
     {
         match write_once(&mut self.writer, piece) {
             Some(count) => Ok(count),
@@ -104,15 +111,17 @@ impl<W: Write> Sink for StdSink<W> {
     }
 }
 
-// One write and its flush, tried again where a signal interrupts the write. A writer that takes nothing has failed.
+// One write, tried again if a signal interrupts it. A writer that takes nothing of some bytes has failed.
 fn write_once<W: Write>(writer: &mut W, piece: &[u8]) -> Option<usize>
     ensures count { IfSome result (λ n. n ≤ length piece.now) }
     ensures progress { IfSome result (λ n. 0 < length piece.now → 0 < n) }
+    ensures bytes { MatchOption result (Keeps (W.contents writer.old) (W.contents writer.new))
+        (λ n. Appends (W.contents writer.old) (W.contents writer.new) (take n piece.now)) }
 {
     for _ in 0..u64::MAX {
         match writer.write(piece) {
             Ok(count) => {
-                if (count == 0 && !piece.is_empty()) || writer.flush().is_err() {
+                if count == 0 && !piece.is_empty() {
                     return None;
                 }
                 return Some(count);

@@ -1,6 +1,6 @@
 use crate::{
     Char, MemSink, MemSource, Outbox, PlainSink, PlainSource, ReadEnd, StdSink, StdSource,
-    char_text, read_all, read_char, write_all,
+    TextBuffer, char_text, read_all, read_char, read_hex, write_all,
 };
 use std::test::Fail;
 
@@ -61,13 +61,14 @@ fn text_is_told_until_a_write_fails(rt: HostRuntime) -> Result<(), Fail> {
         let Ok(mut sink) = MemSink::new(alloc, 64, 5, fails) else {
             panic!(rt; "no memory");
         };
-        let Ok(mut outbox) = Outbox::new(alloc) else {
+        let Ok(mut buffer) = TextBuffer::new(alloc) else {
             panic!(rt; "no memory");
         };
-        outbox.put(&mut sink, b"port ");
-        outbox.put_decimal(&mut sink, 4294967295);
-        outbox.put_hex(&mut sink, &[0x0a, 0xff]);
-        outbox.flush(&mut sink);
+        let mut outbox = Outbox::new(&mut buffer, &mut sink);
+        outbox.write(b"port ");
+        outbox.write_decimal(4294967295);
+        outbox.write_hex(&[0x0a, 0xff]);
+        outbox.flush();
         assert_eq!(rt; outbox.failed(), call < 4);
         let text = b"port 42949672950aff";
         assert_eq!(rt; sink.written(), &text[..(5 * call as usize).min(19)]);
@@ -90,6 +91,20 @@ fn characters_are_spelled_and_read_back(rt: HostRuntime) {
     assert_eq!(rt; read_char(b"d5A"), None);
     assert_eq!(rt; read_char(b"kbcc"), None);
     assert_eq!(rt; read_char(b""), None);
+}
+
+#[test]
+fn digits_are_read_two_a_byte(rt: HostRuntime) -> Result<(), Fail> {
+    let alloc = rt.alloc();
+    let Some(bytes) = read_hex(alloc, b"00cafe0f")? else {
+        panic!(rt; "no bytes");
+    };
+    assert_eq!(rt; bytes.as_slice(), [0, 0xca, 0xfe, 0x0f].as_slice());
+    assert!(rt; read_hex(alloc, b"")?.is_some());
+    for digits in [b"cA".as_slice(), b"caf", b"g0", b"c ", b"/0", b"0:", b"`0"] {
+        assert!(rt; read_hex(alloc, digits)?.is_none());
+    }
+    Ok(())
 }
 
 #[test]

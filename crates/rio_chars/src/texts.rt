@@ -1,10 +1,10 @@
-ghost use Rattle.std.specs.Prelude.{◌≡◌, ◌≢◌, ◌<◌, ℕ, ◌∷◌, [], Some, IfSome, IfNone};
+ghost use Rattle.std.specs.Prelude.{◌≡◌, ◌≢◌, ◌∷◌, [], Some, IfSome, IfNone};
 ghost use Rattle.rio_chars.specs.CharText.{char_text_of, HasByte};
 ghost use Rattle.rio_chars.specs.HexText.{hex_of};
 ghost use Rattle.rio_chars.specs.declared.chars.Char.{Char};
 
 use crate::Char;
-use crate::digits::{hex_digit, hex_value};
+use crate::digits::{hex_digit, read_hex_byte};
 
 /// The text of a character: `d` or `k` and two lower-case hexadecimal digits, or `inv`.
 pub fn char_text(c: Char) -> [u8; 3]
@@ -17,7 +17,7 @@ pub fn char_text(c: Char) -> [u8; 3]
     }
 }
 
-/// The character of a text, or None where the word is the text of no character.
+/// The character of a text, or None if the word is the text of no character.
 pub fn read_char(word: &[u8]) -> Option<Char>
     ensures text { IfSome result (λ c. word.now ≡ char_text_of c) }
     ensures byte { IfSome result HasByte }
@@ -25,8 +25,8 @@ pub fn read_char(word: &[u8]) -> Option<Char>
     ensures reads_back { (c : Char) → HasByte c → word.now ≡ char_text_of c → result ≡ Some c }
 {
     match word {
-        [b'd', high, low] => Some(Char::Data(read_byte(*high, *low)?)),
-        [b'k', high, low] => Some(Char::Special(read_byte(*high, *low)?)),
+        [b'd', high, low] => Some(Char::Data(read_hex_byte(*high, *low)?)),
+        [b'k', high, low] => Some(Char::Special(read_hex_byte(*high, *low)?)),
         b"inv" => Some(Char::Invalid),
         _ => None,
     }
@@ -36,12 +36,4 @@ fn spelled(kind: u8, byte: u8) -> [u8; 3]
     ensures { result ≡ kind ∷ hex_of (byte ∷ []) }
 {
     [kind, hex_digit(byte / 16), hex_digit(byte % 16)]
-}
-
-// The byte of two digits.
-fn read_byte(high: u8, low: u8) -> Option<u8>
-    ensures text { IfSome result (λ byte. (high ∷ low ∷ []) ≡ hex_of (byte ∷ [])) }
-    ensures none { IfNone result ((byte : ℕ) → byte < 256 → (high ∷ low ∷ []) ≢ hex_of (byte ∷ [])) }
-{
-    Some(16 * hex_value(high)? + hex_value(low)?)
 }

@@ -12,7 +12,8 @@ use Rattle.std.proofs.lemmas.Grind.{flat_map-append}
 use Rattle.std.proofs.lemmas.List.Elements.{filter-append}
 use Rattle.rio_chars.proofs.CharLaws.{char_text_of-injective}
 use Rattle.rio_chars.specs.declared.chars.Char.{Char}
-use Rattle.rio_cli.specs.Decoding.{lines_of, is_word, word_in, words_in, words_of, AreTexts, AreSpelled, SpellsChars, BadWordAt}
+use Rattle.rio_chars.specs.Lines.{lines_of}
+use Rattle.rio_cli.specs.Decoding.{is_word, word_in, words_in, words_of, AreTexts, AreSpelled, SpellsChars, BadWordAt}
 
 pub AreTexts-append : (words more : List (List ℕ)) (chars others : List Char) → AreTexts words chars → AreTexts more others → AreTexts (words ++ more) (chars ++ others)
 AreTexts-append [] more [] others h k = k

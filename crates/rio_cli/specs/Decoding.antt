@@ -1,6 +1,7 @@
 -- What `decode` reads and writes: characters as words, and the lines of their reading.
 use Rattle.std.specs.Prelude.{◌≡◌, ◌↔◌, ℕ, ◌+◌, ◌==◌, Bool, true, false, List, [], ◌∷◌, ◌++◌, length, Option, codes}
 use Rattle.std.specs.List.{filter, flat_map, slice_split}
+use Rattle.rio_chars.specs.Lines.{lines_of}
 use Rattle.std.specs.Fmt.{decimal}
 use Rattle.std.specs.Io.KnownBytes.{Appends}
 use Rattle.rio_chars.specs.CharText.{char_text_of, HasByte}
@@ -13,10 +14,6 @@ use Rattle.rio_packets.specs.declared.cause.Cause.{Cause}
 use Rattle.link_model.specs.declared.event.Event.{Event}
 use Rattle.link_model.specs.declared.event.Event.TheVariants.{Ctl, Pkt, Bad}
 use Rattle.link_model.specs.Reading.{Reads, Plain, IsReading, IsCut}
-
--- the lines of the input; an empty last one, after a final line feed, has no word
-abbrev pub lines_of : List ℕ → List (List ℕ)
-lines_of bytes = slice_split (λ byte. byte == 10) bytes
 
 -- what stands between two spaces that follow each other is no word
 abbrev pub is_word : List ℕ → Bool

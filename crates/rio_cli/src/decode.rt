@@ -1,14 +1,15 @@
 //! Characters are read and the lines of their reading written.
-ghost use Rattle.std.specs.Prelude.{◌≡◌, ◌≤◌, length, IsErrOf, OnOk};
+ghost use Rattle.std.specs.Prelude.{◌≡◌, ◌≤◌, true, false, [], length, IsErrOf, OnOk};
 ghost use Rattle.std.specs.Io.KnownBytes.{Appends, Keeps};
 ghost use Rattle.rio_chars.specs.Faults.{Rose};
 ghost use Rattle.rio_chars.specs.Fronts.{AppendsFront};
 ghost use Rattle.link_model.specs.Places.{start, run, place_after, at_rest};
 ghost use Rattle.rio_cli.specs.Inputs.{most_input};
 ghost use Rattle.rio_cli.specs.Decoding.{decode_text};
+ghost use Rattle.rio_cli.specs.declared.decode.DecodeEnd.TheVariants.{NoMemory};
 
-use crate::lines::{put_end, put_events};
-use rio_chars::{Char, Outbox, Sink};
+use crate::lines::{write_end, write_events};
+use rio_chars::{Char, Outbox, Sink, TextBuffer};
 use rio_framer::Framer;
 use std::alloc::Global;
 
@@ -19,6 +20,14 @@ pub(crate) enum DecodeEnd {
     WriteFault,
     /// Memory ran out.
     NoMemory,
+}
+
+impl From<rio_chars::NoMemory> for DecodeEnd {
+    ghost from_gives = { λ _ end. end ≡ NoMemory };
+
+    fn from(_: rio_chars::NoMemory) -> Self {
+        DecodeEnd::NoMemory
+    }
 }
 
 /// Writes the lines of the reading of characters, and the last line, in pieces of kilobytes. All memory is taken before
@@ -37,22 +46,43 @@ pub(crate) fn decode_chars<K: Sink>(
         (decode_text (run start 0 chars.now) (at_rest (place_after start chars.now))) }
     ensures no_memory { IsErrOf result DecodeEnd.NoMemory
         → Keeps (K.written sink.old) (K.written sink.new) }
+    ensures counts { ¬ IsErrOf result DecodeEnd.WriteFault
+        → K.faults sink.new ≡ K.faults sink.old }
     ensures never_falls { K.faults sink.old ≤ K.faults sink.new }
 {
-    let Ok(mut outbox) = Outbox::new(alloc) else {
-        return Err(DecodeEnd::NoMemory);
-    };
-    let mut framer = Framer::new();
-    for (place, c) in chars.iter().enumerate() {
-        put_events(&mut outbox, sink, place as u32, framer.feed(*c));
-        if outbox.failed() {
-            return Err(DecodeEnd::WriteFault);
-        }
-    }
-    put_end(&mut outbox, sink, framer.at_rest());
-    outbox.flush(sink);
+    let mut buffer = TextBuffer::new(alloc)?;
+    let mut outbox = Outbox::new(&mut buffer, sink);
+    write_reading(chars, &mut outbox);
     if outbox.failed() {
         return Err(DecodeEnd::WriteFault);
     }
     Ok(())
+}
+
+// Writes the lines of the reading, up to the character at which a write failed.
+fn write_reading<K: Sink>(chars: &[Char], outbox: &mut Outbox<K>)
+    requires length { length chars.now ≤ most_input }
+    requires fine { outbox.old.failed ≡ false }
+    requires empty { outbox.old.buffer.now ≡ [] }
+    ensures same { outbox.new.sink.ghost_name ≡ outbox.old.sink.ghost_name }
+    ensures done { outbox.new.failed ≡ false
+        → Appends (K.written outbox.old.sink.now) (K.written outbox.new.sink.now)
+        (decode_text (run start 0 chars.now) (at_rest (place_after start chars.now))) }
+    ensures write_fault { outbox.new.failed ≡ true
+        → Rose (K.faults outbox.old.sink.now) (K.faults outbox.new.sink.now)
+        × AppendsFront (K.written outbox.old.sink.now) (K.written outbox.new.sink.now)
+        (decode_text (run start 0 chars.now) (at_rest (place_after start chars.now))) }
+    ensures counts { outbox.new.failed ≡ false
+        → K.faults outbox.new.sink.now ≡ K.faults outbox.old.sink.now }
+    ensures never_falls { K.faults outbox.old.sink.now ≤ K.faults outbox.new.sink.now }
+{
+    let mut framer = Framer::new();
+    for (place, c) in chars.iter().enumerate() {
+        write_events(outbox, place as u32, framer.feed(*c));
+        if outbox.failed() {
+            return;
+        }
+    }
+    write_end(outbox, framer.at_rest());
+    outbox.flush();
 }

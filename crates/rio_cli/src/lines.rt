@@ -3,7 +3,7 @@ ghost use Rattle.std.specs.Prelude.{◌++◌, codes, None, option_to_list};
 ghost use Rattle.std.specs.List.{flat_map};
 ghost use Rattle.std.specs.Fmt.{decimal};
 ghost use Rattle.rio_chars.specs.HexText.{hex_of};
-ghost use Rattle.rio_chars.specs.Telling.{Puts};
+ghost use Rattle.rio_chars.specs.Written.{Writes};
 ghost use Rattle.link_model.specs.Reading.{placed};
 ghost use Rattle.rio_framer.specs.Giving.{listed};
 ghost use Rattle.rio_cli.specs.Decoding.{spaced, symbol_text, packet_text, bad_text, told_text, event_text, end_text};
@@ -15,126 +15,92 @@ use rio_packets::{Cause, Packet, cause_number};
 use rio_symbols::Symbol;
 
 /// Tells the lines of the events that the character at this place completes.
-pub(crate) fn put_events<K: Sink>(outbox: &mut Outbox, sink: &mut K, place: u32, events: Events)
-    ensures { Puts (K.written sink.old) (K.faults sink.old) outbox.old
-        (K.written sink.new) (K.faults sink.new) outbox.new
-        (flat_map event_text (placed place (listed events.first events.second))) }
+pub(crate) fn write_events<K: Sink>(outbox: &mut Outbox<K>, place: u32, events: Events)
+    ensures { Writes K.written K.faults outbox.old outbox.new (flat_map event_text (placed place (listed events.first events.second))) }
 {
     let Events { first, second } = events;
-    put_first(outbox, sink, place, first);
-    put_second(outbox, sink, place, second);
+    write_first(outbox, place, first);
+    write_second(outbox, place, second);
 }
 
-fn put_first<K: Sink>(outbox: &mut Outbox, sink: &mut K, place: u32, first: Option<Event>)
-    ensures { Puts (K.written sink.old) (K.faults sink.old) outbox.old
-        (K.written sink.new) (K.faults sink.new) outbox.new
-        (flat_map event_text (placed place (listed first None))) }
+fn write_first<K: Sink>(outbox: &mut Outbox<K>, place: u32, first: Option<Event>)
+    ensures { Writes K.written K.faults outbox.old outbox.new (flat_map event_text (placed place (listed first None))) }
 {
     if let Some(event) = first {
-        put_event(outbox, sink, place, &event);
+        write_event(outbox, place, &event);
     }
 }
 
-fn put_second<K: Sink>(outbox: &mut Outbox, sink: &mut K, place: u32, second: Option<Symbol>)
-    ensures { Puts (K.written sink.old) (K.faults sink.old) outbox.old
-        (K.written sink.new) (K.faults sink.new) outbox.new
-        (flat_map event_text (placed place (listed None second))) }
+fn write_second<K: Sink>(outbox: &mut Outbox<K>, place: u32, second: Option<Symbol>)
+    ensures { Writes K.written K.faults outbox.old outbox.new (flat_map event_text (placed place (listed None second))) }
 {
     if let Some(symbol) = second {
-        put_event(outbox, sink, place, &Event::Ctl(symbol));
+        write_event(outbox, place, &Event::Ctl(symbol));
     }
 }
 
-fn put_event<K: Sink>(outbox: &mut Outbox, sink: &mut K, place: u32, event: &Event)
-    ensures { Puts (K.written sink.old) (K.faults sink.old) outbox.old
-        (K.written sink.new) (K.faults sink.new) outbox.new (event_text (place, event.now)) }
+fn write_event<K: Sink>(outbox: &mut Outbox<K>, place: u32, event: &Event)
+    ensures { Writes K.written K.faults outbox.old outbox.new (event_text (place, event.now)) }
 {
-    put_decimal(outbox, sink, place);
-    put_told(outbox, sink, event);
+    outbox.write_decimal(place);
+    write_told(outbox, event);
 }
 
-fn put_told<K: Sink>(outbox: &mut Outbox, sink: &mut K, event: &Event)
-    ensures { Puts (K.written sink.old) (K.faults sink.old) outbox.old
-        (K.written sink.new) (K.faults sink.new) outbox.new (told_text event.now) }
+fn write_told<K: Sink>(outbox: &mut Outbox<K>, event: &Event)
+    ensures { Writes K.written K.faults outbox.old outbox.new (told_text event.now) }
 {
     match event {
-        Event::Ctl(symbol) => put_symbol(outbox, sink, symbol),
-        Event::Pkt(ack, packet) => put_packet(outbox, sink, *ack, packet),
-        Event::Bad(cause) => put_bad(outbox, sink, *cause),
+        Event::Ctl(symbol) => write_symbol(outbox, symbol),
+        Event::Pkt(ack, packet) => write_packet(outbox, *ack, packet),
+        Event::Bad(cause) => write_bad(outbox, *cause),
     }
 }
 
-fn put_symbol<K: Sink>(outbox: &mut Outbox, sink: &mut K, symbol: &Symbol)
-    ensures { Puts (K.written sink.old) (K.faults sink.old) outbox.old
-        (K.written sink.new) (K.faults sink.new) outbox.new (symbol_text symbol.now) }
+fn write_symbol<K: Sink>(outbox: &mut Outbox<K>, symbol: &Symbol)
+    ensures { Writes K.written K.faults outbox.old outbox.new (symbol_text symbol.now) }
 {
-    put(outbox, sink, b" symbol");
-    put_number(outbox, sink, symbol.s0);
-    put_number(outbox, sink, symbol.p0);
-    put_number(outbox, sink, symbol.p1);
-    put_number(outbox, sink, symbol.s1);
-    put_number(outbox, sink, symbol.cmd);
-    put(outbox, sink, b"\n");
+    outbox.write(b" symbol");
+    write_number(outbox, symbol.s0);
+    write_number(outbox, symbol.p0);
+    write_number(outbox, symbol.p1);
+    write_number(outbox, symbol.s1);
+    write_number(outbox, symbol.cmd);
+    outbox.write(b"\n");
 }
 
-fn put_packet<K: Sink>(outbox: &mut Outbox, sink: &mut K, ack: u8, packet: &Packet)
-    ensures { Puts (K.written sink.old) (K.faults sink.old) outbox.old
-        (K.written sink.new) (K.faults sink.new) outbox.new (packet_text ack packet.now) }
+fn write_packet<K: Sink>(outbox: &mut Outbox<K>, ack: u8, packet: &Packet)
+    ensures { Writes K.written K.faults outbox.old outbox.new (packet_text ack packet.now) }
 {
-    put(outbox, sink, b" packet");
-    put_number(outbox, sink, ack);
-    put(outbox, sink, b" ");
-    put_hex(outbox, sink, packet.bytes());
-    put(outbox, sink, b"\n");
+    outbox.write(b" packet");
+    write_number(outbox, ack);
+    outbox.write(b" ");
+    outbox.write_hex(packet.bytes());
+    outbox.write(b"\n");
 }
 
-fn put_bad<K: Sink>(outbox: &mut Outbox, sink: &mut K, cause: Cause)
-    ensures { Puts (K.written sink.old) (K.faults sink.old) outbox.old
-        (K.written sink.new) (K.faults sink.new) outbox.new (bad_text cause) }
+fn write_bad<K: Sink>(outbox: &mut Outbox<K>, cause: Cause)
+    ensures { Writes K.written K.faults outbox.old outbox.new (bad_text cause) }
 {
-    put(outbox, sink, b" bad");
-    put_number(outbox, sink, cause_number(cause));
-    put(outbox, sink, b"\n");
+    outbox.write(b" bad");
+    write_number(outbox, cause_number(cause));
+    outbox.write(b"\n");
 }
 
 /// Tells the last line, by whether neither a symbol nor a packet is in progress.
-pub(crate) fn put_end<K: Sink>(outbox: &mut Outbox, sink: &mut K, at_rest: bool)
-    ensures { Puts (K.written sink.old) (K.faults sink.old) outbox.old
-        (K.written sink.new) (K.faults sink.new) outbox.new (end_text at_rest) }
+pub(crate) fn write_end<K: Sink>(outbox: &mut Outbox<K>, at_rest: bool)
+    ensures { Writes K.written K.faults outbox.old outbox.new (end_text at_rest) }
 {
     if at_rest {
-        put(outbox, sink, b"end\n");
+        outbox.write(b"end\n");
     } else {
-        put(outbox, sink, b"end cut\n");
+        outbox.write(b"end cut\n");
     }
 }
 
 // Tells a number behind a space.
-fn put_number<K: Sink>(outbox: &mut Outbox, sink: &mut K, number: u8)
-    ensures { Puts (K.written sink.old) (K.faults sink.old) outbox.old
-        (K.written sink.new) (K.faults sink.new) outbox.new (spaced number) }
+fn write_number<K: Sink>(outbox: &mut Outbox<K>, number: u8)
+    ensures { Writes K.written K.faults outbox.old outbox.new (spaced number) }
 {
-    put(outbox, sink, b" ");
-    put_decimal(outbox, sink, u32::from(number));
-}
-
-fn put<K: Sink>(outbox: &mut Outbox, sink: &mut K, text: &[u8])
-    ensures { Puts (K.written sink.old) (K.faults sink.old) outbox.old
-        (K.written sink.new) (K.faults sink.new) outbox.new text.now }
-{
-    outbox.put(sink, text);
-}
-
-fn put_hex<K: Sink>(outbox: &mut Outbox, sink: &mut K, bytes: &[u8])
-    ensures { Puts (K.written sink.old) (K.faults sink.old) outbox.old
-        (K.written sink.new) (K.faults sink.new) outbox.new (hex_of bytes.now) }
-{
-    outbox.put_hex(sink, bytes);
-}
-
-fn put_decimal<K: Sink>(outbox: &mut Outbox, sink: &mut K, number: u32)
-    ensures { Puts (K.written sink.old) (K.faults sink.old) outbox.old
-        (K.written sink.new) (K.faults sink.new) outbox.new (decimal number) }
-{
-    outbox.put_decimal(sink, number);
+    outbox.write(b" ");
+    outbox.write_decimal(u32::from(number));
 }

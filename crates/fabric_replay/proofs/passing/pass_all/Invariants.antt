@@ -10,7 +10,7 @@ use Rattle.fabric_replay.proofs.passing.pass_all.Given as goal
 abbrev pub invariant-loop-prio : goal.invariant-loop-prio
 invariant-loop-prio g l = (links : List (PortRef × PortRef)) (registers : List Registers) (s : Seen) → AreEnds l.way.from l.way.to links
     → ShowsEnds l.initial.from.waiting l.initial.from.received l.way.from l.initial.to.waiting l.initial.to.received l.way.to links registers s.network
-    → Passed (Fronts l.way.from l.way.to s) l.way.names.now (g.K.Sink.written l.initial.sink) (g.K.Sink.faults l.initial.sink) l.initial.outbox (g.K.Sink.written l.sink) (g.K.Sink.faults l.sink) l.outbox
+    → Passed (Fronts l.way.from l.way.to s) l.way.names.now g.K.Sink.written g.K.Sink.faults l.initial.outbox l.outbox
     l.way.from l.way.to links registers s l.from l.to
 
 abbrev pub decreases-loop-prio : goal.decreases-loop-prio

@@ -7,7 +7,7 @@ invariant-loop-piece g l = record {
   told : Consumes (g.S.Source.left l.initial.source) (g.S.Source.left l.source) l.bytes.items;
   within : length l.bytes.items ≤ l.limit;
   room : length l.piece.items ≡ 65536;
-  later : g.S.Source.faults l.initial.source ≤ g.S.Source.faults l.source;
+  counts : g.S.Source.faults l.source ≡ g.S.Source.faults l.initial.source;
 }
 
 abbrev pub decreases-loop-piece : goal.decreases-loop-piece

@@ -1,0 +1,81 @@
+ghost use Rattle.std.specs.Prelude.{◌≡◌, ◌≤◌, ◌+◌, ◌*◌, ◌++◌, [], length, IfOk};
+ghost use Rattle.rio_chars.specs.HexText.{hex_of};
+
+use crate::NoMemory;
+use crate::digits::write_hex;
+use crate::memory::zeros;
+use std::alloc::Global;
+use std::marker::Model;
+
+/// The most bytes that wait. It is a multiple of the pages that systems hand over, and small enough for a near cache.
+pub(crate) const ROOM: usize = 65536;
+
+/// The memory of an outbox: text that waits to be written, of at most 65,536 bytes.
+#[derive(Drop)]
+pub struct TextBuffer {
+    bytes: Vec<u8>,
+    len: usize,
+}
+
+impl Model for TextBuffer {
+    ghost use Rattle.std.specs.Prelude.{take, length, List, ℕ, ◌≡◌, ◌≤◌};
+
+    ghost Value = { List ℕ };
+
+    ghost view = { λ buffer. take buffer.len buffer.bytes.items };
+
+    ghost invariant = { λ buffer. (length buffer.bytes.items ≡ 65536) × (buffer.len ≤ 65536) };
+}
+
+impl TextBuffer {
+    /// An empty buffer. All its memory is taken here.
+    pub fn new(alloc: Global) -> Result<TextBuffer, NoMemory>
+        ensures { IfOk result (λ buffer. buffer ≡ []) }
+    {
+        Ok(TextBuffer {
+            bytes: zeros(alloc, ROOM)?,
+            len: 0,
+        })
+    }
+
+    // How many more bytes have room.
+    pub(crate) fn room(&self) -> usize
+        ensures { length self.now + result ≡ 65536 }
+    {
+        ROOM - self.len
+    }
+
+    // The text that waits.
+    pub(crate) fn as_slice(&self) -> &[u8]
+        ensures { result.now ≡ self.now }
+    {
+        &self.bytes[..self.len]
+    }
+
+    // Drops the text that waits.
+    pub(crate) fn clear(&mut self)
+        ensures { self.new ≡ [] }
+    {
+        self.len = 0;
+    }
+
+    // Lets bytes wait that have room.
+    pub(crate) fn append(&mut self, bytes: &[u8])
+        requires { length self.old + length bytes.now ≤ 65536 }
+        ensures { self.new ≡ self.old ++ bytes.now }
+    {
+        let end = self.len + bytes.len();
+        self.bytes[self.len..end].copy_from_slice(bytes);
+        self.len = end;
+    }
+
+    // Lets the digits of bytes wait that have room.
+    pub(crate) fn append_hex(&mut self, bytes: &[u8])
+        requires { length self.old + 2 * length bytes.now ≤ 65536 }
+        ensures { self.new ≡ self.old ++ hex_of bytes.now }
+    {
+        let end = self.len + 2 * bytes.len();
+        write_hex(&mut self.bytes[self.len..end], bytes);
+        self.len = end;
+    }
+}
