@@ -26,7 +26,7 @@ use Rattle.link_model.specs.ReadingKinds.{kind}
 use Rattle.link_model.specs.ReadingSpelt.{delimiter_char, data_chars, symbol_chars_of, bytes_with_ack, packet_chars_of}
 use Rattle.link_model.proofs.ReadingSteps.{course, follow_to, course_step, course_whole, below}
 
-kind-data : (byte : ℕ) → kind (Data byte) ≡ Byte byte
+pub kind-data : (byte : ℕ) → kind (Data byte) ≡ Byte byte
 unfolding kind
 kind-data byte = refl
 

@@ -6,18 +6,15 @@ use Rattle.link_model.specs.declared.event.Event.{Event}
 use Rattle.link_model.specs.Places.{Place, Step, step}
 use Rattle.link_model.specs.Fronts.{Front, no_front, front_by, telling_front}
 use Rattle.rio_framer.specs.Giving.{told_of}
+use Rattle.rio_framer.specs.Parts.{later}
 use Rattle.rio_framer.specs.declared.events.Told.TheVariants as told
 use Rattle.rio_framer.proofs.GivingLaws.{quiet-step}
 
--- a front behind this many characters that tell nothing
-abbrev pub later : ℕ → Front → Front
-later n front = record { count = n + front.count; step = front.step }
-
-front-cons : (from : Place) (c : Char) (cs : List Char) → telling_front from (c ∷ cs) ≡ front_by (step from c).gives (step from c) (telling_front (step from c).place cs)
+pub front-cons : (from : Place) (c : Char) (cs : List Char) → telling_front from (c ∷ cs) ≡ front_by (step from c).gives (step from c) (telling_front (step from c).place cs)
 unfolding telling_front
 front-cons from c cs = refl
 
-front-none : (from : Place) → telling_front from [] ≡ no_front from
+pub front-none : (from : Place) → telling_front from [] ≡ no_front from
 unfolding telling_front
 front-none from = refl
 

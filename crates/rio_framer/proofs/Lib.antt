@@ -2,3 +2,4 @@ pub mod GivingLaws
 pub mod EndedLaws
 pub mod FeedingLaws
 pub mod FrontsLaws
+pub mod PartLaws

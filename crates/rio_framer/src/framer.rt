@@ -1,5 +1,7 @@
 //! The framer.
-ghost use Rattle.std.specs.Prelude.{◌≡◌, ◌≤◌, ◌<◌, ℕ, List, [], ◌∷◌, true, Some, None, IsSome, IfOk, MatchResult};
+ghost use Rattle.std.specs.Prelude.{IsTrue, ◌≡◌, ◌≤◌, ◌<◌, ℕ, List, [], ◌∷◌, true, Some, None, IsSome, IfSome, IfOk, ◌++◌, length, drop, MatchResult};
+ghost use Rattle.link_model.specs.ReadingSpelt.{data_chars};
+ghost use Rattle.rio_framer.specs.Parts.{StartsWithSymbol};
 
 use crate::events::{Events, Told};
 use link_model::{Event, Kind, Pending, char_kind};
@@ -62,14 +64,14 @@ impl Model for Framer {
 }
 
 impl Framer {
-    ghost use Rattle.std.specs.Prelude.{length};
     ghost use Rattle.rio_packets.specs.LinkForm.{Passes};
-    ghost use Rattle.rio_symbols.specs.Spelling.{spelled_in};
+    ghost use Rattle.rio_symbols.specs.Spelling.{spelled, spelled_in};
     ghost use Rattle.link_model.specs.Reading.{Plain, Skipped, Within, text_after, told};
-    ghost use Rattle.link_model.specs.Places.{Step, start, place as place_of, goes, fails, taken, step, step_by, outside as outside_step, broken as broken_step, finished, at_rest as rests};
+    ghost use Rattle.link_model.specs.Places.{Step, start, opened, place as place_of, goes, fails, taken, step, step_by, outside as outside_step, broken as broken_step, finished, at_rest as rests};
     ghost use Rattle.link_model.specs.Fronts.{telling_front};
     ghost use Rattle.rio_framer.specs.Framing.{framing_at, framing_after, IsWithin};
     ghost use Rattle.rio_framer.specs.Giving.{listed, events_of, told_of, events_by, IsPaired};
+    ghost use Rattle.rio_framer.specs.Parts.{IsPart, TakesEight, with_bytes};
 
     /// Nothing is in progress.
     pub fn new() -> Framer
@@ -119,10 +121,13 @@ impl Framer {
         ensures some { 0 < length chars.now → 0 < result.0 }
     {
         self.forget();
-        for place in 0..chars.len() {
-            match self.read(chars[place]) {
+        let mut rest = chars;
+        while !rest.is_empty() {
+            let (count, told) = self.read_part(rest);
+            rest = rest.split_at(count).1;
+            match told {
                 Told::Nothing => {}
-                told => return (place + 1, told),
+                told => return (chars.len() - rest.len(), told),
             }
         }
         (chars.len(), Told::Nothing)
@@ -182,6 +187,69 @@ impl Framer {
             Ok((ack, form)) => Some(Event::Pkt(ack, Packet::from_form(form))),
             Err(cause) => Some(Event::Bad(cause)),
         }
+    }
+
+    /// Takes the first of the characters, or eight data characters or a whole symbol at once.
+    fn read_part(&mut self, chars: &[Char]) -> (usize, Told)
+        requires some { 0 < length chars.now }
+        requires ended { self.old.ended ≡ None }
+        ensures { IsPart self.old.place chars.now result.0 result.1 self.new }
+    {
+        if self.takes_eight() {
+            if let Some(bytes) = eight_bytes(chars) {
+                self.add_eight(bytes);
+                return (8, Told::Nothing);
+            }
+        }
+        if self.is_between() {
+            if let Some((delimiter, x, y, z)) = whole_symbol(chars) {
+                let told = self.read_symbol(delimiter, x, y, z);
+                return (4, told);
+            }
+        }
+        let told = self.take(char_kind(chars[0]));
+        (1, told)
+    }
+
+    /// Whether eight data characters may come in the packet in progress.
+    fn takes_eight(&self) -> bool
+        ensures { IsTrue result → TakesEight self.now.place.text self.now.place.pending }
+    {
+        match (self.mode, self.pending) {
+            (Mode::InPacket, Pending::Nothing) => !self.ended && self.building.len() <= 268,
+            _ => false,
+        }
+    }
+
+    /// Eight data characters of a packet.
+    fn add_eight(&mut self, bytes: [u8; 8])
+        requires ended { self.old.ended ≡ None }
+        requires takes { TakesEight self.old.place.text self.old.place.pending }
+        ensures { self.new ≡ framing_at (place_of (with_bytes self.old.place.text bytes) Pending.Nothing) }
+    {
+        self.building.push_all(&bytes);
+    }
+
+    /// Whether no symbol is in progress.
+    fn is_between(&self) -> bool
+        ensures { IsTrue result → (self.now.place.pending ≡ Pending.Nothing) }
+    {
+        match self.pending {
+            Pending::Nothing => true,
+            _ => false,
+        }
+    }
+
+    /// The delimiter and the three bytes of a symbol, at once.
+    fn read_symbol(&mut self, delimiter: Delimiter, x: u8, y: u8, z: u8) -> Told
+        requires { self.old.ended ≡ None }
+        ensures state { self.new
+            ≡ framing_after (finished (opened self.old.place.text) delimiter (spelled x y z)) }
+        ensures told { result
+            ≡ told_of (finished (opened self.old.place.text) delimiter (spelled x y z)).gives }
+    {
+        self.open(delimiter);
+        self.finish(delimiter, [x, y, z])
     }
 
     /// Takes the next character.
@@ -411,5 +479,39 @@ impl Framer {
             ended: self.ended,
             pending: self.pending,
         }
+    }
+}
+
+/// The bytes of eight data characters, if so many come first.
+fn eight_bytes(chars: &[Char]) -> Option<[u8; 8]>
+    ensures length { IfSome result (λ bytes. length bytes ≡ 8) }
+    ensures is { IfSome result (λ bytes. chars.now ≡ data_chars bytes ++ drop 8 chars.now) }
+{
+    match chars {
+        [
+            Char::Data(a),
+            Char::Data(b),
+            Char::Data(c),
+            Char::Data(d),
+            Char::Data(e),
+            Char::Data(f),
+            Char::Data(g),
+            Char::Data(h),
+            ..
+        ] => Some([*a, *b, *c, *d, *e, *f, *g, *h]),
+        _ => None,
+    }
+}
+
+/// The delimiter and the bytes of a symbol, if one comes first and is not broken off.
+fn whole_symbol(chars: &[Char]) -> Option<(Delimiter, u8, u8, u8)>
+    ensures { IfSome result (λ found. StartsWithSymbol found.0 found.1 found.2 found.3 chars.now) }
+{
+    match chars {
+        [first, Char::Data(x), Char::Data(y), Char::Data(z), ..] => match char_kind(*first) {
+            Kind::Opens(delimiter) => Some((delimiter, *x, *y, *z)),
+            _ => None,
+        },
+        _ => None,
     }
 }

@@ -11,7 +11,7 @@ use std::test::Fail;
 
 /// An event as a table writes it: a symbol by its fields, a packet by its ackID and its bytes.
 #[derive(Clone, Copy, Debug)]
-enum Told {
+enum Wanted {
     Symbol([u8; 5]),
     Packet(u8, [u8; 8]),
     Bad(Cause),
@@ -33,7 +33,7 @@ fn symbols_are_read_and_changed_ones_are_bad(rt: HostRuntime) -> Result<(), Fail
             &rt,
             rt.alloc(),
             good.as_slice(),
-            &[(3, Told::Symbol(NOP))],
+            &[(3, Wanted::Symbol(NOP))],
             true
         )?
     );
@@ -50,7 +50,7 @@ fn symbols_are_read_and_changed_ones_are_bad(rt: HostRuntime) -> Result<(), Fail
                 &rt,
                 rt.alloc(),
                 bad.as_slice(),
-                &[(3, Told::Bad(Cause::BadSymbol))],
+                &[(3, Wanted::Bad(Cause::BadSymbol))],
                 true
             )?,
             "at {text}"
@@ -64,10 +64,10 @@ fn a_packet_goes_on_behind_a_symbol_that_stands_in_it(rt: HostRuntime) -> Result
     let text = "k7c d80 df8 d1f d00 d0f d02 d01 k1c d80 dff d0f dde db2 d00 d00 k7c d80 dfa d18";
     let chars = chars_of(rt.alloc(), text)?;
     let told = [
-        (3, Told::Symbol(START)),
-        (11, Told::Symbol(NOP)),
-        (19, Told::Packet(0, PACKET)),
-        (19, Told::Symbol(END)),
+        (3, Wanted::Symbol(START)),
+        (11, Wanted::Symbol(NOP)),
+        (19, Wanted::Packet(0, PACKET)),
+        (19, Wanted::Symbol(END)),
     ];
     assert!(rt; tells(&rt, rt.alloc(), chars.as_slice(), &told, true)?);
     Ok(())
@@ -81,33 +81,33 @@ fn data_and_idles_out_of_place_are_bad(rt: HostRuntime) -> Result<(), Fail> {
             &rt,
             rt.alloc(),
             outside.as_slice(),
-            &[(0, Told::Bad(Cause::BadChar))],
+            &[(0, Wanted::Bad(Cause::BadChar))],
             true
         )?
     );
     let idle = chars_of(rt.alloc(), "k7c d80 df8 d1f d00 kbc")?;
-    let told = [(3, Told::Symbol(START)), (5, Told::Bad(Cause::BadChar))];
+    let told = [(3, Wanted::Symbol(START)), (5, Wanted::Bad(Cause::BadChar))];
     assert!(rt; tells(&rt, rt.alloc(), idle.as_slice(), &told, true)?);
     Ok(())
 }
 
 #[test]
 fn each_kind_of_broken_text_is_told(rt: HostRuntime) -> Result<(), Fail> {
-    let bad = Told::Bad(Cause::BadChar);
-    let general = Told::Bad(Cause::General);
-    let restart = Told::Symbol([4, 0, 31, 3, 0]);
-    let rows: [(&str, &[(usize, Told)], bool); 10] = [
+    let bad = Wanted::Bad(Cause::BadChar);
+    let general = Wanted::Bad(Cause::General);
+    let restart = Wanted::Symbol([4, 0, 31, 3, 0]);
+    let rows: [(&str, &[(usize, Wanted)], bool); 10] = [
         ("kbc kfd kfb", &[], true),
         ("inv", &[(0, bad)], true),
         ("k1c d80 dff", &[], false),
         (
             "k1c d80 k7c d80 df8 d1f",
-            &[(2, bad), (5, Told::Symbol(START))],
+            &[(2, bad), (5, Wanted::Symbol(START))],
             false,
         ),
         (
             "k1c d80 dff kbc k1c d80 dff d0f",
-            &[(3, bad), (7, Told::Symbol(NOP))],
+            &[(3, bad), (7, Wanted::Symbol(NOP))],
             true,
         ),
         ("k1c k00 d01 inv kbc d00", &[(1, bad), (5, bad)], true),
@@ -116,15 +116,15 @@ fn each_kind_of_broken_text_is_told(rt: HostRuntime) -> Result<(), Fail> {
         (
             "k7c d80 df8 d1f k7c d80 dfa d18",
             &[
-                (3, Told::Symbol(START)),
+                (3, Wanted::Symbol(START)),
                 (7, general),
-                (7, Told::Symbol(END)),
+                (7, Wanted::Symbol(END)),
             ],
             true,
         ),
         (
             "k7c d80 df8 d1f d00 k1c d80 dfb d01 kbc",
-            &[(3, Told::Symbol(START)), (8, restart)],
+            &[(3, Wanted::Symbol(START)), (8, restart)],
             true,
         ),
     ];
@@ -144,10 +144,13 @@ fn a_packet_is_too_long_from_its_277th_byte_on(rt: HostRuntime) -> Result<(), Fa
     for _ in 0..276 {
         chars.push(Char::Data(0))?;
     }
-    let start = [(3, Told::Symbol(START))];
+    let start = [(3, Wanted::Symbol(START))];
     assert!(rt; tells(&rt, rt.alloc(), chars.as_slice(), &start, false)?);
     chars.push(Char::Data(0))?;
-    let told = [(3, Told::Symbol(START)), (280, Told::Bad(Cause::General))];
+    let told = [
+        (3, Wanted::Symbol(START)),
+        (280, Wanted::Bad(Cause::General)),
+    ];
     assert!(rt; tells(&rt, rt.alloc(), chars.as_slice(), &told, true)?);
     Ok(())
 }
@@ -179,7 +182,7 @@ fn tells(
     rt: &impl Abort,
     alloc: Global,
     chars: &[Char],
-    told: &[(usize, Told)],
+    told: &[(usize, Wanted)],
     rest: bool,
 ) -> Result<bool, NoMemory> {
     assert!(rt; chars.len() <= 4_194_304);
@@ -196,7 +199,7 @@ fn tells_at(
     alloc: Global,
     chars: &[Char],
     cut: usize,
-    told: &[(usize, Told)],
+    told: &[(usize, Wanted)],
     rest: bool,
 ) -> Result<bool, NoMemory>
     requires few { length chars.now ≤ 4194304 }
@@ -221,22 +224,22 @@ fn tells_at(
 }
 
 /// Whether an event is the expected one, at its place.
-fn is_next(expected: Option<&(usize, Told)>, place: usize, event: &Event) -> bool {
+fn is_next(expected: Option<&(usize, Wanted)>, place: usize, event: &Event) -> bool {
     match expected {
         Some((at, told)) => *at == place && is_told(told, event),
         None => false,
     }
 }
 
-fn is_told(told: &Told, event: &Event) -> bool {
+fn is_told(told: &Wanted, event: &Event) -> bool {
     match (told, event) {
-        (Told::Symbol(fields), Event::Ctl(symbol)) => {
+        (Wanted::Symbol(fields), Event::Ctl(symbol)) => {
             [symbol.s0, symbol.p0, symbol.p1, symbol.s1, symbol.cmd] == *fields
         }
-        (Told::Packet(ack, bytes), Event::Pkt(found, packet)) => {
+        (Wanted::Packet(ack, bytes), Event::Pkt(found, packet)) => {
             ack == found && packet.bytes() == bytes.as_slice()
         }
-        (Told::Bad(cause), Event::Bad(found)) => cause == found,
+        (Wanted::Bad(cause), Event::Bad(found)) => cause == found,
         _ => false,
     }
 }
