@@ -35,7 +35,8 @@ column Switch row = row.2
 -- the register at an offset in these rows
 abbrev pub in_rows : Kind → List Row → ℕ → Option Register
 in_rows kind [] offset = None
-in_rows kind (row ∷ rows) offset = if row.0 == offset then column kind row else in_rows kind rows offset
+in_rows kind (row ∷ rows) offset =
+    if row.0 == offset then column kind row else in_rows kind rows offset
 
 -- where the error and status register of port n stands
 abbrev pub status_offset : ℕ → ℕ
@@ -53,4 +54,5 @@ status_of device n = if device.linked / 2 ^ n % 2 == 1 then 2 else 1
 -- the register that stands at an offset of a device, if one does
 abbrev pub register_at : Device → ℕ → Option Register
 register_at device offset =
-    option_or (in_rows device.kind table offset) (option_map (λ n. Fixed (status_of device n)) (status_port device.ports offset))
+    option_or (in_rows device.kind table offset)
+    (option_map (λ n. Fixed (status_of device n)) (status_port device.ports offset))

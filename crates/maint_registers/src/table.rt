@@ -104,7 +104,8 @@ impl Registers {
     /// (this project's profile: no other bit).
     fn status_register(&self, offset: u32) -> Option<Register>
         ensures { result
-            ≡ option_map (λ n. Register.Fixed (status_of self.now n)) (status_port self.now.ports offset) }
+            ≡ option_map (λ n. Register.Fixed (status_of self.now n))
+                (status_port self.now.ports offset) }
     {
         let port = status_port(self.ports, offset)?;
         let linked = self.linked >> port & 1 == 1;

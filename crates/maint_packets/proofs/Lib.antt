@@ -1,0 +1,4 @@
+pub mod FormLaws
+pub mod LayoutLaws
+pub mod RequestLaws
+pub mod ResponseLaws

@@ -1,0 +1,56 @@
+-- What a device answers to a request, and what becomes of its registers.
+use Rattle.std.specs.Prelude.{ℕ, ◌+◌, Bool, true, false, min, Option, Some, None}
+use Rattle.maint_registers.specs.Devices.{Device}
+use Rattle.maint_registers.specs.Access.{value_at, written_at}
+use Rattle.maint_packets.specs.declared.request.Op.{Op}
+use Rattle.maint_packets.specs.declared.request.Op.TheVariants.{Read, Write, BadRead, BadWrite}
+use Rattle.maint_packets.specs.declared.request.Request.{Request}
+use Rattle.maint_packets.specs.declared.response.Response.{Response}
+use Rattle.maint_packets.specs.Requests.{in_half}
+
+-- a response, and the registers after it
+pub record Answered : Type 0 where
+  pub response : Response
+  pub device : Device
+
+-- A response goes back to where the request came from, with the next higher priority if there is one and the same
+-- transaction number. It starts with the greatest hop count.
+abbrev pub back : Request → Bool → ℕ → Option (ℕ × ℕ) → Response
+back request write status words = record {
+  prio = min (request.prio + 1) 3;
+  dest = request.source;
+  source = request.dest;
+  write = write;
+  status = status;
+  tid = request.tid;
+  hop = 255;
+  words = words;
+}
+
+-- what was read, in the half that the request names
+abbrev pub after_read : Device → Request → Option ℕ → Answered
+after_read device request (Some value) = record {
+  response = back request false 0 (Some (in_half request.offset value));
+  device = device;
+}
+after_read device request None = record { response = back request false 7 None; device = device }
+
+-- what the write left
+abbrev pub after_write : Device → Request → Option Device → Answered
+after_write device request (Some next) = record {
+  response = back request true 0 None;
+  device = next;
+}
+after_write device request None = record { response = back request true 7 None; device = device }
+
+-- the answer to a request that came to a port
+abbrev pub answered_to : Device → Request → ℕ → Op → Answered
+answered_to device request port Read =
+    after_read device request (value_at device request.offset port)
+answered_to device request port (Write value) =
+    after_write device request (written_at device request.offset value)
+answered_to device request port BadRead = after_read device request None
+answered_to device request port BadWrite = after_write device request None
+
+abbrev pub answered : Device → Request → ℕ → Answered
+answered device request port = answered_to device request port request.op

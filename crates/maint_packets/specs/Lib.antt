@@ -1,0 +1,5 @@
+pub mod Layout
+pub mod Requests
+pub mod Responses
+pub mod Answers
+pub mod NextHops
