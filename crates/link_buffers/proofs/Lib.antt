@@ -1,3 +1,4 @@
 pub mod QueueLemmas
 pub mod StoreLemmas
 pub mod PriorityLaws
+pub mod PriorityParts

@@ -14,7 +14,7 @@ use Rattle.link_buffers.proofs.QueueLemmas.{packet_count_four, length_list_at-le
 use Rattle.link_buffers.proofs.StoreLemmas.{IsOutStore-popped}
 
 -- a list that is not empty stands at one of the priorities
-prio_within : (lists : List (List (List ℕ))) (prio : ℕ) → 0 < length (list_at lists prio) → prio < length lists
+pub prio_within : (lists : List (List (List ℕ))) (prio : ℕ) → 0 < length (list_at lists prio) → prio < length lists
 prio_within lists prio some =
     elim (cases_lt prio (length lists)) [
       | inl within ↦ within

@@ -1,11 +1,13 @@
 -- What a change of one list leaves of the others, and of the number of packets.
-use Rattle.std.proofs.Common.{◌≡◌, ◌≢◌, ℕ, ◌+◌, ◌<◌, ◌≤◌, List, [], ◌∷◌, ◌++◌, length, drop, set, subst, sym, ◌∙◌, ap, inl, inr, refl, All, arith, length-append, length-drop, get_or-set_same, get_or-set_other}
+use Rattle.std.proofs.Common.{◌≡◌, ◌≢◌, ℕ, ◌+◌, ◌<◌, ◌≤◌, List, [], ◌∷◌, ◌++◌, length, drop, set, subst, sym, ◌∙◌, ap, inl, inr, refl, All, arith, length-append, length-drop, get_or-set_same, get_or-set_other, slice_get, Some, get_or}
 use Rattle.std.proofs.lemmas.Bool.{cases_eq}
 use Rattle.std.proofs.lemmas.List.{set-get_or, drop_all}
 use Rattle.std.proofs.lemmas.List.Sums.{sum_by-cons, sum_by-set, get_or-le-sum_by}
 use Rattle.std.proofs.lemmas.List.Elements.{All-push, All-drop}
+use Rattle.std.proofs.lemmas.Option.{slice_get_within, slice_get-get_or}
 use Rattle.rio_packets.specs.Fields.{prio_of}
-use Rattle.link_buffers.specs.Queues.{list_at, appended, popped, packet_count, Sorted}
+use Rattle.rio_packets.specs.LinkForm.{Passes}
+use Rattle.link_buffers.specs.Queues.{list_at, appended, popped, packet_count, Sorted, ArePackets}
 
 -- the list that was put in the place of another
 pub list_at-set_same : (lists : List (List (List ℕ))) (prio : ℕ) (packets : List (List ℕ)) → prio < length lists → list_at (set lists prio packets) prio ≡ packets
@@ -78,3 +80,24 @@ Sorted-appended lists packet four few sorted =
 pub Sorted-popped : (lists : List (List (List ℕ))) (prio : ℕ) → length lists ≡ 4 → prio < 4 → Sorted lists → Sorted (popped lists prio)
 Sorted-popped lists prio four few sorted =
     Sorted-set lists prio _ (omega arith) (All-drop (λ p. prio_of p ≡ prio) 1 (list_at lists prio) (sorted prio few)) sorted
+
+pub ArePackets-appended :
+    (lists : List (List (List ℕ))) (packet : List ℕ) → length lists ≡ 4 → prio_of packet < 4 → Passes packet → ArePackets lists
+    → ArePackets (appended lists (prio_of packet) packet)
+ArePackets-appended lists packet four few passes packets =
+    each-set (λ r xs. All (λ p. Passes p) xs) lists (prio_of packet) _ (omega arith)
+    (All-push (λ p. Passes p) (list_at lists (prio_of packet)) packet (packets (prio_of packet) few) passes) packets
+
+pub ArePackets-popped : (lists : List (List (List ℕ))) (prio : ℕ) → length lists ≡ 4 → prio < 4 → ArePackets lists → ArePackets (popped lists prio)
+ArePackets-popped lists prio four few packets =
+    each-set (λ r xs. All (λ p. Passes p) xs) lists prio _ (omega arith) (All-drop (λ p. Passes p) 1 (list_at lists prio) (packets prio few)) packets
+
+-- what stands in a list is a packet
+pub Passes-at :
+    (lists : List (List (List ℕ))) (prio place : ℕ) (packet : List ℕ) → ArePackets lists → prio < 4
+    → slice_get (list_at lists prio) place ≡ Some packet → Passes packet
+Passes-at lists prio place packet packets few is =
+    let within = slice_get_within (list_at lists prio) place packet is in
+    let got = slice_get-get_or (list_at lists prio) place [] within in
+    let same : get_or (list_at lists prio) place [] ≡ packet = cc in
+    subst (λ (p : List ℕ). Passes p) same (packets prio few place [] within)

@@ -1,18 +1,20 @@
 -- What is true of every store stays true where a packet is put or popped.
 use Rattle.std.proofs.Common.{ℕ, ◌+◌, ◌-◌, ◌<◌, ◌≤◌, List, [], ◌∷◌, length, ◌∙◌, arith, length-set, length-append, length-drop}
 use Rattle.rio_packets.specs.Fields.{prio_of}
+use Rattle.rio_packets.specs.LinkForm.{Passes}
 use Rattle.link_buffers.specs.Queues.{list_at, appended, popped, packet_count, IsCounted, IsInStore, IsOutStore}
-use Rattle.link_buffers.proofs.QueueLemmas.{each-set, packet_count-appended, packet_count-popped, Sorted-appended, Sorted-popped}
+use Rattle.link_buffers.proofs.QueueLemmas.{each-set, packet_count-appended, packet_count-popped, Sorted-appended, Sorted-popped, ArePackets-appended, ArePackets-popped}
 
 pub IsInStore-appended :
     (lists : List (List (List ℕ))) (buffers : ℕ) (packet : List ℕ) → IsInStore (record { lists = lists; buffers = buffers })
-    → prio_of packet < 4 → packet_count lists < buffers → IsInStore (record { lists = appended lists (prio_of packet) packet; buffers = buffers })
-IsInStore-appended lists buffers packet is few room =
+    → prio_of packet < 4 → Passes packet → packet_count lists < buffers → IsInStore (record { lists = appended lists (prio_of packet) packet; buffers = buffers })
+IsInStore-appended lists buffers packet is few passes room =
     let within : prio_of packet < length lists = omega arith in
     let more = packet_count-appended lists (prio_of packet) packet within in
     record {
       four = length-set lists (prio_of packet) _ ∙ is.four;
       sorted = Sorted-appended lists packet is.four few is.sorted;
+      packets = ArePackets-appended lists packet is.four few passes is.packets;
       within = omega arith;
       least = is.least;
       most = is.most;
@@ -27,6 +29,7 @@ IsInStore-popped lists buffers prio is few some =
     record {
       four = length-set lists prio _ ∙ is.four;
       sorted = Sorted-popped lists prio is.four few is.sorted;
+      packets = ArePackets-popped lists prio is.four few is.packets;
       within = omega arith;
       least = is.least;
       most = is.most;
@@ -34,12 +37,12 @@ IsInStore-popped lists buffers prio is few some =
 
 pub IsCounted-appended :
     (lists : List (List (List ℕ))) (buffers free : ℕ) (packet : List ℕ) → IsCounted (record { lists = lists; buffers = buffers }) free
-    → prio_of packet < 4 → packet_count lists < buffers
+    → prio_of packet < 4 → Passes packet → packet_count lists < buffers
     → IsCounted (record { lists = appended lists (prio_of packet) packet; buffers = buffers }) (free - 1)
-IsCounted-appended lists buffers free packet is few room =
+IsCounted-appended lists buffers free packet is few passes room =
     let within : prio_of packet < length lists = omega (arith, is.store_is.four) in
     let more = packet_count-appended lists (prio_of packet) packet within in
-    record { exact = omega arith; store_is = IsInStore-appended lists buffers packet is.store_is few room }
+    record { exact = omega arith; store_is = IsInStore-appended lists buffers packet is.store_is few passes room }
 
 pub IsCounted-popped :
     (lists : List (List (List ℕ))) (buffers free prio : ℕ) → IsCounted (record { lists = lists; buffers = buffers }) free
@@ -51,13 +54,14 @@ IsCounted-popped lists buffers free prio is few some =
 
 pub IsOutStore-appended :
     (lists : List (List (List ℕ))) (packet : List ℕ) → IsOutStore lists
-    → prio_of packet < 4 → length (list_at lists (prio_of packet)) < 16 → IsOutStore (appended lists (prio_of packet) packet)
-IsOutStore-appended lists packet is few room =
+    → prio_of packet < 4 → Passes packet → length (list_at lists (prio_of packet)) < 16 → IsOutStore (appended lists (prio_of packet) packet)
+IsOutStore-appended lists packet is few passes room =
     let within : prio_of packet < length lists = omega arith in
     let longer = length-append (list_at lists (prio_of packet)) (packet ∷ []) in
     record {
       four = length-set lists (prio_of packet) _ ∙ is.four;
       sorted = Sorted-appended lists packet is.four few is.sorted;
+      packets = ArePackets-appended lists packet is.four few passes is.packets;
       within = each-set (λ _ packets. length packets ≤ 16) lists (prio_of packet) _ within (omega arith) is.within;
     }
 
@@ -69,5 +73,6 @@ IsOutStore-popped lists prio is few =
     record {
       four = length-set lists prio _ ∙ is.four;
       sorted = Sorted-popped lists prio is.four few is.sorted;
+      packets = ArePackets-popped lists prio is.four few is.packets;
       within = each-set (λ _ packets. length packets ≤ 16) lists prio _ within (omega arith) is.within;
     }

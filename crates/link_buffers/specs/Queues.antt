@@ -1,6 +1,7 @@
 -- The packets of a store: four lists, one for each priority. A packet is the list of its bytes.
-use Rattle.std.specs.Prelude.{◌≡◌, ℕ, ◌+◌, ◌-◌, Bool, true, false, nat_lt, ◌<◌, ◌≤◌, List, [], ◌∷◌, ◌++◌, length, drop, All, sum_by, slice_index_or, slice_set}
+use Rattle.std.specs.Prelude.{◌≡◌, ℕ, ◌+◌, ◌-◌, ◌==◌, Bool, true, false, nat_lt, ◌<◌, ◌≤◌, List, [], ◌∷◌, ◌++◌, length, drop, filter, All, sum_by, slice_index_or, slice_set}
 use Rattle.rio_packets.specs.Fields.{prio_of}
+use Rattle.rio_packets.specs.LinkForm.{Passes}
 
 -- the list of a priority, in the order in which its packets came
 abbrev pub list_at : List (List (List ℕ)) → ℕ → List (List ℕ)
@@ -22,9 +23,17 @@ packet_count lists = sum_by length lists
 abbrev pub no_packets : List (List (List ℕ))
 no_packets = [] ∷ [] ∷ [] ∷ [] ∷ []
 
+-- the packets of a priority
+abbrev pub of_prio : ℕ → List (List ℕ) → List (List ℕ)
+of_prio prio packets = filter (λ packet. prio_of packet == prio) packets
+
 -- each packet stands in the list of its own priority
 abbrev pub Sorted : List (List (List ℕ)) → Type 0
 Sorted lists = (prio : ℕ) → prio < 4 → All (λ packet. prio_of packet ≡ prio) (list_at lists prio)
+
+-- each packet is in the form in which packets stand on a link
+abbrev pub ArePackets : List (List (List ℕ)) → Type 0
+ArePackets lists = (prio : ℕ) → prio < 4 → All (λ packet. Passes packet) (list_at lists prio)
 
 -- what contracts see of a store of packets that came in: its lists and the number of buffers that they share
 pub record Buffered : Type 0 where
@@ -45,6 +54,7 @@ stored false store packet = store
 pub record IsInStore (store : Buffered) : Type 0 where
   pub four : length store.lists ≡ 4
   pub sorted : Sorted store.lists
+  pub packets : ArePackets store.lists
   pub within : packet_count store.lists ≤ store.buffers
   pub least : 4 ≤ store.buffers
   pub most : store.buffers ≤ 30
@@ -58,4 +68,5 @@ pub record IsCounted (store : Buffered) (free : ℕ) : Type 0 where
 pub record IsOutStore (lists : List (List (List ℕ))) : Type 0 where
   pub four : length lists ≡ 4
   pub sorted : Sorted lists
+  pub packets : ArePackets lists
   pub within : (prio : ℕ) → prio < 4 → length (list_at lists prio) ≤ 16

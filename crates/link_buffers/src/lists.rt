@@ -1,6 +1,7 @@
 //! Four rings of packets, one for each priority, with room for equally many.
 ghost use Rattle.std.specs.Prelude.{◌≡◌, ◌<◌, length, slice_get, option_copied, IfOk, MatchOption};
 ghost use Rattle.rio_packets.specs.Fields.{prio_of};
+ghost use Rattle.rio_packets.specs.LinkForm.{Passes};
 ghost use Rattle.link_buffers.specs.Queues.{list_at, appended, popped, no_packets};
 
 use circular_buffer::HeapCircularBuffer;
@@ -61,8 +62,10 @@ impl PriorityLists {
         requires { length (list_at self.old.lists (prio_of packet)) < self.old.room }
         ensures lists { self.new ≡ record self.old { lists = appended self.old.lists (prio_of packet) packet } }
         ensures few { prio_of packet < 4 }
+        ensures packet { Passes packet }
     {
         let prio = packet.prio();
+        let _ = packet.bytes();
         self.rings[usize::from(prio)].push_back(packet);
     }
 

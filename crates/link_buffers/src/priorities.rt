@@ -3,7 +3,7 @@
 //! `left` is the outstanding packets, and `leave` is what has still to be sent.
 ghost use Rattle.std.specs.Prelude.{◌≡◌, ℕ, ◌+◌, ◌<◌, ◌↔◌, IsSome, List, [], ◌∷◌, ◌++◌, length, map, take, drop, slice_get};
 ghost use Rattle.rio_packets.specs.Fields.{prio_of};
-ghost use Rattle.link_buffers.specs.Queues.{list_at, appended, popped, packet_count, Sorted, IsOutStore};
+ghost use Rattle.link_buffers.specs.Queues.{list_at, appended, popped, of_prio, packet_count, Sorted, IsOutStore};
 ghost use Rattle.link_buffers.specs.Priorities.{packets_of, lists_without, count_of, highest, Covers};
 
 /// Priorities one after another take what the first ones take, and then what the others take of what stays.
@@ -85,4 +85,13 @@ pub fn each_takes_its_own()
         → length lists ≡ 4 → Covers prios lists → Sorted lists → map prio_of (packets_of prios lists) ≡ prios }
     ensures store { (prios : List ℕ) (lists : List (List (List ℕ)))
         → Covers prios lists → IsOutStore lists → IsOutStore (lists_without prios lists) }
+{}
+
+/// The list of a priority is its packets among those taken, and then those that stay: with the priorities of the
+/// outstanding packets, the packets that are outstanding and then those that wait.
+pub fn outstanding_come_first()
+    ensures { (prio : ℕ) (prios : List ℕ) (lists : List (List (List ℕ)))
+        → length lists ≡ 4 → Sorted lists → Covers prios lists
+        → list_at lists prio
+        ≡ of_prio prio (packets_of prios lists) ++ list_at (lists_without prios lists) prio }
 {}

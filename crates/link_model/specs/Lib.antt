@@ -11,3 +11,4 @@ pub mod Reading
 pub mod Places
 pub mod Fronts
 pub mod ReadingSpelt
+pub mod Said

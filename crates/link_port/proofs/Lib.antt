@@ -4,3 +4,4 @@ pub mod ActLaws
 pub mod ReplyLaws
 pub mod CarryLaws
 pub mod ArrivalLaws
+pub mod SentReads

@@ -1,5 +1,5 @@
 -- What a turn of a port and a time-out do, by the step tables.
-use Rattle.std.specs.Prelude.{ℕ, List, [], ◌∷◌, Option, Some, None, slice_get}
+use Rattle.std.specs.Prelude.{◌≡◌, ℕ, List, [], ◌∷◌, Option, Some, None, slice_get}
 use Rattle.rio_chars.specs.declared.chars.Char.{Char}
 use Rattle.rio_symbols.specs.Fields.{Fields}
 use Rattle.link_buffers.specs.Queues.{list_at}
@@ -8,6 +8,8 @@ use Rattle.link_model.specs.declared.event.Event.{Event}
 use Rattle.link_model.specs.declared.event.Event.TheVariants.{Ctl, Pkt}
 use Rattle.link_model.specs.Output.{Sends, Turned, turns, times_out}
 use Rattle.link_model.specs.ReadingSpelt.{symbol_chars_of, packet_chars_of}
+use Rattle.link_model.specs.Places.{start, place_after}
+use Rattle.link_model.specs.Said.{said}
 use Rattle.link_model.specs.Symbols.{start_of_packet, end_of_packet, restart_from_retry, link_request}
 use Rattle.link_port.specs.States.{prios_of, expected_of}
 use Rattle.link_port.specs.Ports.{PortState}
@@ -54,6 +56,12 @@ turns_to port = record port { output = (turn_of port).state }
 -- what a turn sends
 abbrev pub turn_sends : PortState → Burst
 turn_sends port = burst_of (turn_of port).sends (expected_of port.input) (waiting_in port)
+
+-- Read by themselves from the start, the characters of a burst say the events that it sends, and nothing is in progress
+-- after them.
+pub record IsRead (burst : Burst) : Type 0 where
+  pub says : said start burst.chars ≡ burst.sent
+  pub rests : place_after start burst.chars ≡ start
 
 -- the port after a time-out
 abbrev pub timed_out : PortState → PortState

@@ -1,8 +1,10 @@
 //! Events in a port.
-ghost use Rattle.std.specs.Prelude.{◌≡◌, ◌++◌, [], None, IfSome};
+ghost use Rattle.std.specs.Prelude.{◌≡◌, ◌++◌, [], false, IfSome};
 ghost use Rattle.rio_framer.specs.Giving.{listed, IsPaired};
-ghost use Rattle.link_port.specs.Steps.{acts_all, acts_symbol, acts_packet, acts_bad, first_acted, after_hearing, heard, acknowledged, obeyed};
-ghost use Rattle.link_port.specs.Acts.{acts_first, acts_second, is_first_acted};
+ghost use Rattle.link_port.specs.Steps.{acts, acts_all, acts_symbol, acts_packet, acts_bad, is_acted, first_acted, after_hearing, acknowledged, obeyed};
+ghost use Rattle.link_port.specs.Acts.{acts_first, acts_second, held_of, held_by, is_first_acted};
+ghost use Rattle.link_port.specs.Ports.{IsPort};
+ghost use Rattle.link_model.specs.declared.event.Event.TheVariants.{Pkt};
 ghost use Rattle.link_buffers.specs.Priorities.{packets_of};
 
 use crate::input_half::{Arrived, Input};
@@ -17,24 +19,58 @@ use rio_packets::{Cause, Packet};
 use rio_symbols::Symbol;
 use std::mem;
 
-/// What an event did: the symbol to send, and a copy of the packet that was accepted.
-#[derive(Drop)]
-pub(crate) struct Done {
-    reply: Option<Symbol>,
-    held: Option<Packet>,
+/// What an event did.
+#[derive(Clone, Copy, Debug, PartialEq, Eq)]
+pub struct Done {
+    /// The symbol to send.
+    pub reply: Option<Symbol>,
+    /// Whether the packet of the event was accepted.
+    pub held: bool,
 }
 
 impl Done {
     /// No packet was accepted.
     fn replying(reply: Option<Symbol>) -> Done
         ensures reply { result.reply ≡ reply }
-        ensures held { result.held ≡ None }
+        ensures held { result.held ≡ false }
     {
-        Done { reply, held: None }
+        Done { reply, held: false }
     }
 }
 
 impl Port {
+    /// Leads an event through the step tables: a symbol through the output half first and then the input half, a packet
+    /// and what is neither through the input half alone. Packets that a symbol acknowledges are put into `freed`.
+    pub fn act(&mut self, event: &Event, freed: &mut ArrayVec<Packet, 31>) -> Done
+        requires empty { freed.old.items ≡ [] }
+        ensures state { self.new ≡ (acts self.old event.now).port }
+        ensures held { held_of event.now result.held ≡ (acts self.old event.now).held }
+        ensures reply { result.reply ≡ (acts self.old event.now).reply }
+        ensures freed { freed.new.items ≡ (acts self.old event.now).freed }
+        ensures port { IsPort self.new }
+    {
+        let done = match event {
+            Event::Ctl(symbol) => Done::replying(self.act_symbol(*symbol, freed)),
+            Event::Pkt(ack, packet) => self.act_packet(*ack, packet),
+            Event::Bad(cause) => Done::replying(self.act_bad(*cause)),
+        };
+        self.bounds();
+        done
+    }
+
+    /// Returns whether an event is a symbol, or a packet that is taken or has no room.
+    pub fn is_acted(&self, event: &Event) -> bool
+        ensures value { result ≡ is_acted self.now event.now }
+        ensures port { IsPort self.now }
+    {
+        self.bounds();
+        match event {
+            Event::Ctl(_) => true,
+            Event::Pkt(ack, _) => self.input.expects(*ack),
+            Event::Bad(_) => false,
+        }
+    }
+
     /// The events of one character.
     pub(crate) fn act_on(
         &mut self,
@@ -52,9 +88,10 @@ impl Port {
         ensures reply { result.reply ≡ (acts_all self.old (listed first second)).reply }
         ensures freed { freed.new.items ≡ (acts_all self.old (listed first second)).freed }
     {
-        let first_acted = self.is_acted(&first);
+        let first_acted = self.is_first_acted(&first);
         let Done { reply, held } = self.act_first(&first, freed);
         let answer = self.act_second(&second, freed);
+        let held = held_packet(&first, held);
         Taken {
             first,
             first_acted,
@@ -65,13 +102,12 @@ impl Port {
     }
 
     /// Returns whether the first event is a symbol, or a packet that is taken or has no room.
-    fn is_acted(&self, first: &Option<Event>) -> bool
+    fn is_first_acted(&self, first: &Option<Event>) -> bool
         ensures { result ≡ is_first_acted self.now first.now }
     {
         match first {
-            Some(Event::Ctl(_)) => true,
-            Some(Event::Pkt(ack, _)) => self.input.expects(*ack),
-            Some(Event::Bad(_)) | None => false,
+            Some(event) => self.is_acted(event),
+            None => false,
         }
     }
 
@@ -79,14 +115,12 @@ impl Port {
     fn act_first(&mut self, first: &Option<Event>, freed: &mut ArrayVec<Packet, 31>) -> Done
         requires empty { freed.old.items ≡ [] }
         ensures state { self.new ≡ (acts_first self.old first.now).port }
-        ensures held { result.held ≡ (acts_first self.old first.now).held }
+        ensures held { held_by first.now result.held ≡ (acts_first self.old first.now).held }
         ensures reply { result.reply ≡ (acts_first self.old first.now).reply }
         ensures freed { freed.new.items ≡ (acts_first self.old first.now).freed }
     {
         match first {
-            Some(Event::Ctl(symbol)) => Done::replying(self.symbol(*symbol, freed)),
-            Some(Event::Pkt(ack, packet)) => self.packet(*ack, packet),
-            Some(Event::Bad(cause)) => Done::replying(self.bad(*cause)),
+            Some(event) => self.act(event, freed),
             None => Done::replying(None),
         }
     }
@@ -103,13 +137,13 @@ impl Port {
         ensures freed { freed.new.items ≡ freed.old.items ++ (acts_second self.old second.now).freed }
     {
         match second {
-            Some(symbol) => self.symbol(*symbol, freed),
+            Some(symbol) => self.act_symbol(*symbol, freed),
             None => None,
         }
     }
 
     /// A symbol: the output half before the input half.
-    fn symbol(&mut self, symbol: Symbol, freed: &mut ArrayVec<Packet, 31>) -> Option<Symbol>
+    pub fn act_symbol(&mut self, symbol: Symbol, freed: &mut ArrayVec<Packet, 31>) -> Option<Symbol>
         requires empty { freed.old.items ≡ [] }
         ensures state { self.new ≡ (acts_symbol self.old symbol).port }
         ensures reply { result ≡ (acts_symbol self.old symbol).reply }
@@ -141,20 +175,19 @@ impl Port {
     }
 
     /// A good packet with this ackID.
-    fn packet(&mut self, ack: u8, packet: &Packet) -> Done
+    pub fn act_packet(&mut self, ack: u8, packet: &Packet) -> Done
         ensures state { self.new ≡ (acts_packet self.old ack packet.now).port }
+        ensures held { held_of (Pkt ack packet.now) result.held ≡ (acts_packet self.old ack packet.now).held }
         ensures reply { result.reply ≡ (acts_packet self.old ack packet.now).reply }
-        ensures held { result.held ≡ (acts_packet self.old ack packet.now).held }
     {
         let input = mem::replace(&mut self.input, Input::Ok(InOk::new()));
         let Arrived { input, reply, held } = input.packet(ack, packet, &mut self.received);
         self.input = input;
-        let held = if held { Some(packet.copy()) } else { None };
         Done { reply, held }
     }
 
     /// What came is no packet or symbol.
-    fn bad(&mut self, cause: Cause) -> Option<Symbol>
+    pub fn act_bad(&mut self, cause: Cause) -> Option<Symbol>
         ensures state { self.new ≡ (acts_bad self.old cause).port }
         ensures reply { result ≡ (acts_bad self.old cause).reply }
     {
@@ -162,5 +195,15 @@ impl Port {
         let (next, reply) = input.bad(cause);
         self.input = next;
         reply
+    }
+}
+
+/// A copy of the packet of the first event, where it was accepted.
+fn held_packet(first: &Option<Event>, held: bool) -> Option<Packet>
+    ensures { result ≡ held_by first.now held }
+{
+    match first {
+        Some(Event::Pkt(_, packet)) if held => Some(packet.copy()),
+        _ => None,
     }
 }

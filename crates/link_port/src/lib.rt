@@ -31,6 +31,7 @@ mod tests;
 #[cfg(test)]
 mod turn_tests;
 
+pub use acts::Done;
 pub use bursts::Burst;
 pub use example::carry;
 pub use face::PortFace;

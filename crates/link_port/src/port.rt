@@ -1,11 +1,13 @@
 //! `Port`: the end of a link.
-ghost use Rattle.std.specs.Prelude.{◌≡◌, ◌<◌, ◌≤◌, ◌↔◌, [], length, IsTrue, IfOk};
-ghost use Rattle.link_buffers.specs.Queues.{packet_count};
-ghost use Rattle.link_model.specs.Places.{at_rest as rests};
+ghost use Rattle.std.specs.Prelude.{◌≡◌, ◌<◌, ◌≤◌, ◌↔◌, [], length, slice_get, IsTrue, IfOk};
+ghost use Rattle.rio_packets.specs.Fields.{prio_of};
+ghost use Rattle.link_buffers.specs.Queues.{list_at, appended, popped, packet_count};
+ghost use Rattle.link_model.specs.Places.{at_rest as rests, start, place_after};
+ghost use Rattle.link_model.specs.Said.{said};
 ghost use Rattle.link_model.specs.Window.{window};
 ghost use Rattle.link_port.specs.States.{prios_of, has_asked};
 ghost use Rattle.link_port.specs.Halves.{out_kind_of, in_kind_of};
-ghost use Rattle.link_port.specs.Ports.{IsPort, new_port};
+ghost use Rattle.link_port.specs.Ports.{AreAlike, IsPort, new_port};
 ghost use Rattle.link_port.specs.Steps.{read, takes, first_acted};
 ghost use Rattle.link_port.specs.Turns.{turns_to, turn_sends, timed_out, waiting_in};
 ghost use Rattle.rio_framer.specs.Giving.{listed, IsPaired};
@@ -64,14 +66,17 @@ impl Port {
         requires least { 4 ≤ buffers }
         requires most { buffers ≤ 30 }
         ensures empty { IfOk result (λ port. port ≡ new_port buffers) }
+        ensures port { IfOk result (λ port. IsPort port) }
     {
-        Ok(Port {
+        let port = Port {
             framer: Framer::new(),
             output: Output::Ok(OutOk::new()),
             input: Input::Ok(InOk::new()),
             queued: OutStore::new(alloc)?,
             received: InStore::new(alloc, buffers)?,
-        })
+        };
+        port.bounds();
+        Ok(port)
     }
 
     /// Takes a character that came, and leads what it completes through the step tables of `link_model`: a symbol through
@@ -95,13 +100,17 @@ impl Port {
     }
 
     /// Sends at most one packet or one symbol: a packet where the sender may start one, restart-from-retry after a retry,
-    /// and a link-request after an error, once until a response or a time-out.
+    /// and a link-request after an error, once until a response or a time-out. Read by themselves the characters say what
+    /// is sent, and leave nothing in progress.
     pub fn turn(&mut self) -> Burst
         ensures state { self.new ≡ turns_to self.old }
         ensures chars { result.chars.items ≡ (turn_sends self.old).chars }
         ensures sent { result.sent.items ≡ (turn_sends self.old).sent }
+        ensures read { said start result.chars.items ≡ result.sent.items }
+        ensures rests { place_after start result.chars.items ≡ start }
         ensures port { IsPort self.new }
     {
+        self.bounds();
         let output = mem::replace(&mut self.output, Output::Failed(OutFailed));
         let (output, sends) = output.turn(&self.queued);
         self.output = output;
@@ -122,28 +131,35 @@ impl Port {
 
     /// Returns the state of the output half.
     pub fn out_kind(&self) -> OutKind
-        ensures { result ≡ out_kind_of self.now.output }
+        ensures value { result ≡ out_kind_of self.now.output }
+        ensures port { IsPort self.now }
     {
+        self.bounds();
         self.output.kind()
     }
 
     /// Returns the state of the input half.
     pub fn in_kind(&self) -> InKind
-        ensures { result ≡ in_kind_of self.now.input }
+        ensures value { result ≡ in_kind_of self.now.input }
+        ensures port { IsPort self.now }
     {
+        self.bounds();
         self.input.kind()
     }
 
     /// Returns whether neither a symbol nor a packet is coming in.
     pub fn at_rest(&self) -> bool
-        ensures { result ≡ rests self.now.place }
+        ensures value { result ≡ rests self.now.place }
+        ensures port { IsPort self.now }
     {
+        self.bounds();
         self.framer.at_rest()
     }
 
     /// Returns whether a packet is to be sent that is not outstanding.
     pub fn waiting(&self) -> bool
-        ensures { IsTrue result ↔ (0 < packet_count (waiting_in self.now)) }
+        ensures exact { IsTrue result ↔ (0 < packet_count (waiting_in self.now)) }
+        ensures port { IsPort self.now }
     {
         self.bounds();
         let queued = &self.queued;
@@ -154,21 +170,25 @@ impl Port {
     pub fn outstanding(&self) -> u8
         ensures value { result ≡ length (prios_of self.now.output) }
         ensures most { result ≤ window }
+        ensures port { IsPort self.now }
     {
+        self.bounds();
         self.output.outstanding()
     }
 
     /// Returns whether a link-request was sent since the error or the last time-out.
     pub fn asked(&self) -> bool
-        ensures { result ≡ has_asked self.now.output }
+        ensures value { result ≡ has_asked self.now.output }
+        ensures port { IsPort self.now }
     {
+        self.bounds();
         self.output.asked()
     }
 
     /// What is true of every port, so after any characters: it is in one of its states, at most `WINDOW` packets are
     /// outstanding, its framer holds at most 276 bytes, and it holds no more packets than it has buffers. The call does
     /// nothing.
-    pub fn bounds(&self)
+    pub(crate) fn bounds(&self)
         ensures { IsPort self.now }
     {
         let _ = self.output.outstanding();
@@ -180,8 +200,6 @@ impl Port {
 
 impl PortFace for Port {
     ghost use Rattle.std.proofs.Common.{◌∙◌, refl};
-    ghost use Rattle.link_port.specs.Ports.{AreAlike};
-
     ghost received = { λ port. port.received.lists };
 
     ghost queued = { λ port. port.queued };
@@ -197,15 +215,31 @@ impl PortFace for Port {
         self.received.head(prio)
     }
 
-    fn in_pop(&mut self, prio: u8) -> Option<Packet> {
-        self.received.pop(prio)
+    fn in_pop(&mut self, prio: u8) -> Option<Packet>
+        requires { prio < 4 }
+        ensures value { result ≡ slice_get (list_at self.old.received.lists prio) 0 }
+        ensures received { self.new.received.lists ≡ popped self.old.received.lists prio }
+        ensures queued { self.new.queued ≡ self.old.queued }
+        ensures alike { AreAlike self.old self.new }
+        ensures port { IsPort self.new }
+    {
+        let packet = self.received.pop(prio);
+        self.bounds();
+        packet
     }
 
     fn out_room(&self, prio: u8) -> bool {
         self.queued.has_room(prio)
     }
 
-    fn out_put(&mut self, packet: Packet) {
+    fn out_put(&mut self, packet: Packet)
+        requires room { length (list_at self.old.queued (prio_of packet)) < 16 }
+        ensures queued { self.new.queued ≡ appended self.old.queued (prio_of packet) packet }
+        ensures received { self.new.received.lists ≡ self.old.received.lists }
+        ensures alike { AreAlike self.old self.new }
+        ensures port { IsPort self.new }
+    {
         self.queued.put(packet);
+        self.bounds();
     }
 }

@@ -5,8 +5,9 @@ use Rattle.std.proofs.lemmas.Bool.Decides.{eqb_tells}
 use Rattle.std.proofs.lemmas.List.{append-nil}
 use Rattle.std.proofs.lemmas.List.Elements.{filter-append}
 use Rattle.rio_packets.specs.Fields.{prio_of}
-use Rattle.link_buffers.specs.Queues.{no_packets, list_at, popped, appended}
+use Rattle.link_buffers.specs.Queues.{no_packets, list_at, popped, appended, of_prio}
 use Rattle.link_buffers.specs.Priorities.{Covers, highest}
+use Rattle.link_buffers.proofs.PriorityParts.{of_prio_one, held_of_prio}
 use Rattle.link_buffers.proofs.PriorityLaws.{list_at-appended, list_at-popped, packets_of-appended, lists_without-appended, Covers-take, length-lists_without}
 use Rattle.link_model.specs.declared.event.Event.{Event}
 use Rattle.link_model.specs.Output as out
@@ -18,12 +19,11 @@ use Rattle.link_port.specs.States.{prios_of, expected_of}
 use Rattle.link_sound.specs.Meanings.{forward, backward, oldest_of}
 use Rattle.link_sound.specs.Sound.{IsSound}
 use Rattle.link_sound.specs.Lent.{lent, waiting, Holds, Frees}
-use Rattle.link_sound.specs.Histories.{AreBuffers, Journeys, Link, new_link, turned_round, after_event, IsStep, Turns, Acts, Others, TimesOut, Puts, Loses, GoesOn, IsHistory, Rests, AtFirst, AtSecond, of_prio, AreCarried}
+use Rattle.link_sound.specs.Histories.{AreBuffers, Journeys, Link, new_link, turned_round, after_event, IsStep, Turns, Acts, Others, TimesOut, Puts, Loses, GoesOn, IsHistory, Rests, AtFirst, AtSecond, AreCarried}
 use Rattle.link_sound.proofs.Freed.{turn_stays, time_out_stays}
 use Rattle.link_sound.proofs.Steps.{begins, exchanged, turn_keeps, acted_keeps, other_keeps, time_out_keeps, lost_keeps, put_keeps, other_parts}
 use Rattle.link_sound.proofs.Moves.{acted_holds, other_holds, acted_frees, other_frees}
 use Rattle.link_sound.proofs.Promises.{not_failed}
-use Rattle.link_sound.proofs.Plain.{drop_at}
 use Rattle.link_sound.proofs.PortBounds.{new_is_port, turn_port, time_out_port, put_port, read_port, acted_port, other_port}
 
 -- what every history keeps
@@ -48,36 +48,6 @@ free_carried j p next q freed f c = record {
   in_order = λ prio. c.in_order prio ∙ ap (λ lists. of_prio prio j.held ++ list_at lists prio) (sym f.1);
   freed_after_held = c.freed_after_held ∙ ap (λ packets. j.freed ++ packets) f.0 ∙ sym (append_assoc j.freed freed (lent next q));
 }
-
--- one packet of its own priority, and of no other
-of_prio_one : (prio : ℕ) (packet : List ℕ) → of_prio prio (packet ∷ []) ≡ (if prio_of packet == prio then packet ∷ [] else [])
-of_prio_one prio packet =
-    elim (cases_Bool (prio_of packet == prio)) [
-      | inl same ↦ rw same refl
-      | inr other ↦ rw other refl
-    ]
-
--- the packet goes from the front of what waits to the end of what is held
-held_of_prio :
-    (prio : ℕ) (held : List (List ℕ)) (lists : List (List (List ℕ))) (packet : List ℕ) → slice_get (list_at lists (prio_of packet)) 0 ≡ Some packet
-    → of_prio prio held ++ list_at lists prio ≡ of_prio prio (held ++ packet ∷ []) ++ list_at (popped lists (prio_of packet)) prio
-held_of_prio prio held lists packet first =
-    let split : of_prio prio (held ++ packet ∷ []) ≡ of_prio prio held ++ of_prio prio (packet ∷ []) = filter-append (λ p. prio_of p == prio) held (packet ∷ []) in
-    elim (eqb_tells (prio_of packet) prio) [
-      | inl (test, same) ↦
-          let there = subst (λ (r : ℕ). slice_get (list_at lists r) 0 ≡ Some packet) same first in
-          let one : of_prio prio (packet ∷ []) ≡ packet ∷ [] = rw test refl in
-          let rest : list_at (popped lists (prio_of packet)) prio ≡ drop 1 (list_at lists prio) = list_at-popped lists (prio_of packet) prio ∙ rw test refl in
-          ap (λ packets. of_prio prio held ++ packets) (drop_at 0 (list_at lists prio) packet there ∙ ap (λ packets. packet ∷ packets) (sym rest))
-          ∙ sym (append_assoc (of_prio prio held) (packet ∷ []) (list_at (popped lists (prio_of packet)) prio))
-          ∙ ap (λ packets. (of_prio prio held ++ packets) ++ list_at (popped lists (prio_of packet)) prio) (sym one)
-          ∙ ap (λ packets. packets ++ list_at (popped lists (prio_of packet)) prio) (sym split)
-      | inr (test, different) ↦
-          let none : of_prio prio (packet ∷ []) ≡ [] = rw test refl in
-          let rest : list_at (popped lists (prio_of packet)) prio ≡ list_at lists prio = list_at-popped lists (prio_of packet) prio ∙ rw test refl in
-          ap (λ packets. of_prio prio held ++ packets) (sym rest)
-          ∙ ap (λ packets. packets ++ list_at (popped lists (prio_of packet)) prio) (sym (append-nil (of_prio prio held)) ∙ ap (λ packets. of_prio prio held ++ packets) (sym none) ∙ sym split)
-    ]
 
 -- a packet is held, or none
 hold_carried :
@@ -152,10 +122,10 @@ step_keeps l next (TimesOut _) is =
       of_a = stay_carried l.of_a l.a l.b (timed_out l.a) l.b stays.0 stays.1 is.of_a;
       of_b = stay_carried l.of_b l.b l.a l.b (timed_out l.a) refl refl is.of_b;
     }
-step_keeps l next (Puts _ packet few room) is =
+step_keeps l next (Puts _ packet few passes room) is =
     let within : prio_of packet < length l.a.queued = omega (arith, is.port_a.sends.four) in
     record {
-      port_a = put_port l.a packet few room is.port_a;
+      port_a = put_port l.a packet few passes room is.port_a;
       port_b = is.port_b;
       sound = put_keeps l.a l.b l.kept_a l.kept_b (prio_of packet) packet is.port_a.covered within is.sound;
       of_a = put_carried l.of_a l.a l.b packet is.port_a.covered within is.of_a;

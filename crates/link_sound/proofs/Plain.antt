@@ -4,6 +4,7 @@ use Rattle.std.proofs.lemmas.Option.{slice_get_within, slice_get-map}
 use Rattle.rio_packets.specs.Fields.{prio_of}
 use Rattle.link_buffers.specs.Queues.{list_at, popped, Sorted, IsOutStore}
 use Rattle.link_buffers.specs.Priorities.{packets_of, lists_without, Covers}
+use Rattle.link_buffers.proofs.PriorityParts.{drop_at}
 use Rattle.link_buffers.proofs.PriorityLaws.{lists_without-append, map-prio_of-packets_of, take-packets_of, drop-packets_of, Covers-drop, Covers-first}
 use Rattle.link_model.specs.Input.{Input}
 use Rattle.link_model.specs.Output.{Output}
@@ -30,11 +31,6 @@ take_more : {X : Type 0} (count : ℕ) (xs : List X) (x : X) → slice_get xs co
 take_more count [] x is = absurd cc
 take_more zero (first ∷ xs) x is = let same : first ≡ x = cc in ap (λ e. e ∷ []) same
 take_more (suc count) (first ∷ xs) x is = ap (λ es. first ∷ es) (take_more count xs x is)
-
-pub drop_at : {X : Type 0} (count : ℕ) (xs : List X) (x : X) → slice_get xs count ≡ Some x → drop count xs ≡ x ∷ drop (suc count) xs
-drop_at count [] x is = absurd cc
-drop_at zero (first ∷ xs) x is = let same : first ≡ x = cc in ap (λ e. e ∷ xs) same
-drop_at (suc count) (first ∷ xs) x is = drop_at count xs x is
 
 got_behind : {X : Type 0} (n m k : ℕ) (xs : List X) → k ≡ n + m → slice_get (drop n xs) m ≡ slice_get xs k
 got_behind zero m k xs is = ap (slice_get xs) (let same : m ≡ k = omega arith in same)

@@ -6,8 +6,10 @@ use Rattle.std.proofs.lemmas.Option.{slice_get_within}
 use Rattle.std.proofs.Math.ListN.{get_or-eq_default}
 use Rattle.rio_packets.specs.CauseNumbers.{number_of}
 use Rattle.rio_packets.specs.Fields.{prio_of}
-use Rattle.link_buffers.specs.Queues.{no_packets, Sorted, list_at, appended, Buffered, room_for, stored, packet_count, IsInStore, IsOutStore}
+use Rattle.rio_packets.specs.LinkForm.{Passes}
+use Rattle.link_buffers.specs.Queues.{no_packets, Sorted, list_at, appended, Buffered, room_for, stored, packet_count, IsInStore, IsOutStore, ArePackets}
 use Rattle.link_buffers.specs.Priorities.{Covers}
+use Rattle.link_buffers.proofs.QueueLemmas.{Passes-at}
 use Rattle.link_buffers.proofs.StoreLemmas.{IsInStore-appended, IsOutStore-appended}
 use Rattle.link_buffers.proofs.PriorityLaws.{Covers-appended, Covers-take, IsOutStore-lists_without, length-lists_without}
 use Rattle.link_model.specs.declared.event.Event.{Event}
@@ -66,10 +68,10 @@ list_within lists prio packet is =
     ]
 
 -- a packet with room is put into the store
-roomy : (store : Buffered) (packet : List ℕ) → prio_of packet < 4 → room_for store (prio_of packet) ≡ true → IsInStore store → IsInStore (stored true store packet)
-roomy store packet few room is =
+roomy : (store : Buffered) (packet : List ℕ) → prio_of packet < 4 → Passes packet → room_for store (prio_of packet) ≡ true → IsInStore store → IsInStore (stored true store packet)
+roomy store packet few passes room is =
     let less = ltb-true (packet_count store.lists + (3 - prio_of packet)) store.buffers room in
-    IsInStore-appended store.lists store.buffers packet is few (omega arith)
+    IsInStore-appended store.lists store.buffers packet is few passes (omega arith)
 
 expected_store :
     (output : Output) (queued : List (List (List ℕ))) (store : Buffered) (ack : ℕ) (packet : List ℕ) (kept_ahead : List Forward) (kept_back : List Backward) (room : Bool)
@@ -78,8 +80,11 @@ expected_store :
 expected_store output queued store ack packet kept_ahead kept_back true room covers four b is =
     let first = (held_is output ack queued packet kept_ahead kept_back covers four b).first in
     let long = length-lists_without (take (distance (oldest_of output) ack) (prios_of output)) queued in
-    let few = list_within (waiting_from output ack queued) (prio_of packet) packet first in
-    rw (eq-eqb ack ack refl) (roomy store packet (omega (arith, four.four)) room is)
+    let inside = list_within (waiting_from output ack queued) (prio_of packet) packet first in
+    let few : prio_of packet < 4 = omega (arith, four.four) in
+    let acknowledged = take (distance (oldest_of output) ack) (prios_of output) in
+    let waits = IsOutStore-lists_without acknowledged queued (Covers-take (distance (oldest_of output) ack) (prios_of output) queued covers) four in
+    rw (eq-eqb ack ack refl) (roomy store packet few (Passes-at (waiting_from output ack queued) (prio_of packet) 0 packet waits.packets few first) room is)
 expected_store output queued store ack packet kept_ahead kept_back false room covers four b is = rw (eq-eqb ack ack refl) is
 
 packet_store :
@@ -120,12 +125,12 @@ time_out_port a is =
     record { outstanding = sends.window_is; covered = sends.covered; expected_ack = is.expected_ack; sends = is.sends; receives = is.receives; bounded = is.bounded }
 
 pub put_port :
-    (a : PortState) (packet : List ℕ) → prio_of packet < 4 → length (list_at a.queued (prio_of packet)) < 16 → IsPort a → IsPort (record a { queued = appended a.queued (prio_of packet) packet })
-put_port a packet few room is = record {
+    (a : PortState) (packet : List ℕ) → prio_of packet < 4 → Passes packet → length (list_at a.queued (prio_of packet)) < 16 → IsPort a → IsPort (record a { queued = appended a.queued (prio_of packet) packet })
+put_port a packet few passes room is = record {
   outstanding = is.outstanding;
   covered = Covers-appended (prios_of a.output) a.queued (prio_of packet) packet is.covered (omega (arith, is.sends.four));
   expected_ack = is.expected_ack;
-  sends = IsOutStore-appended a.queued packet is.sends few room;
+  sends = IsOutStore-appended a.queued packet is.sends few passes room;
   receives = is.receives;
   bounded = is.bounded;
 }
@@ -182,6 +187,13 @@ none_sorted (suc (suc zero)) few = All-nil _
 none_sorted (suc (suc (suc zero))) few = All-nil _
 none_sorted (suc (suc (suc (suc prio)))) few = absurd (omega arith)
 
+none_there : ArePackets no_packets
+none_there zero few = All-nil _
+none_there (suc zero) few = All-nil _
+none_there (suc (suc zero)) few = All-nil _
+none_there (suc (suc (suc zero))) few = All-nil _
+none_there (suc (suc (suc (suc prio)))) few = absurd (omega arith)
+
 none_within : (prio : ℕ) → prio < 4 → length (list_at no_packets prio) ≤ 16
 none_within zero few = omega arith
 none_within (suc zero) few = omega arith
@@ -195,7 +207,7 @@ new_is_port buffers is = record {
   outstanding = nothing_from 0 (omega arith);
   covered = covers_none no_packets;
   expected_ack = omega arith;
-  sends = record { four = refl; sorted = none_sorted; within = none_within };
-  receives = record { four = refl; sorted = none_sorted; within = omega (arith, is.0); least = is.0; most = is.1 };
+  sends = record { four = refl; sorted = none_sorted; packets = none_there; within = none_within };
+  receives = record { four = refl; sorted = none_sorted; packets = none_there; within = omega (arith, is.0); least = is.0; most = is.1 };
   bounded = tt;
 }

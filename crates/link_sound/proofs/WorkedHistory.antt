@@ -1,5 +1,9 @@
 -- A packet's way between two ports, step by step.
-use Rattle.std.proofs.Common.{◌≡◌, ℕ, List, [], ◌∷◌, refl, subst, arith}
+use Rattle.std.proofs.Common.{◌≡◌, ℕ, true, List, [], ◌∷◌, refl, subst, arith}
+use Rattle.rio_packets.specs.LinkForm.{Passes}
+use Rattle.rio_packets.specs.Carries.{passes}
+use Rattle.rio_packets.specs.Register.{shifted, shifted_times, fed}
+use Rattle.rio_packets.proofs.CarriesLaws.{decides_passes}
 use Rattle.link_buffers.specs.Queues.{no_packets}
 use Rattle.link_buffers.specs.Priorities.{highest_below}
 use Rattle.link_model.specs.declared.event.Event.{Event}
@@ -33,8 +37,8 @@ near_sent = record { place = start; output = out.Output.Ok sent_one; input = in_
 abbrev start_sent : Event
 start_sent = Ctl (start_of_packet 0)
 
-abbrev packet_burst : Event
-packet_burst = Pkt 0 packet
+abbrev packet_sent : Event
+packet_sent = Pkt 0 packet
 
 abbrev end_sent : Event
 end_sent = Ctl (end_of_packet 0)
@@ -47,7 +51,7 @@ turns : turns_to near_put ≡ near_sent
 unfolding highest_below window
 turns = refl
 
-sends : (turn_sends near_put).sent ≡ start_sent ∷ packet_burst ∷ end_sent ∷ []
+sends : (turn_sends near_put).sent ≡ start_sent ∷ packet_sent ∷ end_sent ∷ []
 unfolding highest_below window
 sends = refl
 
@@ -62,7 +66,7 @@ abbrev sent_link : Link
 sent_link = record {
   a = near_sent;
   b = new_port 4;
-  kept_a = start_sent ∷ packet_burst ∷ end_sent ∷ [];
+  kept_a = start_sent ∷ packet_sent ∷ end_sent ∷ [];
   kept_b = [];
   of_a = record { put = packet ∷ []; held = []; freed = [] };
   of_b = no_journeys;
@@ -75,10 +79,10 @@ turn_step : IsStep put_one sent_link
 turn_step = subst (λ (l : Link). IsStep put_one l) turned_is (Turns put_one)
 
 abbrev begun : Link
-begun = turned_round (after_event (turned_round sent_link) start_sent (packet_burst ∷ end_sent ∷ []))
+begun = turned_round (after_event (turned_round sent_link) start_sent (packet_sent ∷ end_sent ∷ []))
 
 abbrev held_link : Link
-held_link = turned_round (after_event (turned_round begun) packet_burst (end_sent ∷ []))
+held_link = turned_round (after_event (turned_round begun) packet_sent (end_sent ∷ []))
 
 abbrev ended : Link
 ended = turned_round (after_event (turned_round held_link) end_sent [])
@@ -86,12 +90,20 @@ ended = turned_round (after_event (turned_round held_link) end_sent [])
 abbrev pub freed_link : Link
 freed_link = after_event ended accepted []
 
+-- the packet is in its link form
+test_packet : passes packet ≡ true
+unfolding shifted shifted_times fed
+test_packet = refl
+
+passes_packet : Passes packet
+passes_packet = (decides_passes packet).0 test_packet
+
 pub whole : IsHistory new_one freed_link
 whole =
-    AtFirst new_one (Puts new_one packet (omega arith) (omega arith))
+    AtFirst new_one (Puts new_one packet (omega arith) passes_packet (omega arith))
     (AtFirst put_one turn_step
-    (AtSecond sent_link (Acts (turned_round sent_link) start_sent (packet_burst ∷ end_sent ∷ []) refl refl)
-    (AtSecond begun (Acts (turned_round begun) packet_burst (end_sent ∷ []) refl refl)
+    (AtSecond sent_link (Acts (turned_round sent_link) start_sent (packet_sent ∷ end_sent ∷ []) refl refl)
+    (AtSecond begun (Acts (turned_round begun) packet_sent (end_sent ∷ []) refl refl)
     (AtSecond held_link (Acts (turned_round held_link) end_sent [] refl refl)
     (AtFirst ended (Acts ended accepted [] refl refl) (Rests freed_link))))))
 

@@ -1,7 +1,8 @@
 -- Whole histories of two ports of a link, whatever is lost between them.
-use Rattle.std.specs.Prelude.{◌≡◌, ℕ, ◌<◌, ◌≤◌, length, ◌==◌, true, false, List, [], ◌∷◌, ◌++◌, filter, option_to_list}
+use Rattle.std.specs.Prelude.{◌≡◌, ℕ, ◌<◌, ◌≤◌, length, true, false, List, [], ◌∷◌, ◌++◌, option_to_list}
 use Rattle.rio_packets.specs.Fields.{prio_of}
-use Rattle.link_buffers.specs.Queues.{Buffered, list_at, appended, IsInStore}
+use Rattle.rio_packets.specs.LinkForm.{Passes}
+use Rattle.link_buffers.specs.Queues.{Buffered, list_at, appended, of_prio, IsInStore}
 use Rattle.link_model.specs.declared.event.Event.{Event}
 use Rattle.link_model.specs.Places.{Place, IsBounded}
 use Rattle.link_port.specs.Ports.{PortState, new_port}
@@ -77,7 +78,8 @@ pub data IsStep : Link → Link → Type 0 where
   -- after it nothing that was sent before arrives
   TimesOut : (l : Link) → IsStep l (after_time_out l)
   -- a packet, where its priority has a place
-  Puts : (l : Link) (packet : List ℕ) → prio_of packet < 4 → length (list_at l.a.queued (prio_of packet)) < 16 → IsStep l (after_put l packet)
+  Puts : (l : Link) (packet : List ℕ) → prio_of packet < 4 → Passes packet
+      → length (list_at l.a.queued (prio_of packet)) < 16 → IsStep l (after_put l packet)
   -- what was sent first is lost, both ways
   Loses : (l : Link) (lost_a kept_a lost_b kept_b : List Event) → l.kept_a ≡ lost_a ++ kept_a → l.kept_b ≡ lost_b ++ kept_b → IsStep l (record l { kept_a = kept_a; kept_b = kept_b })
   -- the store of packets received becomes any other, as where some are taken away, and the framer reads on
@@ -88,10 +90,6 @@ pub data IsHistory : Link → Link → Type 0 where
   Rests : (l : Link) → IsHistory l l
   AtFirst : {next end : Link} (l : Link) → IsStep l next → IsHistory next end → IsHistory l end
   AtSecond : {next end : Link} (l : Link) → IsStep (turned_round l) next → IsHistory (turned_round next) end → IsHistory l end
-
--- the packets of a priority
-abbrev pub of_prio : ℕ → List (List ℕ) → List (List ℕ)
-of_prio prio packets = filter (λ packet. prio_of packet == prio) packets
 
 -- Of each priority, what was put at the port p is what the far port q has held, in order, and then what still waits; and
 -- what was held is what p has freed, in order, and then what is lent.

@@ -17,7 +17,8 @@ returns-clause-state c =
 pub returns-clause-held : goal.returns-clause-held
 returns-clause-held c =
     let all = all_is c.args.self.now c.act_first-reply.new.self c.args.first c.args.second c.requires.paired c.act_first-reply.ensures.state in
-    c.act_first-reply.ensures.held
+    c.held_packet-held.ensures
+    ∙ c.act_first-reply.ensures.held
     ∙ sym (second_holds_none c.act_first-reply.new.self c.args.second (acts_first c.args.self.now c.args.first).held)
     ∙ ap (λ (a : Acted). a.held) all
 

@@ -1,10 +1,13 @@
-use Rattle.std.proofs.Common.{ap, ◌∙◌}
+use Rattle.std.proofs.Common.{sym, ap, ◌∙◌}
 use Rattle.link_port.specs.declared.port.Port.TheInside.{Inside}
 use Rattle.link_port.specs.Halves.{output_of, input_of}
 use Rattle.link_port.specs.Bursts.{burst_by}
 use Rattle.link_port.specs.Turns.{Burst, turn_sends}
 use Rattle.link_port.specs.Ports.{PortState}
+use Rattle.link_model.specs.Places.{start, place_after}
+use Rattle.link_model.specs.Said.{said}
 use Rattle.link_port.proofs.TurnLaws.{turn_is}
+use Rattle.link_port.proofs.SentReads.{turn_read}
 use Rattle.link_port.proofs.port.Port.turn.Goals as goal
 
 -- what contracts see of the fields
@@ -32,3 +35,10 @@ returns-clause-sent c =
     ∙ ap (λ n. (burst_by c.turn-output.result.1 n c.self.inside.queued).sent) c.expected.ensures.value
     ∙ ap (λ (s : Burst). s.sent) (turn_is (seen c.self.inside) _ _ entry waits)
     ∙ ap (λ (p : PortState). (turn_sends p).sent) c.self.view_is
+
+pub returns-clause-read : goal.returns-clause-read
+returns-clause-read c =
+    ap (said start) (returns-clause-chars c) ∙ (turn_read c.args.self.now c.bounds.ensures).says ∙ sym (returns-clause-sent c)
+
+pub returns-clause-rests : goal.returns-clause-rests
+returns-clause-rests c = ap (place_after start) (returns-clause-chars c) ∙ (turn_read c.args.self.now c.bounds.ensures).rests

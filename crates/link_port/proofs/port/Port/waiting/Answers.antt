@@ -6,8 +6,8 @@ use Rattle.link_port.specs.States.{prios_of}
 use Rattle.link_port.specs.Ports.{PortState}
 use Rattle.link_port.proofs.port.Port.waiting.Goals as goal
 
-pub returns : goal.returns
-returns c =
+pub returns-clause-exact : goal.returns-clause-exact
+returns-clause-exact c =
     let port = c.args.self.now in
     let all = packet_count-lists_without (prios_of port.output) port.queued c.bounds.ensures.covered in
     let four = packet_count_four port.queued c.bounds.ensures.sends.four in
