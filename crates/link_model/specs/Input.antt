@@ -1,6 +1,8 @@
 -- The input half of a port: its states and its step table (RapidIO Interconnect Specification 1.3, Part 6, packet
 -- retry and error recovery). The rows and columns are in the order of the table of docs/link.md.
 use Rattle.std.specs.Prelude.{ℕ, ◌+◌, ◌%◌, ◌==◌, ◌&&◌, Bool, true, false, if◌then◌else◌, Option, Some, None}
+use Rattle.rio_symbols.specs.declared.stype1.TheConstants.{RESTART_FROM_RETRY, LINK_REQUEST}
+use Rattle.rio_symbols.specs.declared.cmd.TheConstants.{INPUT_STATUS}
 use Rattle.rio_symbols.specs.Fields.{Fields}
 use Rattle.link_model.specs.Symbols.{packet_accepted, packet_retry, packet_not_accepted, link_response}
 
@@ -29,7 +31,8 @@ packet_arrival expected ack room = if ack == expected then (if room then Expecte
 -- project's profile)
 abbrev pub symbol_arrival : ℕ → ℕ → Arrival
 symbol_arrival s1 cmd =
-    if s1 == 3 then RestartFromRetry else (if (s1 == 4) && (cmd == 4) then LinkRequest else OtherStype1)
+    if s1 == RESTART_FROM_RETRY then RestartFromRetry
+    else (if (s1 == LINK_REQUEST) && (cmd == INPUT_STATUS) then LinkRequest else OtherStype1)
 
 -- the state after, the symbol that is sent, and whether the packet goes into the store
 pub record Received : Type 0 where

@@ -1,6 +1,7 @@
 -- The output half of a port: its states and its step tables (RapidIO Interconnect Specification 1.3, Part 6, packet
 -- retry and error recovery). The rows and columns are in the order of the tables of docs/link.md.
 use Rattle.std.specs.Prelude.{ℕ, ◌==◌, Bool, true, false, nat_lt, nat_le, if◌then◌else◌, length, Option, Some, None}
+use Rattle.rio_symbols.specs.declared.stype0.TheConstants.{PACKET_ACCEPTED, PACKET_RETRY, PACKET_NOT_ACCEPTED, LINK_RESPONSE}
 use Rattle.link_model.specs.Outstanding.{Outstanding, next_ack, distance, is_oldest, without_oldest, with_next, from_ack}
 use Rattle.link_model.specs.Window.{window}
 
@@ -21,7 +22,10 @@ pub data Stype0 : Type 0 where
 
 abbrev pub stype0 : ℕ → Stype0
 stype0 s0 =
-    if s0 == 0 then PacketAccepted else (if s0 == 1 then PacketRetry else (if s0 == 2 then PacketNotAccepted else (if s0 == 6 then LinkResponse else OtherStype0)))
+    if s0 == PACKET_ACCEPTED then PacketAccepted
+    else (if s0 == PACKET_RETRY then PacketRetry
+    else (if s0 == PACKET_NOT_ACCEPTED then PacketNotAccepted
+    else (if s0 == LINK_RESPONSE then LinkResponse else OtherStype0)))
 
 -- the state after a symbol, and how many of the oldest outstanding packets leave the store
 pub record Heard : Type 0 where

@@ -15,7 +15,7 @@ use crate::kinds::InKind;
 use link_buffers::InStore;
 use link_receiver::{AfterPacket, InErrorStopped, InOk, InRetryStopped};
 use rio_packets::{Cause, Packet};
-use rio_symbols::Symbol;
+use rio_symbols::{Symbol, cmd, stype1};
 
 /// The input half. The head of `link_receiver` draws how one state leads to another.
 #[derive(Drop)]
@@ -64,8 +64,8 @@ impl Input {
         ensures { received (input_of result.0) result.1 false ≡ receives (symbol_arrival s1 cmd) (input_of self) }
     {
         match (s1, cmd) {
-            (3, _) => self.restart(),
-            (4, 4) => self.request(),
+            (stype1::RESTART_FROM_RETRY, _) => self.restart(),
+            (stype1::LINK_REQUEST, cmd::INPUT_STATUS) => self.request(),
             _ => (self, None),
         }
     }

@@ -15,6 +15,7 @@ use link_sender::{
     Started,
 };
 use rio_packets::Packet;
+use rio_symbols::stype0;
 
 /// The output half. The head of `link_sender` draws how one state leads to another.
 #[derive(Drop)]
@@ -63,10 +64,10 @@ impl Output {
         ensures freed { freed.new.items ≡ packets_of (take (hears (stype0 s0) (output_of self) ack).freed (prios_of (output_of self))) queued.old }
     {
         match s0 {
-            0 => self.accepted(ack, queued, freed),
-            1 => self.retry(ack),
-            2 => self.not_accepted(),
-            6 => self.response(ack, queued, freed),
+            stype0::PACKET_ACCEPTED => self.accepted(ack, queued, freed),
+            stype0::PACKET_RETRY => self.retry(ack),
+            stype0::PACKET_NOT_ACCEPTED => self.not_accepted(),
+            stype0::LINK_RESPONSE => self.response(ack, queued, freed),
             _ => self,
         }
     }
