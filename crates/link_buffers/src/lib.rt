@@ -21,7 +21,7 @@ mod priorities;
 mod tests;
 
 pub use in_store::InStore;
-pub use out_store::OutStore;
+pub use out_store::{OutStore, Waiting};
 pub use priorities::{
     each_takes_its_own, first_take_the_first, highest_may_be_next, next_is_the_first_that_stays,
     oldest_leaves_first, outstanding_come_first, put_comes_last, taken_in_turn,

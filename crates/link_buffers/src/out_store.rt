@@ -1,7 +1,9 @@
 //! `OutStore`: the packets to be sent.
-ghost use Rattle.std.specs.Prelude.{◌≡◌, ◌<◌, ◌↔◌, length, slice_get, option_copied, IsTrue, IfOk, IfNone};
+ghost use Rattle.std.specs.Prelude.{◌≡◌, ◌<◌, ◌≤◌, ◌↔◌, length, slice_get, option_copied, IsTrue, IfOk, IfSome, IfNone};
+ghost use Rattle.std.specs.Option.{option_map};
 ghost use Rattle.rio_packets.specs.Fields.{prio_of};
 ghost use Rattle.link_buffers.specs.Queues.{list_at, appended, popped, no_packets, IsOutStore};
+ghost use Rattle.link_buffers.specs.Priorities.{lists_without, count_of, highest};
 
 use crate::lists::PriorityLists;
 use rio_chars::NoMemory;
@@ -11,6 +13,15 @@ use std::marker::Model;
 
 /// The most packets of one priority that wait to be sent (this project's profile).
 const ROOM: usize = 16;
+
+/// Where a packet stands that waits to be sent.
+#[derive(Clone, Copy, Debug, PartialEq, Eq)]
+pub struct Waiting {
+    /// Its priority.
+    pub prio: u8,
+    /// Its place in the list of its priority, counted from 0.
+    pub place: u8,
+}
 
 /// The packets to be sent, those sent and not yet accepted among them: four lists, one for each priority, of at most
 /// 16 packets each. Contracts see the four lists.
@@ -68,6 +79,27 @@ impl OutStore {
         self.lists.at(prio, place)
     }
 
+    /// Returns where the first packet stands that waits behind those which these priorities take, at most 255: it is of the
+    /// highest priority that has one. `None` exactly where they take all packets. With the priorities of the outstanding
+    /// packets, it is the next to be sent; with none, the first packet of the highest priority that has one.
+    pub fn first_behind(&self, prios: &[u8]) -> Option<Waiting>
+        requires few { length prios.now ≤ 255 }
+        ensures highest { option_map (λ first. first.prio) result ≡ highest (lists_without prios.now self.now) }
+        ensures place { IfSome result (λ first. first.place ≡ count_of prios.now first.prio) }
+        ensures waits { IfSome result (λ first. first.place < length (list_at self.now first.prio)) }
+        ensures range { IfSome result (λ first. first.prio < 4) }
+        ensures store { IsOutStore self.now }
+    {
+        let _ = self.len(0);
+        for prio in (0..4).rev() {
+            let place = count(prios, prio);
+            if place < self.len(prio) {
+                return Some(Waiting { prio, place });
+            }
+        }
+        None
+    }
+
     /// Returns the number of packets of a priority.
     pub fn len(&self, prio: u8) -> u8
         requires { prio < 4 }
@@ -87,4 +119,12 @@ impl OutStore {
     {
         self.lists.pop(prio)
     }
+}
+
+/// Returns how often a priority stands among these.
+fn count(prios: &[u8], prio: u8) -> u8
+    requires few { length prios.now ≤ 255 }
+    ensures { result ≡ count_of prios.now prio }
+{
+    prios.iter().filter(|other| **other == prio).count() as u8
 }

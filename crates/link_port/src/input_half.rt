@@ -121,7 +121,7 @@ impl Input {
         ensures { result ≡ expects (input_of self.now) ack }
     {
         match self {
-            Input::Ok(state) => ack == state.expected(),
+            Input::Ok(state) => state.expects(ack),
             Input::RetryStopped(_) | Input::ErrorStopped(_) => false,
         }
     }

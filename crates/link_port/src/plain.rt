@@ -1,7 +1,6 @@
 //! `PlainPort`: a port with no protocol.
-ghost use Rattle.std.specs.Prelude.{◌≡◌, ◌<◌, ◌≤◌, IfOk, IfSome, IfNone};
-ghost use Rattle.link_buffers.specs.Queues.{no_packets, IsOutStore};
-ghost use Rattle.link_buffers.specs.Priorities.{highest};
+ghost use Rattle.std.specs.Prelude.{◌≡◌, ◌≤◌, IfOk, IfSome, IfNone};
+ghost use Rattle.link_buffers.specs.Queues.{no_packets};
 ghost use Rattle.link_port.specs.Plain.{passing, without, with};
 
 use crate::face::PortFace;
@@ -83,26 +82,11 @@ pub fn pass(from: &mut PlainPort, to: &mut PlainPort) -> Option<Packet>
     ensures stays { IfNone result (from.new ≡ from.old) }
     ensures no_coming { IfNone result (to.new ≡ to.old) }
 {
-    let prio = highest_waiting(&from.queued)?;
+    let prio = from.queued.first_behind(&[])?.prio;
     if !to.received.has_room(prio) {
         return None;
     }
     let packet = from.queued.pop(prio)?;
     to.received.put(packet.copy());
     Some(packet)
-}
-
-/// Returns the highest priority that has a packet.
-fn highest_waiting(queued: &OutStore) -> Option<u8>
-    ensures highest { result ≡ highest queued.now }
-    ensures range { IfSome result (λ prio. prio < 4) }
-    ensures store { IsOutStore queued.now }
-{
-    let _ = queued.len(0);
-    for prio in (0..4).rev() {
-        if queued.len(prio) > 0 {
-            return Some(prio);
-        }
-    }
-    None
 }

@@ -1,5 +1,5 @@
 //! `InOk`: packets are taken.
-ghost use Rattle.std.specs.Prelude.{◌≡◌, ◌<◌};
+ghost use Rattle.std.specs.Prelude.{◌≡◌, ◌<◌, ◌==◌};
 ghost use Rattle.rio_packets.specs.CauseNumbers.{number_of};
 ghost use Rattle.rio_packets.specs.Fields.{prio_of};
 ghost use Rattle.link_buffers.specs.Queues.{room_for, stored};
@@ -59,6 +59,13 @@ impl InOk {
         self.expected
     }
 
+    /// Returns whether this ackID is the expected one.
+    pub fn expects(&self, ack: u8) -> bool
+        ensures { result ≡ (ack == self.now) }
+    {
+        ack == self.expected
+    }
+
     /// A good packet with this ackID. With another ackID than the expected one it is an error of cause 1; where its
     /// priority has no room it has to be sent again; else it is put into the store. In the first two cases the store
     /// is unchanged.
@@ -68,8 +75,9 @@ impl InOk {
         ensures store { store.new
             ≡ stored (receives (packet_arrival self ack (room_for store.old (prio_of packet.now))) (Input.Ok self)).held store.old packet.now }
     {
+        let known = self.expects(ack);
         let InOk { expected } = self;
-        if ack != expected {
+        if !known {
             let symbol = packet_not_accepted(expected, Cause::UnexpectedAck);
             return AfterPacket::NotAccepted(InErrorStopped { expected }, symbol);
         }

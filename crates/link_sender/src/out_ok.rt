@@ -1,5 +1,4 @@
 //! `OutOk`: packets may start.
-ghost use Rattle.std.specs.Option.{option_map};
 ghost use Rattle.std.specs.Prelude.{◌≡◌, ℕ, [], length, take, IfSome, ◌<◌};
 ghost use Rattle.link_buffers.specs.Queues.{list_at};
 ghost use Rattle.link_buffers.specs.Priorities.{packets_of, lists_without, count_of, highest, Covers};
@@ -58,12 +57,17 @@ impl OutOk {
         if outstanding.len() >= WINDOW {
             return (OutOk { outstanding }, None);
         }
-        let Some((prio, place)) = first_waiting(&outstanding, store) else {
+        let Some(next) = store.first_behind(outstanding.prios()) else {
             return (OutOk { outstanding }, None);
         };
         let ack = outstanding.next_ack();
-        outstanding.push(prio);
-        (OutOk { outstanding }, Some(Started { ack, prio, place }))
+        outstanding.push(next.prio);
+        let started = Started {
+            ack,
+            prio: next.prio,
+            place: next.place,
+        };
+        (OutOk { outstanding }, Some(started))
     }
 
     /// A packet-accepted with this ackID. Where it is that of the oldest outstanding packet, this packet leaves the
@@ -132,20 +136,4 @@ impl OutOk {
     {
         self.outstanding.len()
     }
-}
-
-/// Returns the highest priority that has a packet which is not outstanding, and the place of its first one.
-fn first_waiting(outstanding: &Outstanding, store: &OutStore) -> Option<(u8, u8)>
-    requires { Covers outstanding.now.prios store.now }
-    ensures highest { option_map (λ first. first.0) result ≡ highest (lists_without outstanding.now.prios store.now) }
-    ensures place { IfSome result (λ first. first.1 ≡ count_of outstanding.now.prios first.0) }
-    ensures range { IfSome result (λ first. (first.0 < 4) × (first.1 < length (list_at store.now first.0))) }
-{
-    for prio in (0..4).rev() {
-        let place = outstanding.count(prio);
-        if place < store.len(prio) {
-            return Some((prio, place));
-        }
-    }
-    None
 }

@@ -1,6 +1,5 @@
 //! The outstanding packets: their priorities in the order of their ackIDs, and the oldest ackID.
 ghost use Rattle.std.specs.Prelude.{◌≡◌, ◌<◌, [], length, slice_index, take};
-ghost use Rattle.link_buffers.specs.Priorities.{count_of};
 ghost use Rattle.link_model.specs.Outstanding.{IsOutstanding, next_ack, distance, is_oldest, without_oldest, with_next, from_ack};
 ghost use Rattle.link_model.specs.Window.{window};
 
@@ -72,13 +71,6 @@ impl Outstanding {
         ensures { result ≡ is_oldest self.now ack }
     {
         !self.prios.is_empty() && ack == self.oldest
-    }
-
-    /// Returns how many outstanding packets have a priority.
-    pub(crate) fn count(&self, prio: u8) -> u8
-        ensures { result ≡ count_of self.now.prios prio }
-    {
-        self.prios.iter().filter(|other| **other == prio).count() as u8
     }
 
     /// The oldest packet is acknowledged.

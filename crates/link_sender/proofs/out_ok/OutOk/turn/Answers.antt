@@ -22,14 +22,16 @@ push-requires-clause-few c = omega (arith, window_is)
 pub returns-clause-entry : goal.returns-clause-entry
 returns-clause-entry c =
     let few : length c.self.inside.outstanding.prios < window = omega (arith, window_is) in
-    ap (λ w. turned (Output.Ok w) (Sends.Packet c.next_ack-ack.result c.in-Some.prio)) c.push.ensures
-    ∙ ap (λ ack. turned (Output.Ok (with_next c.self.inside.outstanding c.in-Some.prio)) (Sends.Packet ack c.in-Some.prio)) c.next_ack-ack.ensures
-    ∙ sym (ap (started c.self.inside.outstanding) (startable-open c.self.inside.outstanding _ few ∙ sym c.in-Some.ensures.highest))
+    let found = ap (λ prios. highest (lists_without prios c.args.store.now)) (sym c.prios.ensures.value) ∙ sym c.in-Some.ensures.highest in
+    ap (λ w. turned (Output.Ok w) (Sends.Packet c.next_ack-ack.result c.in-Some.next.prio)) c.push.ensures
+    ∙ ap (λ ack. turned (Output.Ok (with_next c.self.inside.outstanding c.in-Some.next.prio)) (Sends.Packet ack c.in-Some.next.prio)) c.next_ack-ack.ensures
+    ∙ sym (ap (started c.self.inside.outstanding) (startable-open c.self.inside.outstanding _ few ∙ found))
     ∙ ap (λ w. started w (startable w (highest (lists_without w.prios c.args.store.now)))) c.self.view_is
 
 pub returns-clause-covered : goal.returns-clause-covered
 returns-clause-covered c =
     let w = c.self.inside.outstanding in
+    let found = ap (λ prios. highest (lists_without prios c.args.store.now)) (sym c.prios.ensures.value) ∙ sym c.in-Some.ensures.highest in
     let covers = subst (λ (v : Outstanding). Covers v.prios c.args.store.now) (sym c.self.view_is) c.requires in
     subst (λ (v : Outstanding). Covers v.prios c.args.store.now) (sym c.push.ensures)
-    (Covers-highest w.prios c.in-Some.prio c.args.store.now covers (sym c.in-Some.ensures.highest))
+    (Covers-highest w.prios c.in-Some.next.prio c.args.store.now covers found)
