@@ -59,12 +59,12 @@ list-taken prio before (p ∷ ps) lists four sorted covers =
     let its : prio_of packet ≡ p = sorted p few 0 [] some in
     let there : slice_get (list_at lists (prio_of packet)) 0 ≡ Some packet = subst (λ (r : ℕ). slice_get (list_at lists r) 0 ≡ Some packet) (sym its) first in
     let rest = list-taken prio (before ++ packet ∷ []) ps (popped lists p) (length-set lists p (drop 1 (list_at lists p)) ∙ four)
-      (Sorted-popped lists p four few sorted) (Covers-rest p ps lists covers) in
+    (Sorted-popped lists p four few sorted) (Covers-rest p ps lists covers) in
     held_of_prio prio before lists packet there
     ∙ ap (λ r. of_prio prio (before ++ packet ∷ []) ++ list_at (popped lists r) prio) its
     ∙ rest
     ∙ ap (λ all. of_prio prio all ++ list_at (lists_without (p ∷ ps) lists) prio)
-      (append_assoc before (packet ∷ []) (packets_of ps (popped lists p)) ∙ ap (λ all. before ++ all) (sym (packets_of-cons p ps lists packet first)))
+    (append_assoc before (packet ∷ []) (packets_of ps (popped lists p)) ∙ ap (λ all. before ++ all) (sym (packets_of-cons p ps lists packet first)))
 
 pub list-parts :
     (prio : ℕ) (prios : List ℕ) (lists : List (List (List ℕ))) → length lists ≡ 4 → Sorted lists → Covers prios lists

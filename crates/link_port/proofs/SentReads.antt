@@ -50,7 +50,7 @@ packet_read expected ack (Some packet) few below passes =
     let form = passes packet refl in
     record {
       says = ap (map (λ (event : ℕ × Event). event.1))
-        (run-packet Plain 0 (7 + length packet) (start_of_packet expected) ack packet (end_of_packet expected) tt first refl below form last refl refl);
+          (run-packet Plain 0 (7 + length packet) (start_of_packet expected) ack packet (end_of_packet expected) tt first refl below form last refl refl);
       rests = place_after-packet Plain (start_of_packet expected) ack packet (end_of_packet expected) tt first refl below form last refl;
     }
 

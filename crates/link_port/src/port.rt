@@ -200,6 +200,7 @@ impl Port {
 
 impl PortFace for Port {
     ghost use Rattle.std.proofs.Common.{◌∙◌, refl};
+
     ghost received = { λ port. port.received.lists };
 
     ghost queued = { λ port. port.queued };
