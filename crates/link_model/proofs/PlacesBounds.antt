@@ -69,7 +69,7 @@ by_bounded t (Two d i j) Stray h = tt
 pub step_bounded : (from : Place) (c : Char) → IsBounded from.text → IsBounded (step from c).place.text
 step_bounded from c h = by_bounded from.text from.pending (kind c) h
 
-after_all : (from : Place) (cs : List Char) → IsBounded from.text → IsBounded (place_after from cs).text
+pub after_all : (from : Place) (cs : List Char) → IsBounded from.text → IsBounded (place_after from cs).text
 unfolding place_after
 after_all from [] h = h
 after_all from (c ∷ cs) h = after_all (step from c).place cs (step_bounded from c h)

@@ -5,3 +5,4 @@ pub mod ReplyLaws
 pub mod CarryLaws
 pub mod ArrivalLaws
 pub mod SentReads
+pub mod RunLaws

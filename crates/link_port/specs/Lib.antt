@@ -5,6 +5,7 @@ pub mod Halves
 pub mod Sends
 pub mod Ports
 pub mod Steps
+pub mod Runs
 pub mod Turns
 pub mod Bursts
 pub mod Acts

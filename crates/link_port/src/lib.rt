@@ -7,7 +7,9 @@
 //!
 //! Left out: what travels between two ports, and when a time-out comes.
 //!
-//! - [`Port`]: `take`, `turn` and `time_out`, and readers of its state, by [`OutKind`] and [`InKind`]
+//! - [`Port`]: `take`, `turn` and `time_out`, and readers of its state, by [`OutKind`] and [`InKind`]; `take_run` for
+//!   runs of characters, or `read` and then `act` and the like, where something is to come between, told by
+//!   [`Completed`] and [`Done`]
 //! - [`Taken`] and [`Burst`]: what a character did, and what a turn sends
 //! - [`PortFace`]: the eight lists of packets that the layer above sees
 //! - [`PlainPort`] and [`pass`]: a port with no protocol, whose packets pass at once
@@ -17,6 +19,7 @@
 
 mod acts;
 mod bursts;
+mod completed;
 mod example;
 mod face;
 mod input_half;
@@ -33,6 +36,7 @@ mod turn_tests;
 
 pub use acts::Done;
 pub use bursts::Burst;
+pub use completed::Completed;
 pub use example::carry;
 pub use face::PortFace;
 pub use kinds::{InKind, OutKind};

@@ -9,10 +9,12 @@ ghost use Rattle.link_port.specs.States.{prios_of, has_asked};
 ghost use Rattle.link_port.specs.Halves.{out_kind_of, in_kind_of};
 ghost use Rattle.link_port.specs.Ports.{AreAlike, IsPort, new_port};
 ghost use Rattle.link_port.specs.Steps.{read, takes, first_acted};
+ghost use Rattle.link_port.specs.Runs.{front_of, after_front, takes_run, completed_events};
 ghost use Rattle.link_port.specs.Turns.{turns_to, turn_sends, timed_out, waiting_in};
 ghost use Rattle.rio_framer.specs.Giving.{listed, IsPaired};
 
 use crate::bursts::{Burst, make_burst};
+use crate::completed::{Completed, complete};
 use crate::face::PortFace;
 use crate::input_half::Input;
 use crate::kinds::{InKind, OutKind};
@@ -97,6 +99,45 @@ impl Port {
         let taken = self.act_on(first, second, freed);
         self.bounds();
         taken
+    }
+
+    /// Takes characters, 1 to 4,096, up to and with the first that completes an event, or all where none does, and answers
+    /// their number and what they did: as [`Port::take`] of each in order.
+    pub fn take_run(&mut self, chars: &[Char], freed: &mut ArrayVec<Packet, 31>) -> (u16, Taken)
+        requires least { 1 ≤ length chars.now }
+        requires most { length chars.now ≤ 4096 }
+        requires empty { freed.old.items ≡ [] }
+        ensures count { result.0 ≡ (front_of self.old chars.now).count }
+        ensures state { self.new ≡ (takes_run self.old chars.now).port }
+        ensures events { listed result.1.first result.1.second ≡ (front_of self.old chars.now).step.gives }
+        ensures paired { IsPaired result.1.first result.1.second }
+        ensures first_acted { result.1.first_acted ≡ first_acted self.old (front_of self.old chars.now).step.gives }
+        ensures held { result.1.held ≡ (takes_run self.old chars.now).held }
+        ensures reply { result.1.reply ≡ (takes_run self.old chars.now).reply }
+        ensures freed { freed.new.items ≡ (takes_run self.old chars.now).freed }
+        ensures port { IsPort self.new }
+    {
+        let (count, Events { first, second }) = self.framer.feed_run(chars);
+        let taken = self.act_on(first, second, freed);
+        self.bounds();
+        (count, taken)
+    }
+
+    /// Reads characters up to and with the first that completes an event, or all where none does, and answers their number
+    /// and what they complete, of which nothing is done yet: [`Port::act`] and the like do it. A packet that was completed is
+    /// put into the slot.
+    pub fn read(&mut self, chars: &[Char], packet: &mut Packet) -> (usize, Completed)
+        ensures count { result.0 ≡ (front_of self.old chars.now).count }
+        ensures state { self.new ≡ after_front self.old chars.now }
+        ensures events { completed_events result.1 packet.new ≡ (front_of self.old chars.now).step.gives }
+        ensures within { result.0 ≤ length chars.now }
+        ensures some { 0 < length chars.now → 0 < result.0 }
+        ensures port { IsPort self.new }
+    {
+        let (count, told) = self.framer.read_run(chars);
+        let completed = complete(&self.framer, told, packet);
+        self.bounds();
+        (count, completed)
     }
 
     /// Sends at most one packet or one symbol: a packet where the sender may start one, restart-from-retry after a retry,
