@@ -50,7 +50,7 @@ pub data StepOn (net next : Network) (made left : List Item) (old new : Board) :
   Leaves : (p : PortRef) (r : ℕ) (item : Item) (rest : List Item) → made ≡ [] → left ≡ item ∷ [] → next.given ≡ net.given → old (Received p r) ≡ item ∷ rest → ((place : Place) → new place ≡ put (cut old (Received p r) rest) Left item place) → StepOn net next made left old new
 
 -- a list with a first packet has a first item
-first_item : (items : List Item) (packet : List ℕ) → first_packet items ≡ Some packet → (item : Item) × (items ≡ item ∷ behind_first items) × (only_first items ≡ item ∷ []) × (item.now ≡ packet)
+pub first_item : (items : List Item) (packet : List ℕ) → first_packet items ≡ Some packet → (item : Item) × (items ≡ item ∷ behind_first items) × (only_first items ≡ item ∷ []) × (item.now ≡ packet)
 first_item [] packet first = absurd (cc)
 first_item (item ∷ items) packet first = (item, refl, refl, cc)
 

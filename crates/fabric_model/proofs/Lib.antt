@@ -9,6 +9,7 @@ pub mod Leaving
 pub mod Paths
 pub mod Order
 pub mod Lanes
+pub mod Room
 pub mod Settling
 pub mod Worked
 pub mod Lawfulness

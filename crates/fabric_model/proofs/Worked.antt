@@ -5,9 +5,11 @@ use Rattle.std.proofs.lemmas.Bool.{false≢true}
 use Rattle.std.proofs.lemmas.Bool.Decides.{Decides-by_and, Decides-ltb}
 use Rattle.std.proofs.lemmas.Option.{none-some}
 use Rattle.rio_packets.specs.Fields.{prio_of, body_of}
-use Rattle.rio_packets.specs.LinkForm.{LinkForm, IsBody, AreBytes}
+use Rattle.rio_packets.specs.LinkForm.{LinkForm, IsBody, AreBytes, Passes}
+use Rattle.rio_packets.specs.Carries.{passes}
 use Rattle.rio_packets.specs.Making.{made, with_crc, with_more}
 use Rattle.rio_packets.specs.Register.{fed, shifted, shifted_times}
+use Rattle.rio_packets.proofs.CarriesLaws.{decides_passes}
 use Rattle.rio_packets.proofs.FormLaws.{LinkForm-made}
 use Rattle.fabric_model.specs.declared.lines.Line.TheVariants.{Settle, Collect}
 use Rattle.fabric_model.specs.Network.{Item, port_of, first_packet, room_in}
@@ -23,8 +25,23 @@ use Rattle.fabric_model.specs.Laws.Flows.{InOrder}
 use Rattle.fabric_model.specs.Laws.Settling.{IsSettled}
 use Rattle.fabric_model.specs.Laws.Examples.{rest_of_body, packet, other, pair_script, pair_lines, pair, first, held_once, kept_too, left_twice, left_as_other, freed_too_early, not_passed, fork, overtaking}
 
+-- the packets are in their link form
+test_packet : passes packet ≡ true
+unfolding fed shifted_times shifted
+test_packet = refl
+
+test_other : passes other ≡ true
+unfolding fed shifted_times shifted
+test_other = refl
+
+packet_passes : Passes packet
+packet_passes = (decides_passes packet).0 test_packet
+
+other_passes : Passes other
+other_passes = (decides_passes other).0 test_other
+
 pub pair_legal : LegalFrom pair (steps_of pair_lines) (after_all pair (steps_of pair_lines))
-pair_legal = ((refl, refl), ((port_of 0, refl, refl, refl), (refl, ((refl, refl, refl), refl))))
+pair_legal = ((refl, packet_passes, refl), ((port_of 0, refl, refl, refl), (refl, ((refl, refl, refl), refl))))
 
 pub pair_gone : gone pair (steps_of pair_lines) ≡ first ∷ []
 pair_gone = refl
@@ -107,7 +124,7 @@ not_passed_breaks (inr waits) = at_priority waits.priority waits.known waits.fir
     at_priority (suc (suc (suc (suc r)))) known at = omega arith
 
 pub overtaking_legal : LegalFrom fork overtaking (after_all fork overtaking)
-overtaking_legal = ((refl, refl), ((refl, refl), ((port_of 0, refl, refl, refl), ((port_of 0, refl, refl, refl), ((refl, refl, refl), ((refl, refl, refl), refl))))))
+overtaking_legal = ((refl, packet_passes, refl), ((refl, other_passes, refl), ((port_of 0, refl, refl, refl), ((port_of 0, refl, refl, refl), ((refl, refl, refl), ((refl, refl, refl), refl))))))
 
 pub overtaking_breaks : InOrder fork overtaking → ⊥
 overtaking_breaks law = omega (arith, law.earlier_first first second [] (first ∷ []) refl refl (record { port = refl; source = refl; dest = refl; priority = refl; maintenance = refl; hop = refl }) (omega arith))

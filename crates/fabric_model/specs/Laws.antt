@@ -7,6 +7,7 @@ pub mod Freeing
 pub mod Flows
 pub mod Proper
 pub mod Priorities
+pub mod Room
 pub mod Settling
 pub mod Examples
 pub mod Lawful

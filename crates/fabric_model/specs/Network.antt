@@ -82,8 +82,12 @@ room_in net p r = nat_lt (held net p + (3 - r)) (net.buffers p)
 abbrev pub places : ℕ
 places = 16
 
+-- how many packets of a priority a port has to be sent: those that wait, and those that are lent
+abbrev pub to_send : Network → PortRef → ℕ → ℕ
+to_send net p r = length (net.waiting p r) + length (filter (λ item. prio_of item.now == r) (net.lent p))
+
 abbrev pub room_out : Network → PortRef → ℕ → Bool
-room_out net p r = nat_lt (length (net.waiting p r) + length (filter (λ item. prio_of item.now == r) (net.lent p))) places
+room_out net p r = nat_lt (to_send net p r) places
 
 abbrev pub IsEndpoint : Network → ℕ → Type 0
 IsEndpoint net n = IsSome (slice_get net.registers n)

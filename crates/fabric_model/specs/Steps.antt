@@ -2,6 +2,7 @@
 -- sent over a link.
 use Rattle.std.specs.Prelude.{◌≡◌, ℕ, ◌+◌, false, IsTrue, List, [], ◌∷◌, ◌++◌, Option, Some, None}
 use Rattle.rio_packets.specs.Fields.{prio_of, is_request}
+use Rattle.rio_packets.specs.LinkForm.{Passes}
 use Rattle.fabric_model.specs.declared.lines.PortRef.{PortRef}
 use Rattle.fabric_model.specs.Network.{Item, Network, port_of, with_lane, with_lent, peer_in, first_packet, room_in, room_out, IsEndpoint}
 
@@ -26,8 +27,9 @@ abbrev pub Needs : Network → Step → Type 0
 Needs net (Linked (Hold q packet)) = (p : PortRef) × (peer_in net.links q ≡ Some p) × (first_packet (net.waiting p (prio_of packet)) ≡ Some packet) × IsTrue (room_in net q (prio_of packet))
 -- the packet is the first that the next hop holds
 Needs net (Linked (Free p packet)) = first_packet (net.lent p) ≡ Some packet
--- an endpoint has room to send it
-Needs net (AtNode (Take n packet)) = IsEndpoint net n × IsTrue (room_out net (port_of n) (prio_of packet))
+-- it is a packet in its link form, and an endpoint has room to send it
+Needs net (AtNode (Take n packet)) =
+    IsEndpoint net n × Passes packet × IsTrue (room_out net (port_of n) (prio_of packet))
 -- it is the first of its priority that an endpoint has received, and not for the endpoint's own registers
 Needs net (AtNode (Leave n packet)) = IsEndpoint net n × (first_packet (net.received (port_of n) (prio_of packet)) ≡ Some packet) × (is_request packet ≡ false)
 

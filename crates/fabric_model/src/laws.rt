@@ -19,6 +19,7 @@ ghost use Rattle.fabric_model.specs.Laws.Freeing.{IsFront, FreedAfterHeld};
 ghost use Rattle.fabric_model.specs.Laws.Flows.{SamePriority, EarlierFirst, InOrder};
 ghost use Rattle.fabric_model.specs.Laws.Proper.{AreProper, SetUpIsProper};
 ghost use Rattle.fabric_model.specs.Laws.Priorities.{ByPriority};
+ghost use Rattle.fabric_model.specs.Laws.Room.{HasPlaces};
 ghost use Rattle.fabric_model.specs.Laws.Settling.{IsSettled};
 
 /// A script has at most one trace.
@@ -66,6 +67,12 @@ pub fn in_order_of_priority()
 /// Each list of a network holds packets of its own priority alone.
 pub fn by_priority()
     ensures { (start : Network) (steps : List Step) (end : Network) → IsEmptyNetwork start → LegalFrom start steps end → ByPriority end }
+{}
+
+/// A port never has more than 16 packets of a priority to be sent, those that are lent among them.
+pub fn places_suffice()
+    ensures { (start : Network) (steps : List Step) (end : Network)
+        → IsEmptyNetwork start → LegalFrom start steps end → HasPlaces end }
 {}
 
 /// Settling a link leaves nothing that could pass over it: at each end nothing waits, or the packet whose turn it is has

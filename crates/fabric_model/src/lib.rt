@@ -28,7 +28,8 @@ mod text;
 pub use examples::{laws_can_fail, worked_run};
 pub use laws::{
     by_priority, first_blocks_are_a_front, freed_after_held, holding_exactly, in_order,
-    in_order_of_priority, joined, once, one_end, one_trace, set_up, settled, unchanged,
+    in_order_of_priority, joined, once, one_end, one_trace, places_suffice, set_up, settled,
+    unchanged,
 };
 pub use lines::{Line, Numbered, PortRef, Script};
 pub use text::{Hex, Name};

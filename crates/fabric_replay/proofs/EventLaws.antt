@@ -19,6 +19,7 @@ use Rattle.fabric_model.specs.Seen.{Seen, seen}
 use Rattle.fabric_model.specs.Blocks.Send.{sends}
 use Rattle.fabric_model.specs.Blocks.Event.{IsBlock}
 use Rattle.fabric_model.specs.Blocks.Settle.{PassesAll, IsSettle, PassesBoth}
+use Rattle.rio_packets.specs.LinkForm.{Passes}
 use Rattle.fabric_model.specs.Steps.{LegalFrom}
 use Rattle.fabric_model.specs.Lines.{steps_of}
 use Rattle.fabric_model.proofs.Joining.{steps_of-append, legal_joined}
@@ -57,11 +58,11 @@ module _ (names : List (List ℕ)) {K : Type 0} (written : K → Option (List �
   Did Is = Passed Is names written faults b b2 (port_of 0) (port_of 1) pair_links pair_registers s new new_there
 
   -- an endpoint takes a packet
-  pub Does-take : (packet : List ℕ) → prio_of packet < 4 → is_request packet ≡ false → ShowsFabric old s.network → length (list_at old.a.waiting (prio_of packet)) < 16
+  pub Does-take : (packet : List ℕ) → prio_of packet < 4 → Passes packet → is_request packet ≡ false → ShowsFabric old s.network → length (list_at old.a.waiting (prio_of packet)) < 16
       → Writes written faults b b2 (trace_line_text names (Stepped (AtNode (Take 0 packet))))
       → new.waiting ≡ appended old.a.waiting (prio_of packet) packet → new.received ≡ old.a.received → new_there ≡ old.b
       → Did (λ block. block ≡ sends s 0 packet)
-  Does-take packet few plain shows room printed put kept rest =
+  Does-take packet few passes plain shows room printed put kept rest =
       let may : room_out s.network (port_of 0) (prio_of packet) ≡ true = room_out-shows old.a.waiting old.a.received s.network (port_of 0) (prio_of packet) few shows.here ∙ lt-ltb _ _ room in
       let item : Item = record { number = s.network.given; port = port_of 0; taken = packet; now = packet } in
       let net2 : Network = after s.network (AtNode (Take 0 packet)) in
@@ -88,7 +89,7 @@ module _ (names : List (List ℕ)) {K : Type 0} (written : K → Option (List �
       record {
         block = Stepped (AtNode (Take 0 packet)) ∷ [];
         prints = Writes-line names (Stepped (AtNode (Take 0 packet))) printed;
-        legal = ((is_endpoint s.network 0 shows.known refl, may), refl);
+        legal = ((is_endpoint s.network 0 shows.known refl, passes, may), refl);
         all = ap (λ t. cond t (Stepped (AtNode (Take 0 packet)) ∷ []) (Lacked Full ∷ [])) (sym may);
         shows = rw (put, kept, rest) moved;
       }

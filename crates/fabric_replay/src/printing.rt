@@ -3,6 +3,7 @@ ghost use Rattle.std.specs.Prelude.{◌<◌, ◌++◌, length, codes, slice_inde
 ghost use Rattle.std.specs.Fmt.{decimal};
 ghost use Rattle.rio_chars.specs.HexText.{hex_of};
 ghost use Rattle.rio_chars.specs.Written.{Writes};
+ghost use Rattle.rio_packets.specs.LinkForm.{Passes};
 ghost use Rattle.fabric_model.specs.Steps.{Hold, Free, Linked, Take, Leave, AtNode};
 ghost use Rattle.fabric_model.specs.Lines.{Begun, Stepped};
 ghost use Rattle.fabric_model.specs.Text.{name_of, port_text, hex_text, line_text, trace_line_text};
@@ -55,8 +56,10 @@ pub(crate) fn write_free<K: Sink>(
 /// Tells that an endpoint takes a packet.
 pub(crate) fn write_take<K: Sink>(outbox: &mut Outbox<K>, names: &[Name], node: u8, packet: &Packet)
     requires { node < length names.now }
-    ensures { Writes K.written K.faults outbox.old outbox.new (trace_line_text names.now (Stepped (AtNode (Take node packet.now)))) }
+    ensures line { Writes K.written K.faults outbox.old outbox.new (trace_line_text names.now (Stepped (AtNode (Take node packet.now)))) }
+    ensures packet { Passes packet.now }
 {
+    let _ = packet.bytes();
     outbox.write(b"take ");
     write_name(outbox, names, node);
     write_packet(outbox, packet);
