@@ -155,6 +155,87 @@ fn a_packet_is_too_long_from_its_277th_byte_on(rt: HostRuntime) -> Result<(), Fa
     Ok(())
 }
 
+// A packet with a symbol in it, a symbol that breaks off another, a packet that start-of-packet ends, and text that is none.
+const RUNS: [&str; 5] = [
+    "k7c d80 df8 d1f d00 d0f d02 d01 k1c d80 dff d0f dde db2 d00 d00 k7c d80 dfa d18",
+    "k7c d80 df8 d1f d00 d0f d02 d01 dde db2 d00 d00 k7c d80 df8 d1f d00 d0f d02 d01 d00",
+    "k1c d80 k7c d80 df8 d1f d00 k1c d80 dff kbc k1c d80 dff d0f",
+    "d00 d01 d02 d03 d04 d05 d06 d07 d08 kbc inv d00 k1c d00 dff d0f",
+    "k7c d80 df8 d1f d00 d0f d02 d01 d04 d05 d06 d07 d08 d09 d0a d0b k1c d80 kbc",
+];
+
+#[test]
+fn a_run_is_its_characters_one_by_one_wherever_it_is_cut(rt: HostRuntime) -> Result<(), Fail> {
+    for text in RUNS {
+        let chars = chars_of(rt.alloc(), text)?;
+        assert!(rt; chars.len() <= 4096);
+        for cut in 0..=chars.len() {
+            let (front, back) = chars.as_slice().split_at(cut);
+            let mut by_run = Framer::new();
+            let mut by_one = Framer::new();
+            assert!(rt;
+                runs_agree(&mut by_run, &mut by_one, front),
+                "front of {cut}: {text}"
+            );
+            assert!(rt;
+                runs_agree(&mut by_run, &mut by_one, back),
+                "behind {cut}: {text}"
+            );
+            assert!(rt; by_run.at_rest() == by_one.at_rest());
+        }
+    }
+    Ok(())
+}
+
+#[test]
+fn a_run_ends_with_the_character_that_tells(rt: HostRuntime) -> Result<(), Fail> {
+    let chars = chars_of(rt.alloc(), RUNS[0])?;
+    assert!(rt; chars.len() == 20);
+    let mut framer = Framer::new();
+    let (first, _) = framer.feed_run(chars.as_slice());
+    let (second, _) = framer.feed_run(&chars.as_slice()[4..]);
+    let (third, _) = framer.feed_run(&chars.as_slice()[12..]);
+    assert!(rt; [first, second, third] == [4, 8, 8]);
+    Ok(())
+}
+
+/// Whether a framer that takes runs tells what a framer tells that takes one character after another.
+fn runs_agree(by_run: &mut Framer, by_one: &mut Framer, chars: &[Char]) -> bool {
+    let mut rest = chars;
+    for _ in 0..chars.len() {
+        if rest.is_empty() || rest.len() > 4096 {
+            break;
+        }
+        let (count, events) = by_run.feed_run(rest);
+        let (Some(run), Some(behind)) = (
+            rest.get(..usize::from(count)),
+            rest.get(usize::from(count)..),
+        ) else {
+            return false;
+        };
+        if !agrees(by_one, run, &events) {
+            return false;
+        }
+        rest = behind;
+    }
+    rest.is_empty()
+}
+
+/// Whether the characters of a run tell nothing but, with the last of them, these events.
+fn agrees(framer: &mut Framer, run: &[Char], events: &Events) -> bool {
+    let mut last = Events {
+        first: None,
+        second: None,
+    };
+    for c in run {
+        if last.first.is_some() {
+            return false;
+        }
+        last = framer.feed(*c);
+    }
+    last == *events
+}
+
 #[test]
 fn a_packet_is_sent_with_its_ackid(rt: HostRuntime) -> Result<(), Fail> {
     let sent = "k7c d80 df8 d1f d10 d0f d02 d01 dde db2 d00 d00 k7c d80 dfa d18";
