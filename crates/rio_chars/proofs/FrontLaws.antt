@@ -34,3 +34,12 @@ AppendsFront-longer a b bytes more f = record {
   whole = ap (λ l. l ++ more) f.whole ∙ append_assoc f.front f.rest more;
   told = f.told;
 }
+
+-- a front behind bytes that were written
+pub AppendsFront-behind : (a b c : Option (List ℕ)) (bytes more : List ℕ) → Appends a b bytes → AppendsFront b c more → AppendsFront a c (bytes ++ more)
+AppendsFront-behind a b c bytes more told f = record {
+  front = bytes ++ f.front;
+  rest = f.rest;
+  whole = ap (λ l. bytes ++ l) f.whole ∙ sym (append_assoc bytes f.front f.rest);
+  told = Appends-trans a b c bytes f.front told f.told;
+}

@@ -1,5 +1,6 @@
 pub mod FrontLaws
 pub mod TakingLaws
+pub mod UnlessLaws
 pub mod WrittenLaws
 pub mod FaultLaws
 pub mod HexLaws

@@ -45,8 +45,8 @@ pub(crate) fn write_hex(room: &mut [u8], bytes: &[u8])
     }
 }
 
-// Writes the digits of a number at the end, and answers where they begin.
-pub(crate) fn write_decimal(number: u32, digits: &mut [u8; 10]) -> usize
+/// Writes the decimal digits of a number, with no zero in front, at the end of the room, and answers where they begin.
+pub fn write_decimal(number: u32, digits: &mut [u8; 10]) -> usize
     ensures begin { result ≤ 10 }
     ensures text { drop result digits.new ≡ decimal number }
 {

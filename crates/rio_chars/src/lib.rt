@@ -5,9 +5,9 @@
 //! 8b/10b code groups, and it knows of a standard stream's bytes only what std tells of them: nothing.
 //!
 //! - `Char` and `Chars`: a character after 8b/10b decoding, and a list of them; `char_text`, `read_char`.
-//! - `read_hex` and `read_hex_byte`: bytes from hexadecimal digits.
+//! - `read_hex` and `read_hex_byte`: bytes from hexadecimal digits; `write_decimal`: a number's digits.
 //! - `Source` and `Sink`: what reads and writes may do; `Failed` and `NoMemory`, why a call gives up.
-//! - `read_all`, with `ReadEnd`, and `write_all`: a whole input, a whole text.
+//! - `read_all`, with `ReadEnd`, and `write_all`: a whole input, a whole text; `write_unless`: if no write has failed.
 //! - `Outbox`, over a `TextBuffer`: text on its way to a sink in pieces of kilobytes, with no branch at each word.
 //! - `MemSource` and `MemSink`: in memory, failing in listed calls; `PlainSource` and `PlainSink`: never failing;
 //!   `StdSource` and `StdSink`: over readers and writers of the standard library.
@@ -33,11 +33,11 @@ mod texts;
 mod writing;
 
 pub use chars::{Char, Chars};
-pub use digits::{read_hex, read_hex_byte};
+pub use digits::{read_hex, read_hex_byte, write_decimal};
 pub use failures::{Failed, NoMemory};
 pub use memory_sink::MemSink;
 pub use memory_source::MemSource;
-pub use outbox::Outbox;
+pub use outbox::{Outbox, write_unless};
 pub use plain::{PlainSink, PlainSource};
 pub use reading::{ReadEnd, read_all};
 pub use sink::Sink;

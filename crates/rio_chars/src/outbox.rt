@@ -118,8 +118,8 @@ impl<'a, K: Sink> Outbox<'a, K> {
     }
 }
 
-// Writes bytes unless a write has failed, and answers whether one has.
-fn write_unless<K: Sink>(failed: bool, sink: &mut K, bytes: &[u8]) -> bool
+/// Writes bytes unless a write has failed, and answers whether one has. It takes no memory.
+pub fn write_unless<K: Sink>(failed: bool, sink: &mut K, bytes: &[u8]) -> bool
     ensures { WritesUnless failed (K.written sink.old) (K.faults sink.old)
         result (K.written sink.new) (K.faults sink.new) bytes.now }
 {

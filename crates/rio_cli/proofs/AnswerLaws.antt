@@ -1,23 +1,20 @@
 -- What the answers of a call say, status by status.
-use Rattle.std.proofs.Common.{◌≡◌, ◌≢◌, ℕ, ◌+◌, ◌<◌, ◌≤◌, List, [], ◌++◌, length, length-append, Option, Some, None, refl, sym, ap, ◌∙◌, subst, arith, append-nil, ◌⊎◌, inl, inr, Bool, Decides, get_or, map, ◌∷◌}
-use Rattle.std.specs.Io.KnownBytes.{Appends, Consumes, IsAtEnd}
+use Rattle.std.proofs.Common.{◌≡◌, ◌≢◌, ℕ, ◌+◌, ◌<◌, ◌≤◌, List, [], ◌++◌, length, length-append, Option, Some, None, refl, sym, ap, ◌∙◌, subst, arith, append-nil, ◌⊎◌, inl, inr, Bool, Decides, get_or, map, ◌∷◌, MatchOption}
+use Rattle.std.specs.Io.KnownBytes.{Appends, Consumes, IsAtEnd, Keeps}
 use Rattle.rio_chars.specs.Faults.{Rose}
 use Rattle.rio_chars.specs.Fronts.{AppendsFront}
 use Rattle.rio_chars.specs.Takings.{ConsumesJust, ConsumesUpTo}
-use Rattle.fabric_model.specs.declared.lines.Numbered.{Numbered}
-use Rattle.fabric_replay.specs.Spelling.{IsScript, RefusedAt}
 use Rattle.fabric_replay.proofs.ReadingLaws.{not_refused}
-use Rattle.rio_chars.specs.declared.chars.Char.{Char}
 use Rattle.rio_cli.specs.declared.command.Command.{Command}
 use Rattle.rio_cli.specs.declared.command.Command.TheVariants.{Replay, Decode}
-use Rattle.rio_cli.specs.Words.{IsReplay, IsDecode, Asks}
-use Rattle.rio_cli.specs.Decoding.{SpellsChars, BadWordAt, Decodes}
+use Rattle.rio_cli.specs.Words.{Asks, AreUnknown}
+use Rattle.rio_cli.specs.declared.answer.Refusal.{Refusal}
 use Rattle.rio_cli.proofs.WordLaws.{no_bad_word}
 use Rattle.rio_cli.specs.declared.status.Status.{Status}
 use Rattle.rio_cli.specs.declared.status.Status.TheVariants.{Done, Words, Script, ReadFault, WriteFault, NoMemory, Undetected, TooLong, Locked}
 use Rattle.rio_cli.specs.Inputs.{most_input}
-use Rattle.rio_cli.specs.Outputs.{Traces, Refuses, RefusesWord, Completes, Declines, Gave}
-use Rattle.rio_cli.specs.Answers.{Answers, SaysOfInput}
+use Rattle.rio_cli.specs.Outputs.{IsAccepted, IsRefused, Completes, Declines, Gave, OfInput, refusal_text}
+use Rattle.rio_cli.specs.Answers.{Answers, SaysOfBytes, SaysOfInput, Refuses, RefusesInput, RefusesBytes}
 
 -- a source that told its bytes gave just these
 gave_all : (bytes given : List ℕ) (left after : Option (List ℕ)) → left ≡ Some bytes → Gave left after given → given ≡ bytes
@@ -88,31 +85,26 @@ module _ (command : Command) (l l2 : Option (List ℕ)) (r r' : ℕ) (w : Option
   lengthy TooLong h bytes e long calm calm2 = inl refl
   lengthy Locked h bytes e long calm calm2 = absurd h
 
--- ---- the two words
+-- ---- the commands
 
--- what is spelled is not refused
-pub script_stays : (bytes : List ℕ) (names : List (List ℕ)) (lines : List Numbered) (w w' : Option (List ℕ)) → IsScript bytes names lines → Refuses bytes w w' → ⊥
-script_stays bytes names lines w w' is h = not_refused bytes names lines h.line h.reason is h.refused
+-- what is carried out is not refused: a row for each command
+pub not_refused_too : (command : Command) (bytes : List ℕ) (line reason : ℕ) → IsAccepted command bytes → IsRefused command bytes line reason → ⊥
+not_refused_too Replay bytes line reason is refused = not_refused bytes is.0 is.1 line reason is.2 refused
+not_refused_too Decode bytes line reason is refused = no_bad_word bytes is.0 line is.1 refused.0
 
-pub refused_stays : (bytes : List ℕ) (line reason : ℕ) (w w' : Option (List ℕ)) → RefusedAt bytes line reason → Traces bytes w w' → ⊥
-refused_stays bytes line reason w w' is h = not_refused bytes h.names h.script line reason h.spells is
+-- what an input is of which the whole output was written
+completed : (command : Command) (bytes : List ℕ) (w w' : Option (List ℕ)) → Completes command bytes w w' → IsAccepted command bytes
+completed Replay bytes w w' h = (h.names, h.script, h.spells)
+completed Decode bytes w w' h = (h.decoded.chars, h.decoded.spells)
 
-pub chars_stay : (bytes : List ℕ) (chars : List Char) (w w' : Option (List ℕ)) → SpellsChars bytes chars → RefusesWord bytes w w' → ⊥
-chars_stay bytes chars w w' is h = no_bad_word bytes chars h.line is h.bad
+pub accepted_stays : (command : Command) (bytes : List ℕ) (w w' : Option (List ℕ)) → IsAccepted command bytes → Declines command bytes w w' → ⊥
+accepted_stays command bytes w w' is h = not_refused_too command bytes h.line h.reason is h.refused
 
-pub bad_word_stays : (bytes : List ℕ) (line : ℕ) (w w' : Option (List ℕ)) → BadWordAt bytes line → Decodes bytes w w' → ⊥
-bad_word_stays bytes line w w' is h = no_bad_word bytes h.decoded.chars line h.decoded.spells is
+pub refused_stays : (command : Command) (bytes : List ℕ) (line reason : ℕ) (w w' : Option (List ℕ)) → IsRefused command bytes line reason → Completes command bytes w w' → ⊥
+refused_stays command bytes line reason w w' is h = not_refused_too command bytes line reason (completed command bytes w w' h) is
 
-pub asked : (command : Command) (words : List (List ℕ)) → Asks command words → IsReplay words ⊎ IsDecode words
-asked Replay words h = inl h
-asked Decode words h = inr h
-
-pub by_command : (P : Command → Type 0) (command : Command) (words : List (List ℕ)) → Asks command words → P command → (IsReplay words × P Replay) ⊎ (IsDecode words × P Decode)
-by_command P Replay words h p = inl (h, p)
-by_command P Decode words h p = inr (h, p)
-
--- no words ask for both
-apart : (words : List (List ℕ)) → IsReplay words → IsDecode words → ⊥
+-- no words ask for two commands
+apart : (words : List (List ℕ)) → Asks Replay words → Asks Decode words → ⊥
 apart words h k = let first = ap (λ (ws : List (List ℕ)). get_or (get_or ws 0 []) 0 0) (sym h ∙ k) in omega arith
 
 pub same_command : (a b : Command) (words : List (List ℕ)) → Asks a words → Asks b words → a ≡ b
@@ -121,10 +113,45 @@ same_command Replay Decode words h k = absurd (apart words h k)
 same_command Decode Replay words h k = absurd (apart words k h)
 same_command Decode Decode words h k = refl
 
--- where a write failed behind good words
-pub broken : {A : Type 0} (P : Command → Type 0) (command : Command) (words : List (List ℕ)) → Asks command words → A ⊎ P command → A ⊎ (IsReplay words × P Replay) ⊎ (IsDecode words × P Decode)
-broken P command words known (inl a) = inl a
-broken P command words known (inr p) = inr (by_command P command words known p)
+pub unknown : (words : List (List ℕ)) → ¬ Asks Replay words → ¬ Asks Decode words → AreUnknown words
+unknown words replay decode Replay is = replay is
+unknown words replay decode Decode is = decode is
+
+-- ---- the line that is refused
+
+-- the command of the refusal is the one that the words ask for
+pub Refuses-input : (command : Command) (words : List (List ℕ)) (status : Status) (refusal : Option Refusal) (l l2 w w' : Option (List ℕ)) → Asks command words
+    → RefusesInput command (record { status = status; refusal = refusal }) l l2 w w' → Refuses words (record { status = status; refusal = refusal }) l l2 w w'
+Refuses-input command words status None l l2 w w' known h = h
+Refuses-input command words status (Some r) l l2 w w' known h =
+    let Of : Command → Type 0 = λ k. Asks k words × OfInput l l2 (λ bytes. IsRefused k bytes r.line r.reason × Appends w w' (refusal_text r.line r.reason)) in
+    let here = subst Of (sym h.1) (known, h.2) in
+    (h.0, here.0, here.1)
+
+-- what is refused of the bytes is refused of the input
+pub RefusesInput-of : (command : Command) (status : Status) (refusal : Option Refusal) (bytes : List ℕ) (l l2 w w' : Option (List ℕ)) → Gave l l2 bytes
+    → RefusesBytes command (record { status = status; refusal = refusal }) bytes w w' → RefusesInput command (record { status = status; refusal = refusal }) l l2 w w'
+RefusesInput-of command status None bytes l l2 w w' gave h = h
+RefusesInput-of command status (Some r) bytes l l2 w w' gave h = (h.0, h.1, record { bytes = bytes; gave = gave; holds = (h.2, h.3) })
+
+-- the line of a refusal was written
+pub RefusesBytes-line : (command : Command) (bytes : List ℕ) (status : Status) (refusal : Option Refusal) (line reason : ℕ) (w w' : Option (List ℕ)) → IsRefused command bytes line reason
+    → MatchOption refusal (status ≢ Script) (λ r. (status ≡ Script) × (r ≡ record { command = command; line = line; reason = reason }) × Appends w w' (refusal_text line reason))
+    → RefusesBytes command (record { status = status; refusal = refusal }) bytes w w'
+RefusesBytes-line command bytes status None line reason w w' is h = h
+RefusesBytes-line command bytes status (Some r) line reason w w' is h =
+    let Of : Refusal → Type 0 = λ s. (s.command ≡ command) × IsRefused command bytes s.line s.reason × Appends w w' (refusal_text s.line s.reason) in
+    let here = subst Of (sym h.1) (refl, is, h.2) in
+    (h.0, here.0, here.1, here.2)
+
+-- and its status says so
+pub says_line : (command : Command) (bytes : List ℕ) (status : Status) (line reason : ℕ) (w : Option (List ℕ)) (f : ℕ) (w' : Option (List ℕ)) (f2 : ℕ) → IsRefused command bytes line reason
+    → Answers status Script (refusal_text line reason) w f w' f2 ⊎ ((status ≡ NoMemory) × Keeps w w') → SaysOfBytes command status bytes w f w' f2
+says_line command bytes status line reason w f w' f2 is (inl (inl told)) =
+    subst (λ s. SaysOfBytes command s bytes w f w' f2) (sym told.0) (record { line = line; reason = reason; refused = is; told = told.1 })
+says_line command bytes status line reason w f w' f2 is (inl (inr failed)) =
+    subst (λ s. SaysOfBytes command s bytes w f w' f2) (sym failed.0) (failed.1, inr (record { line = line; reason = reason; refused = is; told = failed.2 }))
+says_line command bytes status line reason w f w' f2 is (inr none) = subst (λ s. SaysOfBytes command s bytes w f w' f2) (sym none.0) none.1
 
 -- ---- a refusal answers its own status or WriteFault
 

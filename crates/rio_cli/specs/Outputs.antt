@@ -1,12 +1,13 @@
 -- What the program writes.
-use Rattle.std.specs.Prelude.{◌≤◌, ℕ, ◌⊎◌, List, ◌++◌, Option, codes, length}
+use Rattle.std.specs.Prelude.{◌≡◌, ◌≤◌, ℕ, ◌⊎◌, List, ◌++◌, Option, codes, length}
 use Rattle.std.specs.Fmt.{decimal}
 use Rattle.std.specs.Io.KnownBytes.{Appends, Consumes, IsAtEnd}
 use Rattle.rio_chars.specs.Fronts.{AppendsFront}
 use Rattle.fabric_model.specs.declared.lines.Numbered.{Numbered}
 use Rattle.fabric_replay.specs.Spelling.{IsScript, RefusedAt}
 use Rattle.fabric_replay.specs.Replaying.{Replayed, ReplayedFront}
-use Rattle.rio_cli.specs.Decoding.{BadWordAt, Decodes, DecodesFront}
+use Rattle.rio_chars.specs.declared.chars.Char.{Char}
+use Rattle.rio_cli.specs.Decoding.{SpellsChars, BadWordAt, Decodes, DecodesFront}
 use Rattle.rio_cli.specs.Inputs.{most_input}
 use Rattle.rio_cli.specs.declared.command.Command.{Command}
 use Rattle.rio_cli.specs.declared.command.Command.TheVariants.{Replay, Decode}
@@ -29,13 +30,6 @@ pub record Traces (bytes : List ℕ) (written written_after : Option (List ℕ))
   pub spells : IsScript bytes names script
   pub replayed : Replayed names script written written_after
 
--- The bytes are refused, and the line that says so was written.
-pub record Refuses (bytes : List ℕ) (written written_after : Option (List ℕ)) : Type 0 where
-  pub line : ℕ
-  pub reason : ℕ
-  pub refused : RefusedAt bytes line reason
-  pub told : Appends written written_after (refusal_text line reason)
-
 -- The bytes spell a script, and a front of its trace was written.
 pub record TracesFront (bytes : List ℕ) (written written_after : Option (List ℕ)) : Type 0 where
   pub names : List (List ℕ)
@@ -43,47 +37,51 @@ pub record TracesFront (bytes : List ℕ) (written written_after : Option (List 
   pub spells : IsScript bytes names script
   pub front : ReplayedFront names script written written_after
 
--- The bytes are refused, and a front of the line that says so was written.
-pub record RefusesFront (bytes : List ℕ) (written written_after : Option (List ℕ)) : Type 0 where
-  pub line : ℕ
-  pub reason : ℕ
-  pub refused : RefusedAt bytes line reason
-  pub told : AppendsFront written written_after (refusal_text line reason)
+-- the bytes spell a script
+abbrev pub SpellsScript : List ℕ → Type 0
+SpellsScript bytes = (names : List (List ℕ)) × (script : List Numbered) × IsScript bytes names script
 
--- what was written where a write failed, of an input that was read whole
-abbrev pub WritesFront : List ℕ → Option (List ℕ) → Option (List ℕ) → Type 0
-WritesFront bytes written written_after = TracesFront bytes written written_after ⊎ RefusesFront bytes written written_after
+-- ---- what each command makes of an input that was read whole: in each table a row for each command
 
--- A word of this line is no character, and the line that says so was written.
-pub record RefusesWord (bytes : List ℕ) (written written_after : Option (List ℕ)) : Type 0 where
-  pub line : ℕ
-  pub bad : BadWordAt bytes line
-  pub told : Appends written written_after (refusal_text line 1)
+-- the input is carried out
+abbrev pub IsAccepted : Command → List ℕ → Type 0
+IsAccepted Replay = SpellsScript
+IsAccepted Decode = λ bytes. (chars : List Char) × SpellsChars bytes chars
 
--- A word of this line is no character, and a front of the line that says so was written.
-pub record RefusesWordFront (bytes : List ℕ) (written written_after : Option (List ℕ)) : Type 0 where
-  pub line : ℕ
-  pub bad : BadWordAt bytes line
-  pub told : AppendsFront written written_after (refusal_text line 1)
+-- the input is refused, at this line and for this reason
+abbrev pub IsRefused : Command → List ℕ → ℕ → ℕ → Type 0
+IsRefused Replay = RefusedAt
+IsRefused Decode = λ bytes line reason. BadWordAt bytes line × (reason ≡ 1)
 
--- what was written where a write failed, of characters that were read whole
-abbrev pub DecodesOrRefusesFront : List ℕ → Option (List ℕ) → Option (List ℕ) → Type 0
-DecodesOrRefusesFront bytes written written_after = DecodesFront bytes written written_after ⊎ RefusesWordFront bytes written written_after
-
--- what was written of an input that was read whole and is carried out, by what the words ask for
+-- the input is carried out, and all was written that the command writes of it
 abbrev pub Completes : Command → List ℕ → Option (List ℕ) → Option (List ℕ) → Type 0
 Completes Replay = Traces
 Completes Decode = Decodes
 
--- what was written of one that is refused
-abbrev pub Declines : Command → List ℕ → Option (List ℕ) → Option (List ℕ) → Type 0
-Declines Replay = Refuses
-Declines Decode = RefusesWord
+-- the input is carried out, and a front of that was written
+abbrev pub CompletesFront : Command → List ℕ → Option (List ℕ) → Option (List ℕ) → Type 0
+CompletesFront Replay = TracesFront
+CompletesFront Decode = DecodesFront
 
--- what was written of either where a write failed
+-- ---- what is the same for all commands
+
+-- The input is refused, and the line that says so was written.
+pub record Declines (command : Command) (bytes : List ℕ) (written written_after : Option (List ℕ)) : Type 0 where
+  pub line : ℕ
+  pub reason : ℕ
+  pub refused : IsRefused command bytes line reason
+  pub told : Appends written written_after (refusal_text line reason)
+
+-- The input is refused, and a front of the line that says so was written.
+pub record DeclinesFront (command : Command) (bytes : List ℕ) (written written_after : Option (List ℕ)) : Type 0 where
+  pub line : ℕ
+  pub reason : ℕ
+  pub refused : IsRefused command bytes line reason
+  pub told : AppendsFront written written_after (refusal_text line reason)
+
+-- what was written if a write failed, of an input that was read whole
 abbrev pub Breaks : Command → List ℕ → Option (List ℕ) → Option (List ℕ) → Type 0
-Breaks Replay = WritesFront
-Breaks Decode = DecodesOrRefusesFront
+Breaks command bytes written written_after = CompletesFront command bytes written written_after ⊎ DeclinesFront command bytes written written_after
 
 -- the source was read to its end, and gave these bytes, which are not too many
 pub record Gave (left left_after : Option (List ℕ)) (bytes : List ℕ) : Type 0 where

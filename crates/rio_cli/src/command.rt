@@ -1,7 +1,7 @@
 //! What the words after the program's name ask for.
 ghost use Rattle.std.specs.Prelude.{◌≡◌, ◌↔◌, ◌∷◌, [], IsTrue, MatchOption, map};
 ghost use Rattle.std.specs.String.{string_bytes};
-ghost use Rattle.rio_cli.specs.Words.{IsNeither, Asks};
+ghost use Rattle.rio_cli.specs.Words.{AreUnknown, Asks};
 
 /// What the program is asked for.
 #[derive(Clone, Copy, Debug, PartialEq, Eq)]
@@ -12,9 +12,9 @@ pub enum Command {
     Decode,
 }
 
-/// What the words ask for, where the program knows them.
+/// What the words ask for, if the program knows them.
 pub(crate) fn command_of(words: &[String]) -> Option<Command>
-    ensures { MatchOption result (IsNeither (map string_bytes words.now))
+    ensures { MatchOption result (AreUnknown (map string_bytes words.now))
         (λ command. Asks command (map string_bytes words.now)) }
 {
     if is_one(words, "replay") {

@@ -1,28 +1,53 @@
 //! `rio`: a simulated RapidIO fabric. `rio replay` reads a script from standard input and writes its trace to standard
-//! output; `rio decode` reads the characters of a link and writes the lines of their reading. The exit status is
-//! `status_number` of what `rio` answers.
+//! output; `rio decode` reads the characters of a link and writes the lines of their reading. The exit status is the
+//! number of what `answer` answers, and a line on standard error says in words what is to be said of it.
+//!
+//! - `run`: the whole program, over any source, sink and sink of messages; `main` gives it the arguments and the
+//!   standard streams, and does nothing more.
+//! - `answer` and `rio`: what the words ask for is done; `Answer`, `Status`, `Refusal` and `Command`.
+//!
+//! If the system does not give the arguments, the status is 1 and nothing is written.
 #![tactic(auto)]
 
+mod answer;
 mod command;
 mod decode;
 mod lines;
+mod messages;
+mod program;
 mod status;
 #[cfg(test)]
 mod tests;
 mod top;
 mod words;
 
+pub use answer::{Answer, Refusal};
 pub use command::Command;
+pub use program::run;
 use rio_chars::{StdSink, StdSource};
 pub use status::{Status, status_number};
 use std::process::ExitCode;
 use std::{env, io};
-pub use top::rio;
+pub use top::{answer, rio};
 
-fn main(rt: HostRuntime) -> io::Result<ExitCode> {
-    let words: Vec<String> = env::args(&rt)?.skip(1).collect(rt.alloc())?;
+fn main(rt: HostRuntime) -> ExitCode {
+    let Ok(arguments) = arguments(&rt) else {
+        return ExitCode::from(1);
+    };
     let mut source = StdSource::new(rt.reader());
     let mut sink = StdSink::new(io::writer(&rt));
-    let status = rio(rt.alloc(), words.as_slice(), &mut source, &mut sink);
-    Ok(ExitCode::from(status_number(status)))
+    let mut messages = StdSink::new(rt.stderr());
+    let status = run(
+        rt.alloc(),
+        arguments.as_slice(),
+        &mut source,
+        &mut sink,
+        &mut messages,
+    );
+    ExitCode::from(status)
+}
+
+// The program's name and the words that follow it.
+fn arguments(rt: &HostRuntime) -> io::Result<Vec<String>> {
+    Ok(env::args(rt)?.collect(rt.alloc())?)
 }
