@@ -1,0 +1,86 @@
+//! Changes of the characters of a wire.
+ghost use Rattle.std.specs.Prelude.{◌≡◌, IfOk, OnOk, OnErr};
+ghost use Rattle.link_wires.specs.Wires.{fits, after_edit, answered};
+
+use crate::wire::Wire;
+use rio_chars::{Char, NoMemory};
+
+/// A change of the characters of a wire, which leaves what was sent as it is. Places are counted from the front, from 0.
+#[derive(Clone, Copy, Debug, PartialEq, Eq)]
+pub enum Edit {
+    /// The character at a place becomes another.
+    Alter { place: u32, ch: Char },
+    /// Characters from a place on are lost.
+    Erase { place: u32, count: u32 },
+    /// A character comes in before the one at a place, or at the end.
+    Insert { place: u32, ch: Char },
+}
+
+/// What came of an edit, or of a delivery.
+#[derive(Clone, Copy, Debug, PartialEq, Eq)]
+pub enum Edited {
+    /// It was done.
+    Done,
+    /// The wire has too few characters: nothing was done.
+    Short,
+}
+
+impl Wire {
+    /// Changes the characters, and leaves what was sent as it is. Short exactly where the place of an alteration is not
+    /// below the length, an erasure goes past the end, or the place of an insertion lies past the end. Then, and where
+    /// memory is not given, nothing changes.
+    pub fn edit(&mut self, edit: &Edit) -> Result<Edited, NoMemory>
+        ensures short { IfOk result (λ answer. answer ≡ answered (fits edit.now self.old.chars)) }
+        ensures changed { OnOk result (self.new ≡ after_edit edit.now self.old) }
+        ensures unchanged { OnErr result (self.new ≡ self.old) }
+    {
+        match edit {
+            Edit::Alter { place, ch } => Ok(self.alter(*place, *ch)),
+            Edit::Erase { place, count } => Ok(self.erase(*place, *count)),
+            Edit::Insert { place, ch } => self.insert(*place, *ch),
+        }
+    }
+
+    /// The character at a place becomes another.
+    fn alter(&mut self, place: u32, ch: Char) -> Edited
+        ensures short { result ≡ answered (fits (Edit.Alter place ch) self.old.chars) }
+        ensures changed { self.new ≡ after_edit (Edit.Alter place ch) self.old }
+    {
+        let place = place as usize;
+        if place >= self.chars.len() {
+            return Edited::Short;
+        }
+        self.chars[place] = ch;
+        Edited::Done
+    }
+
+    /// Characters from a place on are lost.
+    fn erase(&mut self, place: u32, count: u32) -> Edited
+        ensures short { result ≡ answered (fits (Edit.Erase place count) self.old.chars) }
+        ensures changed { self.new ≡ after_edit (Edit.Erase place count) self.old }
+    {
+        let place = place as usize;
+        let end = place + count as usize;
+        if end > self.chars.len() {
+            return Edited::Short;
+        }
+        self.chars.drain(place..end);
+        Edited::Done
+    }
+
+    /// A character comes in before the one at a place.
+    fn insert(&mut self, place: u32, ch: Char) -> Result<Edited, NoMemory>
+        ensures short { IfOk result (λ answer. answer ≡ answered (fits (Edit.Insert place ch) self.old.chars)) }
+        ensures changed { OnOk result (self.new ≡ after_edit (Edit.Insert place ch) self.old) }
+        ensures unchanged { OnErr result (self.new ≡ self.old) }
+    {
+        let place = place as usize;
+        if place > self.chars.len() {
+            return Ok(Edited::Short);
+        }
+        match self.chars.insert(place, ch) {
+            Ok(()) => Ok(Edited::Done),
+            Err(_) => Err(NoMemory),
+        }
+    }
+}

@@ -1,0 +1,78 @@
+//! `Wire`: one way of a link.
+ghost use Rattle.std.specs.Prelude.{◌≡◌, ◌≤◌, length, take, drop, IfOk, OnOk};
+ghost use Rattle.link_wires.specs.Wires.{empty_wire, silenced};
+
+use link_model::Event;
+use rio_chars::{Char, NoMemory};
+use std::alloc::Global;
+use std::collections::VecDeque;
+use std::marker::Model;
+
+/// One way of a link: the characters on it, and the events that were sent on it and that no acted event has met.
+#[derive(Drop)]
+pub struct Wire {
+    pub(crate) chars: VecDeque<Char>,
+    pub(crate) kept: VecDeque<Event>,
+}
+
+impl Model for Wire {
+    ghost use Rattle.link_wires.specs.Wires.{WireState};
+
+    ghost Value = { WireState };
+
+    ghost view = { λ wire. record { chars = wire.chars.items; kept = wire.kept.items } };
+}
+
+impl Wire {
+    /// A wire with nothing on it. It takes no memory yet.
+    pub fn new(alloc: Global) -> Wire
+        ensures { result ≡ empty_wire }
+    {
+        Wire {
+            chars: VecDeque::new(alloc),
+            kept: VecDeque::new(alloc),
+        }
+    }
+
+    /// The number of characters on the wire.
+    pub fn length(&self) -> usize
+        ensures { result ≡ length self.now.chars }
+    {
+        self.chars.len()
+    }
+
+    /// Forgets what was sent, as after a time in which nothing arrives any more.
+    pub fn silence(&mut self)
+        ensures { self.new ≡ silenced self.old }
+    {
+        self.kept.clear();
+    }
+
+    /// Takes characters from the front.
+    pub(crate) fn take_front(&mut self, alloc: Global, count: usize) -> Result<Vec<Char>, NoMemory>
+        requires { count ≤ length self.old.chars }
+        ensures taken { IfOk result (λ front. front.items ≡ take count self.old.chars) }
+        ensures left { OnOk result (self.new ≡ record self.old { chars = drop count self.old.chars }) }
+    {
+        let front = self.front(alloc, count)?;
+        self.chars.drain(..count);
+        Ok(front)
+    }
+
+    /// A copy of characters at the front.
+    fn front(&self, alloc: Global, count: usize) -> Result<Vec<Char>, NoMemory>
+        requires { count ≤ length self.now.chars }
+        ensures { IfOk result (λ front. front.items ≡ take count self.now.chars) }
+    {
+        let (first, second) = self.chars.as_slices();
+        let mut front = Vec::new(alloc);
+        let split = first.len().min(count);
+        let Ok(()) = front.extend_from_slice(&first[..split]) else {
+            return Err(NoMemory);
+        };
+        let Ok(()) = front.extend_from_slice(&second[..count - split]) else {
+            return Err(NoMemory);
+        };
+        Ok(front)
+    }
+}
