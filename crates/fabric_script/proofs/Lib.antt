@@ -1,0 +1,14 @@
+pub mod Decimals
+pub mod NameLaws
+pub mod HexWords
+pub mod DigitWords
+pub mod Points
+pub mod Taking
+pub mod Exclusion
+pub mod Outcomes
+pub mod LineLaws
+pub mod ReadLaws
+pub mod KnownLaws
+pub mod ScriptLaws
+pub mod Joins
+pub mod PrintLaws

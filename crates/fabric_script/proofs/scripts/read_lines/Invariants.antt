@@ -1,0 +1,12 @@
+use Rattle.std.proofs.Common.{◌≡◌, ◌≤◌, length, map}
+use Rattle.fabric_script.specs.Known.{nothing, IsOrderly}
+use Rattle.fabric_script.specs.Scripts.{SpellsFrom}
+use Rattle.fabric_script.proofs.scripts.read_lines.Given as goal
+
+abbrev pub invariant-loop-text : goal.invariant-loop-text
+invariant-loop-text l = record {
+  counted : l.number ≡ length l.yielded;
+  spelled : SpellsFrom 1 nothing (map (λ text. text.now) l.yielded) l.lines.items l.known;
+  orderly : IsOrderly l.known;
+  links : length l.known.links ≤ l.number;
+}

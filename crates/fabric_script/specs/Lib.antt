@@ -1,0 +1,13 @@
+pub mod Names
+pub mod Forms
+pub mod Texts
+pub mod Lines
+pub mod Reasons
+pub mod Known
+pub mod Hits
+pub mod Words
+pub mod LineWords
+pub mod Refusals
+pub mod Reading
+pub mod Scripts
+pub mod LineTexts

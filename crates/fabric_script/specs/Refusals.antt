@@ -1,0 +1,84 @@
+-- The reasons that look at a whole line, whose words all say something.
+use Rattle.std.specs.Prelude.{ℕ, ◌+◌, ◌%◌, Bool, true, false, ◌==◌, ◌&&◌, ◌||◌, not, nat_le, nat_lt, length}
+use Rattle.fabric_script.specs.declared.reasons.Reason.{Reason}
+use Rattle.fabric_script.specs.declared.reasons.Reason.TheVariants.{PortOutside, PortTaken, IdTaken, BadLength, WrongKind, OutOfPlace, NotLinked, TooMuchWork}
+use Rattle.fabric_script.specs.declared.lines.Line.{Line}
+use Rattle.fabric_script.specs.declared.lines.Line.TheVariants.{Endpoint, Switch, Link, Route, Default, Send, Read, Write, Pump, Deliver, Alter, Insert, Erase, Timeout, Settle, Move, Collect}
+use Rattle.fabric_script.specs.Lines.{is_event}
+use Rattle.fabric_script.specs.Known.{Known, ports_of, is_switch, has_id, same_port, is_linked, cost_of}
+
+-- a port of a table: of the node, or 255 for none
+abbrev pub is_outside : Known → ℕ → ℕ → Bool
+is_outside known node p = not (p == 255) && nat_le (ports_of known.nodes node) p
+
+-- the lengths that data may have: an even number of bytes, at most 268; of a maintenance packet, those of its forms
+abbrev pub is_bad_length : ℕ → ℕ → Bool
+is_bad_length ftype count = not (count % 2 == 0) || nat_lt 268 count || ((ftype == 8) && not (nat_le 6 count && nat_le count 70 && (count % 8 == 6)))
+
+-- 6: a port of a table is neither 255 nor one of the node's
+abbrev pub entry_is_outside : Known → Line → Bool
+entry_is_outside known (Route node id p) = is_outside known node p
+entry_is_outside known (Default node p) = is_outside known node p
+entry_is_outside known _ = false
+
+-- 7: a port has an earlier link, or both are one
+abbrev pub port_is_taken : Known → Line → Bool
+port_is_taken known (Link a b) = same_port a b || (is_linked known.links a || is_linked known.links b)
+port_is_taken known _ = false
+
+-- 8: an earlier endpoint has the device ID
+abbrev pub id_is_taken : Known → Line → Bool
+id_is_taken known (Endpoint name id) = not (id == 255) && has_id known.nodes id
+id_is_taken known _ = false
+
+-- 10: data has a length that it may not have
+abbrev pub length_is_bad : Line → Bool
+length_is_bad (Send node prio ftype dest hex) = is_bad_length ftype (length hex)
+length_is_bad _ = false
+
+-- 11: the node is an endpoint where a switch is wanted, or a switch where an endpoint is
+abbrev pub kind_is_wrong : Known → Line → Bool
+kind_is_wrong known (Route node id p) = not (is_switch known.nodes node)
+kind_is_wrong known (Default node p) = not (is_switch known.nodes node)
+kind_is_wrong known (Move node) = not (is_switch known.nodes node)
+kind_is_wrong known (Send node prio ftype dest hex) = is_switch known.nodes node
+kind_is_wrong known (Read node prio dest hop tid offset) = is_switch known.nodes node
+kind_is_wrong known (Write node prio dest hop tid offset value) = is_switch known.nodes node
+kind_is_wrong known (Collect node) = is_switch known.nodes node
+kind_is_wrong known _ = false
+
+-- 12: a line of set-up stands behind an event
+abbrev pub out_of_place : Known → Line → Bool
+out_of_place known line = known.begun && not (is_event line)
+
+-- 13: the port has no link
+abbrev pub not_linked : Known → Line → Bool
+not_linked known (Pump port n) = not (is_linked known.links port)
+not_linked known (Deliver port n) = not (is_linked known.links port)
+not_linked known (Alter port place ch) = not (is_linked known.links port)
+not_linked known (Insert port place ch) = not (is_linked known.links port)
+not_linked known (Erase port place n) = not (is_linked known.links port)
+not_linked known (Timeout port) = not (is_linked known.links port)
+not_linked known (Settle port) = not (is_linked known.links port)
+not_linked known _ = false
+
+abbrev pub makes_node : Line → Bool
+makes_node (Endpoint name id) = true
+makes_node (Switch name ports) = true
+makes_node _ = false
+
+-- 14: it is the 65th node, or the cost up to and with the line is above 100,000
+abbrev pub too_much_work : Known → Line → Bool
+too_much_work known line = (makes_node line && nat_le 64 (length known.names)) || nat_lt 100000 (known.cost + cost_of known.links line)
+
+-- a reason hits the line
+abbrev pub refuses : Known → Reason → Line → Bool
+refuses known PortOutside line = entry_is_outside known line
+refuses known PortTaken line = port_is_taken known line
+refuses known IdTaken line = id_is_taken known line
+refuses known BadLength line = length_is_bad line
+refuses known WrongKind line = kind_is_wrong known line
+refuses known OutOfPlace line = out_of_place known line
+refuses known NotLinked line = not_linked known line
+refuses known TooMuchWork line = too_much_work known line
+refuses known _ line = false

@@ -1,0 +1,252 @@
+//! What is known of the earlier lines.
+
+ghost use Rattle.std.specs.Prelude.{◌≡◌, ◌+◌, ◌*◌, ◌^◌, ◌<◌, ◌≤◌, true, false, ◌∷◌, [], ◌++◌, Contains, length, MatchOption, MatchResult, IfOk};
+ghost use Rattle.fabric_script.specs.Names.{is_name};
+ghost use Rattle.fabric_script.specs.Lines.{words_of};
+ghost use Rattle.fabric_script.specs.Reading.{Spells, new_name_in, second_word};
+ghost use Rattle.fabric_script.specs.Forms.{NewName as ANewName, Node as ANode, Port as APort};
+ghost use Rattle.fabric_script.specs.Texts.{Named, AtNode, AtPort, value_text};
+ghost use Rattle.fabric_script.specs.Hits.{Fits, Hits};
+ghost use Rattle.fabric_script.specs.Known.{nothing, ports_of, is_switch, has_this_id, has_id, is_linked, cost_of, known_after};
+
+use crate::lines::Line;
+use crate::names::{Name, find, is_name};
+use crate::ports::{PortRef, same_port, split_port};
+use crate::reasons::Reason;
+use crate::words::Words;
+use std::alloc::{AllocError, Global};
+use std::marker::Model;
+
+/// The most nodes that a script may have.
+pub(crate) const MOST_NODES: usize = 64;
+
+/// What a node is.
+#[derive(Clone, Copy, Debug, PartialEq, Eq)]
+pub(crate) enum Node {
+    /// An endpoint with this device ID.
+    Endpoint { id: u8 },
+    /// A switch with so many ports.
+    Switch { ports: u8 },
+}
+
+/// What is known of the earlier lines.
+#[derive(Drop)]
+pub(crate) struct Known {
+    names: Vec<Name>,
+    nodes: Vec<Node>,
+    links: Vec<(PortRef, PortRef)>,
+    begun: bool,
+    cost: u32,
+}
+
+impl Model for Known {
+    ghost use Rattle.std.specs.Prelude.{◌≡◌, ◌≤◌, length};
+    ghost use Rattle.fabric_script.specs.Known.{Known};
+
+    ghost Value = { Known };
+
+    ghost view = { λ k. record {
+      names = k.names.items;
+      nodes = k.nodes.items;
+      links = k.links.items;
+      begun = k.begun;
+      cost = k.cost;
+    } };
+
+    ghost invariant = { λ k. length k.names.items ≤ 64 };
+}
+
+impl Known {
+    /// Before the first line.
+    pub(crate) fn new(alloc: Global) -> Known
+        ensures { result ≡ nothing }
+    {
+        Known {
+            names: Vec::new(alloc),
+            nodes: Vec::new(alloc),
+            links: Vec::new(alloc),
+            begun: false,
+            cost: 0,
+        }
+    }
+
+    /// Adds a line, which a text spells after the earlier ones.
+    pub(crate) fn add(&mut self, line: &Line, text: &[u8]) -> Result<(), AllocError>
+        requires spelled { Spells self.old text.now line.now }
+        requires few { length self.old.links ≤ 16777216 }
+        ensures { IfOk result (λ _. self.new
+            ≡ known_after self.old (new_name_in text.now line.now) line.now) }
+    {
+        self.cost += self.cost_of(line) as u32;
+        self.begun = self.begun || line.is_event();
+        match line {
+            Line::Endpoint { id, .. } => self.add_node(text, Node::Endpoint { id: *id }),
+            Line::Switch { ports, .. } => self.add_node(text, Node::Switch { ports: *ports }),
+            Line::Link { a, b } => {
+                self.links.push((*a, *b))?;
+                Ok(())
+            }
+            _ => Ok(()),
+        }
+    }
+
+    // Adds a node, of which the second word of a text is the name.
+    fn add_node(&mut self, text: &[u8], node: Node) -> Result<(), AllocError>
+        requires named { is_name (second_word (words_of text.now)) ≡ true }
+        requires room { length self.old.names < 64 }
+        ensures { IfOk result (λ _. self.new ≡ record self.old {
+          names = self.old.names ++ second_word (words_of text.now) ∷ [];
+          nodes = self.old.nodes ++ node ∷ [];
+        }) }
+    {
+        let mut words = Words::new(text);
+        words.word();
+        let name = Name::of_word(words.word());
+        self.names.push(name)?;
+        self.nodes.push(node)?;
+        Ok(())
+    }
+
+    /// The names of the nodes.
+    pub(crate) fn into_names(self) -> Vec<Name>
+        ensures { result.items ≡ self.names }
+    {
+        self.names
+    }
+
+    /// The number of the next node.
+    pub(crate) fn next_node(&self) -> u8
+        ensures { result ≡ length self.now.names }
+    {
+        self.names.len() as u8
+    }
+
+    /// Whether a word may name a new node.
+    pub(crate) fn read_new_name(&self, word: &[u8]) -> Result<(), Reason>
+        ensures { MatchResult result
+            (λ _. Fits self.now ANewName (Named word.now))
+            (λ reason. Hits self.now reason ANewName word.now) }
+    {
+        if !is_name(word) {
+            return Err(Reason::BadName);
+        }
+        match find(self.names.as_slice(), word) {
+            Some(_) => Err(Reason::NameTaken),
+            None => Ok(()),
+        }
+    }
+
+    /// The number of the node that a word names.
+    pub(crate) fn read_node(&self, word: &[u8]) -> Result<u8, Reason>
+        ensures { MatchResult result
+            (λ n. Fits self.now ANode (AtNode n) × (word.now ≡ value_text self.now.names (AtNode n)))
+            (λ reason. Hits self.now reason ANode word.now) }
+    {
+        if !is_name(word) {
+            return Err(Reason::BadName);
+        }
+        match find(self.names.as_slice(), word) {
+            Some(n) => Ok(n),
+            None => Err(Reason::UnknownNode),
+        }
+    }
+
+    /// The port that a word names.
+    pub(crate) fn read_port(&self, word: &[u8]) -> Result<PortRef, Reason>
+        ensures { MatchResult result
+            (λ p. Fits self.now APort (AtPort p) × (word.now ≡ value_text self.now.names (AtPort p)))
+            (λ reason. Hits self.now reason APort word.now) }
+    {
+        let Some((name, port)) = split_port(word) else {
+            return Err(Reason::BadName);
+        };
+        let Some(node) = find(self.names.as_slice(), name) else {
+            return Err(Reason::UnknownNode);
+        };
+        if port >= self.ports_of(node) {
+            return Err(Reason::PortOutside);
+        }
+        Ok(PortRef { node, port })
+    }
+
+    /// How many ports a node has.
+    pub(crate) fn ports_of(&self, node: u8) -> u8
+        ensures { result ≡ ports_of self.now.nodes node }
+    {
+        match self.nodes.get(usize::from(node)) {
+            Some(Node::Endpoint { .. }) => 1,
+            Some(Node::Switch { ports }) => *ports,
+            None => 0,
+        }
+    }
+
+    /// Whether a node is a switch.
+    pub(crate) fn is_switch(&self, node: u8) -> bool
+        ensures { result ≡ is_switch self.now.nodes node }
+    {
+        match self.nodes.get(usize::from(node)) {
+            Some(Node::Switch { .. }) => true,
+            Some(Node::Endpoint { .. }) | None => false,
+        }
+    }
+
+    /// Whether an endpoint has this device ID.
+    pub(crate) fn has_id(&self, id: u8) -> bool
+        ensures { result ≡ has_id self.now.nodes id }
+    {
+        self.nodes.iter().any(|node| has_this_id(id, *node))
+    }
+
+    /// Whether a port has a link.
+    pub(crate) fn is_linked(&self, port: PortRef) -> bool
+        ensures { result ≡ is_linked self.now.links port }
+    {
+        self.links
+            .iter()
+            .any(|link| same_port(link.0, port) || same_port(link.1, port))
+    }
+
+    /// How many nodes there are.
+    pub(crate) fn count(&self) -> usize
+        ensures { result ≡ length self.now.names }
+    {
+        self.names.len()
+    }
+
+    /// Whether an event has come.
+    pub(crate) fn begun(&self) -> bool
+        ensures { result ≡ self.now.begun }
+    {
+        self.begun
+    }
+
+    /// What the events have cost.
+    pub(crate) fn cost(&self) -> u32
+        ensures { result ≡ self.now.cost }
+    {
+        self.cost
+    }
+
+    /// What a line costs.
+    pub(crate) fn cost_of(&self, line: &Line) -> u64
+        requires { length self.now.links ≤ 16777216 }
+        ensures cost { result ≡ cost_of self.now.links line.now }
+        ensures fits { result < 2 ^ 63 }
+    {
+        match line {
+            Line::Pump { n, .. } | Line::Deliver { n, .. } => u64::from(*n),
+            Line::Settle { .. } => 20,
+            Line::Run { n } => 20 * u64::from(*n) * self.links.len().max(1) as u64,
+            _ => u64::from(line.is_event()),
+        }
+    }
+}
+
+fn has_this_id(id: u8, node: Node) -> bool
+    ensures { result ≡ has_this_id id node }
+{
+    match node {
+        Node::Endpoint { id: other } => other == id,
+        Node::Switch { .. } => false,
+    }
+}

@@ -1,0 +1,242 @@
+//! Each form of a line, word by word.
+
+ghost use Rattle.std.specs.Prelude.{IfOk};
+ghost use Rattle.fabric_script.specs.declared.forms.Form.{Form as AForm};
+ghost use Rattle.fabric_script.specs.Known.{Known as AKnown};
+ghost use Rattle.fabric_script.specs.LineWords.{TakesLine};
+
+use crate::forms::Form;
+use crate::known::Known;
+use crate::lines::Line;
+use crate::words::Words;
+use std::alloc::{AllocError, Global};
+
+/// The most turns, characters or rounds of one event, and the greatest place.
+const MOST_COUNT: u32 = 100_000;
+
+/// The line of a form whose words are these. Where a reason hits one of them, the least is noted.
+pub(crate) fn take_line(
+    alloc: Global,
+    form: Form,
+    words: &mut Words,
+    known: &Known,
+) -> Result<Line, AllocError>
+    ensures { IfOk result (λ line. TakesLine known.now form words.old line words.new) }
+{
+    match form {
+        Form::Endpoint => Ok(endpoint(words, known)),
+        Form::Switch => Ok(switch(words, known)),
+        Form::Link => Ok(link(words, known)),
+        Form::Buffers => Ok(buffers(words, known)),
+        Form::Route => Ok(route(words, known)),
+        Form::Default => Ok(default(words, known)),
+        Form::Lock => Ok(lock(words, known)),
+        Form::Send => send(alloc, words, known),
+        Form::Read => Ok(read(words, known)),
+        Form::Write => Ok(write(words, known)),
+        Form::Pump => Ok(pump(words, known)),
+        Form::Deliver => Ok(deliver(words, known)),
+        Form::Alter => Ok(alter(words, known)),
+        Form::Insert => Ok(insert(words, known)),
+        Form::Erase => Ok(erase(words, known)),
+        Form::Timeout => Ok(timeout(words, known)),
+        Form::Settle => Ok(settle(words, known)),
+        Form::Move => Ok(move_step(words, known)),
+        Form::Collect => Ok(collect(words, known)),
+        Form::Run => Ok(run(words)),
+    }
+}
+
+fn endpoint(words: &mut Words, known: &Known) -> Line
+    ensures { TakesLine known.now AForm.Endpoint words.old result words.new }
+{
+    words.new_name(known);
+    let id = words.byte(0, 255);
+    let name = known.next_node();
+    Line::Endpoint { name, id }
+}
+
+fn switch(words: &mut Words, known: &Known) -> Line
+    ensures { TakesLine known.now AForm.Switch words.old result words.new }
+{
+    words.new_name(known);
+    let ports = words.byte(2, 16);
+    let name = known.next_node();
+    Line::Switch { name, ports }
+}
+
+fn link(words: &mut Words, known: &Known) -> Line
+    ensures { TakesLine known.now AForm.Link words.old result words.new }
+{
+    let a = words.port(known);
+    let b = words.port(known);
+    Line::Link { a, b }
+}
+
+fn buffers(words: &mut Words, known: &Known) -> Line
+    ensures { TakesLine known.now AForm.Buffers words.old result words.new }
+{
+    let port = words.port(known);
+    let n = words.byte(4, 30);
+    Line::Buffers { port, n }
+}
+
+fn route(words: &mut Words, known: &Known) -> Line
+    ensures { TakesLine known.now AForm.Route words.old result words.new }
+{
+    let node = words.node(known);
+    let id = words.byte(0, 255);
+    let p = words.byte(0, 255);
+    Line::Route { node, id, p }
+}
+
+fn default(words: &mut Words, known: &Known) -> Line
+    ensures { TakesLine known.now AForm.Default words.old result words.new }
+{
+    let node = words.node(known);
+    let p = words.byte(0, 255);
+    Line::Default { node, p }
+}
+
+fn lock(words: &mut Words, known: &Known) -> Line
+    ensures { TakesLine known.now AForm.Lock words.old result words.new }
+{
+    let node = words.node(known);
+    let id = words.number(0, 65535) as u16;
+    Line::Lock { node, id }
+}
+
+fn send(alloc: Global, words: &mut Words, known: &Known) -> Result<Line, AllocError>
+    ensures { IfOk result (λ line. TakesLine known.now AForm.Send words.old line words.new) }
+{
+    let node = words.node(known);
+    let prio = words.byte(0, 3);
+    let ftype = words.byte(0, 15);
+    let dest = words.byte(0, 255);
+    let hex = words.hex(alloc)?;
+    Ok(Line::Send {
+        node,
+        prio,
+        ftype,
+        dest,
+        hex,
+    })
+}
+
+fn read(words: &mut Words, known: &Known) -> Line
+    ensures { TakesLine known.now AForm.Read words.old result words.new }
+{
+    let node = words.node(known);
+    let prio = words.byte(0, 3);
+    let dest = words.byte(0, 255);
+    let hop = words.byte(0, 255);
+    let tid = words.byte(0, 255);
+    let offset = words.digits(6);
+    Line::Read {
+        node,
+        prio,
+        dest,
+        hop,
+        tid,
+        offset,
+    }
+}
+
+fn write(words: &mut Words, known: &Known) -> Line
+    ensures { TakesLine known.now AForm.Write words.old result words.new }
+{
+    let node = words.node(known);
+    let prio = words.byte(0, 3);
+    let dest = words.byte(0, 255);
+    let hop = words.byte(0, 255);
+    let tid = words.byte(0, 255);
+    let offset = words.digits(6);
+    let value = words.digits(8);
+    Line::Write {
+        node,
+        prio,
+        dest,
+        hop,
+        tid,
+        offset,
+        value,
+    }
+}
+
+fn pump(words: &mut Words, known: &Known) -> Line
+    ensures { TakesLine known.now AForm.Pump words.old result words.new }
+{
+    let port = words.port(known);
+    let n = words.number(1, MOST_COUNT);
+    Line::Pump { port, n }
+}
+
+fn deliver(words: &mut Words, known: &Known) -> Line
+    ensures { TakesLine known.now AForm.Deliver words.old result words.new }
+{
+    let port = words.port(known);
+    let n = words.number(1, MOST_COUNT);
+    Line::Deliver { port, n }
+}
+
+fn alter(words: &mut Words, known: &Known) -> Line
+    ensures { TakesLine known.now AForm.Alter words.old result words.new }
+{
+    let port = words.port(known);
+    let place = words.number(0, MOST_COUNT);
+    let ch = words.character();
+    Line::Alter { port, place, ch }
+}
+
+fn insert(words: &mut Words, known: &Known) -> Line
+    ensures { TakesLine known.now AForm.Insert words.old result words.new }
+{
+    let port = words.port(known);
+    let place = words.number(0, MOST_COUNT);
+    let ch = words.character();
+    Line::Insert { port, place, ch }
+}
+
+fn erase(words: &mut Words, known: &Known) -> Line
+    ensures { TakesLine known.now AForm.Erase words.old result words.new }
+{
+    let port = words.port(known);
+    let place = words.number(0, MOST_COUNT);
+    let n = words.number(1, MOST_COUNT);
+    Line::Erase { port, place, n }
+}
+
+fn timeout(words: &mut Words, known: &Known) -> Line
+    ensures { TakesLine known.now AForm.Timeout words.old result words.new }
+{
+    let port = words.port(known);
+    Line::Timeout { port }
+}
+
+fn settle(words: &mut Words, known: &Known) -> Line
+    ensures { TakesLine known.now AForm.Settle words.old result words.new }
+{
+    let port = words.port(known);
+    Line::Settle { port }
+}
+
+fn move_step(words: &mut Words, known: &Known) -> Line
+    ensures { TakesLine known.now AForm.Move words.old result words.new }
+{
+    let node = words.node(known);
+    Line::Move { node }
+}
+
+fn collect(words: &mut Words, known: &Known) -> Line
+    ensures { TakesLine known.now AForm.Collect words.old result words.new }
+{
+    let node = words.node(known);
+    Line::Collect { node }
+}
+
+fn run(words: &mut Words) -> Line
+    ensures { (known : AKnown) → TakesLine known AForm.Run words.old result words.new }
+{
+    let n = words.number(1, MOST_COUNT);
+    Line::Run { n }
+}

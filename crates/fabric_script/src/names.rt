@@ -1,0 +1,105 @@
+//! The names of nodes.
+
+ghost use Rattle.std.specs.Prelude.{◌≡◌, ◌<◌, ◌≤◌, false, true, length, Contains, MatchOption};
+ghost use Rattle.fabric_script.specs.Names.{is_name, is_letter, is_digit, are_letters_or_digits, name_of};
+
+use arrayvec::ArrayVec;
+use std::marker::Model;
+
+/// The name of a node, of at most eight bytes: in a script a letter and then letters or digits, in
+/// ASCII.
+#[derive(Debug, Drop)]
+pub struct Name {
+    items: ArrayVec<u8, 8>,
+}
+
+impl Model for Name {
+    ghost use Rattle.std.specs.Prelude.{List, ℕ};
+
+    ghost Value = { List ℕ };
+
+    ghost view = { λ name. name.items.items };
+}
+
+impl Name {
+    /// A name of these bytes.
+    pub fn new(items: ArrayVec<u8, 8>) -> Name
+        ensures { result ≡ items.items }
+    {
+        Name { items }
+    }
+
+    // The name of these bytes, of which there are at most eight.
+    pub(crate) fn of_word(word: &[u8]) -> Name
+        requires { length word.now ≤ 8 }
+        ensures { result ≡ word.now }
+    {
+        let mut items = ArrayVec::new();
+        for byte in word {
+            items.push(*byte);
+        }
+        Name { items }
+    }
+
+    /// The bytes of the name.
+    pub fn as_slice(&self) -> &[u8]
+        ensures { result.now ≡ self.now }
+    {
+        self.items.as_slice()
+    }
+}
+
+/// The name that a word spells: a letter and up to seven letters or digits, in ASCII; or None if it
+/// spells none.
+pub fn read_name(word: &[u8]) -> Option<Name>
+    ensures { MatchOption result
+        (is_name word.now ≡ false)
+        (λ name. (is_name word.now ≡ true) × (name ≡ word.now)) }
+{
+    if !is_name(word) {
+        return None;
+    }
+    Some(Name::of_word(word))
+}
+
+/// Whether a word is a name.
+pub(crate) fn is_name(word: &[u8]) -> bool
+    ensures { result ≡ is_name word.now }
+{
+    let [first, rest @ ..] = word else {
+        return false;
+    };
+    if !is_letter(*first) || rest.len() > 7 {
+        return false;
+    }
+    are_letters_or_digits(rest)
+}
+
+fn are_letters_or_digits(bytes: &[u8]) -> bool
+    ensures { result ≡ are_letters_or_digits bytes.now }
+{
+    bytes.iter().all(|c| is_letter(*c) || is_digit(*c))
+}
+
+fn is_letter(c: u8) -> bool
+    ensures { result ≡ is_letter c }
+{
+    matches!(c, b'A'..=b'Z' | b'a'..=b'z')
+}
+
+fn is_digit(c: u8) -> bool
+    ensures { result ≡ is_digit c }
+{
+    matches!(c, b'0'..=b'9')
+}
+
+/// The number of the node with this name.
+pub(crate) fn find(names: &[Name], word: &[u8]) -> Option<u8>
+    requires { length names.now ≤ 64 }
+    ensures { MatchOption result
+        (¬ Contains names.now word.now)
+        (λ n. (n < length names.now) × (name_of names.now n ≡ word.now)) }
+{
+    let place = names.iter().position(|name| name.as_slice() == word)?;
+    Some(place as u8)
+}
