@@ -1,0 +1,5 @@
+pub mod FaceLaws
+pub mod OrderLaws
+pub mod RequestLaws
+pub mod StepLaws
+pub mod CollectLaws

@@ -1,0 +1,83 @@
+-- Requests at the front of a list, and the priority of their responses.
+use Rattle.std.proofs.Common.{◌≡◌, ℕ, ◌+◌, ◌*◌, ◌/◌, ◌<◌, min, true, false, Bool, Option, Some, None, IsSome, is_some, List, [], ◌∷◌, slice_get, get_or, All, refl, sym, ap, ◌∙◌, arith, if◌then◌else◌}
+use Rattle.rio_packets.specs.Hops.{closed}
+use Rattle.rio_packets.specs.Fields.{prio_of, is_request}
+use Rattle.maint_registers.specs.Devices.{Device}
+use Rattle.maint_registers.specs.Access.{value_at, written_at}
+use Rattle.maint_packets.specs.declared.request.Op.{Op}
+use Rattle.maint_packets.specs.declared.request.Op.TheVariants.{Read, Write, BadRead, BadWrite}
+use Rattle.maint_packets.specs.declared.request.Request.{Request}
+use Rattle.maint_packets.specs.declared.response.Response.{Response}
+use Rattle.maint_packets.specs.Requests.{op_of, request_of}
+use Rattle.maint_packets.specs.Layout.{offset_of}
+use Rattle.maint_packets.specs.Responses.{response_bytes}
+use Rattle.maint_packets.specs.Answers.{answered, answered_to, after_read, after_write}
+use Rattle.link_buffers.specs.Queues.{list_at}
+use Rattle.link_port.specs.Faces.{AreLists}
+
+-- the first packet of a list has the priority of the list
+pub first_has_prio : (lists : List (List (List ℕ))) (prio : ℕ) (packet : List ℕ) → AreLists lists → prio < 4
+    → slice_get (list_at lists prio) 0 ≡ Some packet → prio_of packet ≡ prio
+first_has_prio lists prio packet are few is = by_list (list_at lists prio) (are.sorted prio few) is
+  where
+    by_list : (packets : List (List ℕ)) → All (λ p. prio_of p ≡ prio) packets → slice_get packets 0 ≡ Some packet → prio_of packet ≡ prio
+    by_list [] all is = cc
+    by_list (x ∷ xs) all is = let first : prio_of x ≡ prio = all 0 [] (omega arith) in cc
+
+-- a request has its packet's priority
+pub request_prio : (packet : List ℕ) (request : Request) → request_of packet ≡ Some request → request.prio ≡ prio_of packet
+request_prio packet request is = by_test (is_request packet) refl is
+  where
+    by_test : (t : Bool) → is_request packet ≡ t → request_of packet ≡ Some request → request.prio ≡ prio_of packet
+    by_test true e h = let k = rw e at h in ap (λ (r : Request). r.prio) (sym (inside _ _ k))
+      where
+        inside : (a b : Request) → Some a ≡ Some b → a ≡ b
+        inside a b e = cc
+    by_test false e h = let k = rw e at h in absurd (none _ k)
+      where
+        none : (a : Request) → None ≡ Some a → ⊥
+        none a e = cc
+
+-- what is a request has one
+pub request_there : (packet : List ℕ) → is_request packet ≡ true → (request : Request) × (request_of packet ≡ Some request)
+request_there packet is = (
+  record {
+    prio = prio_of packet;
+    dest = get_or packet 2 0;
+    source = get_or packet 3 0;
+    op = op_of packet;
+    tid = get_or packet 5 0;
+    hop = get_or packet 6 0;
+    offset = offset_of packet;
+  },
+  rw is refl,
+)
+
+response_bytes-prio : (response : Response) → prio_of (response_bytes response) ≡ response.prio
+unfolding closed
+response_bytes-prio response = omega arith
+
+answered_to-prio : (device : Device) (request : Request) (port : ℕ) (op : Op) → (answered_to device request port op).response.prio ≡ min (request.prio + 1) 3
+answered_to-prio device request port Read = read (value_at device request.offset port)
+  where
+    read : (value : Option ℕ) → (after_read device request value).response.prio ≡ min (request.prio + 1) 3
+    read (Some value) = refl
+    read None = refl
+answered_to-prio device request port (Write value) = written (written_at device request.offset value)
+  where
+    written : (next : Option Device) → (after_write device request next).response.prio ≡ min (request.prio + 1) 3
+    written (Some next) = refl
+    written None = refl
+answered_to-prio device request port BadRead = refl
+answered_to-prio device request port BadWrite = refl
+
+-- the priority of the response to a request
+pub answer_prio : (device : Device) (request : Request) (port : ℕ)
+    → prio_of (response_bytes (answered device request port).response) ≡ min (request.prio + 1) 3
+answer_prio device request port =
+    response_bytes-prio (answered device request port).response ∙ answered_to-prio device request port request.op
+
+-- what is there
+pub some_there : {A : Type 0} (o : Option A) → IsSome o → (x : A) × (o ≡ Some x)
+some_there None h = cc
+some_there (Some x) h = (x, refl)

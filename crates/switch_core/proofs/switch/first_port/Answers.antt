@@ -1,0 +1,19 @@
+use Rattle.std.proofs.Common.{ℕ, Option, ◌+◌, ◌∙◌, sym, arith}
+use Rattle.switch_core.specs.Faces.{faces_of}
+use Rattle.switch_core.specs.SwitchSteps.{step_at}
+use Rattle.switch_core.proofs.OrderLaws.{least_first-none, least_first-at, least_first-over}
+use Rattle.switch_core.proofs.switch.first_port.Goals as goal
+
+pub loop-port-init : goal.loop-port-init
+loop-port-init g c =
+    least_first-none (step_at c.args.registers.now (faces_of g.P.PortFace.received g.P.PortFace.queued c.args.ports.now) c.args.prio)
+
+pub returns-then-can_go-clause-value : goal.returns-then-can_go-clause-value
+returns-then-can_go-clause-value g c =
+    let f = step_at c.args.registers.now (faces_of g.P.PortFace.received g.P.PortFace.queued c.args.ports.now) c.args.prio in
+    least_first-at f c.args.registers.now.ports c.loop-port.port (omega arith) c.loop-port.invariant (sym c.can_go.ensures.exact ∙ c.if-can_go.true)
+
+pub loop-port-preserved : goal.loop-port-preserved
+loop-port-preserved g c =
+    let f = step_at c.args.registers.now (faces_of g.P.PortFace.received g.P.PortFace.queued c.args.ports.now) c.args.prio in
+    least_first-over f c.loop-port.port (c.loop-port.port + 1) (omega arith) c.loop-port.invariant (sym c.can_go.ensures.exact ∙ c.if-can_go.false)

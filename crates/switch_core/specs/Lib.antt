@@ -1,0 +1,4 @@
+pub mod Faces
+pub mod Order
+pub mod SwitchSteps
+pub mod EndpointSteps
