@@ -1,4 +1,4 @@
-ghost use Rattle.std.specs.Prelude.{◌≡◌, ◌≤◌, false, [], length};
+ghost use Rattle.std.specs.Prelude.{◌≡◌, ◌≤◌, false, [], length, take};
 ghost use Rattle.std.specs.Fmt.{decimal};
 ghost use Rattle.rio_chars.specs.HexText.{hex_of};
 ghost use Rattle.rio_chars.specs.Unless.{WritesUnless};
@@ -52,6 +52,19 @@ impl<'a, K: Sink> Outbox<'a, K> {
             self.buffer.append(bytes);
         } else {
             self.write_long(bytes);
+        }
+    }
+
+    /// Tells the first bytes of a short text: faster than `write`, since a copy of eight bytes is one step.
+    #[inline(always)]
+    pub fn write_short(&mut self, text: &[u8; 8], count: usize)
+        requires { count ≤ 8 }
+        ensures { Writes K.written K.faults self.old self.new (take count text.now) }
+    {
+        if self.buffer.room() >= 8 {
+            self.buffer.append_short(text, count);
+        } else {
+            self.write(&text[..count]);
         }
     }
 

@@ -1,4 +1,4 @@
-ghost use Rattle.std.specs.Prelude.{◌≡◌, ◌≤◌, ◌+◌, ◌*◌, ◌++◌, [], length, IfOk};
+ghost use Rattle.std.specs.Prelude.{◌≡◌, ◌≤◌, ◌+◌, ◌*◌, ◌++◌, [], length, take, IfOk};
 ghost use Rattle.rio_chars.specs.HexText.{hex_of};
 
 use crate::NoMemory;
@@ -67,6 +67,17 @@ impl TextBuffer {
         let end = self.len + bytes.len();
         self.bytes[self.len..end].copy_from_slice(bytes);
         self.len = end;
+    }
+
+    // Lets the first bytes of a short text wait, of which the whole has room.
+    #[inline(always)]
+    pub(crate) fn append_short(&mut self, text: &[u8; 8], count: usize)
+        requires room { length self.old + 8 ≤ 65536 }
+        requires count { count ≤ 8 }
+        ensures { self.new ≡ self.old ++ take count text.now }
+    {
+        self.bytes[self.len..self.len + 8].copy_from_slice(text);
+        self.len += count;
     }
 
     // Lets the digits of bytes wait that have room.

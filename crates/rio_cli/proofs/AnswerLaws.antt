@@ -4,12 +4,12 @@ use Rattle.std.specs.Io.KnownBytes.{Appends, Consumes, IsAtEnd, Keeps}
 use Rattle.rio_chars.specs.Faults.{Rose}
 use Rattle.rio_chars.specs.Fronts.{AppendsFront}
 use Rattle.rio_chars.specs.Takings.{ConsumesJust, ConsumesUpTo}
-use Rattle.fabric_replay.proofs.ReadingLaws.{not_refused}
+use Rattle.fabric_replay.proofs.ReadingLaws.{not_refused, refused_once}
 use Rattle.rio_cli.specs.declared.command.Command.{Command}
 use Rattle.rio_cli.specs.declared.command.Command.TheVariants.{Replay, Decode}
 use Rattle.rio_cli.specs.Words.{Asks, AreUnknown}
 use Rattle.rio_cli.specs.declared.answer.Refusal.{Refusal}
-use Rattle.rio_cli.proofs.WordLaws.{no_bad_word}
+use Rattle.rio_cli.proofs.WordLaws.{no_bad_word, bad_word_once}
 use Rattle.rio_cli.specs.declared.status.Status.{Status}
 use Rattle.rio_cli.specs.declared.status.Status.TheVariants.{Done, Words, Script, ReadFault, WriteFault, NoMemory, Undetected, TooLong, Locked}
 use Rattle.rio_cli.specs.Inputs.{most_input}
@@ -91,6 +91,11 @@ module _ (command : Command) (l l2 : Option (List ℕ)) (r r' : ℕ) (w : Option
 pub not_refused_too : (command : Command) (bytes : List ℕ) (line reason : ℕ) → IsAccepted command bytes → IsRefused command bytes line reason → ⊥
 not_refused_too Replay bytes line reason is refused = not_refused bytes is.0 is.1 line reason is.2 refused
 not_refused_too Decode bytes line reason is refused = no_bad_word bytes is.0 line is.1 refused.0
+
+-- a refused input has one line and one reason: a row for each command
+pub refused_once_too : (command : Command) (bytes : List ℕ) (line reason line2 reason2 : ℕ) → IsRefused command bytes line reason → IsRefused command bytes line2 reason2 → (line ≡ line2) × (reason ≡ reason2)
+refused_once_too Replay bytes line reason line2 reason2 h k = refused_once bytes line reason line2 reason2 h k
+refused_once_too Decode bytes line reason line2 reason2 h k = (bad_word_once bytes line line2 h.0 k.0, h.1 ∙ sym k.1)
 
 -- what an input is of which the whole output was written
 completed : (command : Command) (bytes : List ℕ) (w w' : Option (List ℕ)) → Completes command bytes w w' → IsAccepted command bytes

@@ -1,5 +1,5 @@
 -- What a loop over characters has told.
-use Rattle.std.proofs.Common.{◌≡◌, ℕ, ◌+◌, ◌<◌, ◌≤◌, Bool, Option, List, [], ◌++◌, length, get_or, drop, refl, sym, ap, ◌∙◌, subst, append-nil, append_assoc}
+use Rattle.std.proofs.Common.{◌≡◌, ℕ, suc, ◌+◌, ◌-◌, ◌<◌, Bool, Option, List, [], ◌++◌, length, length-drop, take, drop, take-append-drop, refl, sym, ap, ◌∙◌, subst, append-nil, append_assoc, arith}
 use Rattle.std.specs.List.{flat_map}
 use Rattle.std.specs.Io.KnownBytes.{Appends}
 use Rattle.std.proofs.lemmas.Grind.{flat_map-append}
@@ -11,10 +11,16 @@ use Rattle.rio_chars.proofs.WrittenLaws.{Writes-nil, Writes-then, Writes-front}
 use Rattle.rio_chars.specs.declared.chars.Char.{Char}
 use Rattle.link_model.specs.declared.event.Event.{Event}
 use Rattle.link_model.specs.Reading.{placed, Plain}
-use Rattle.link_model.specs.Places.{Place, start, step, run, place_after, at_rest}
-use Rattle.link_model.proofs.PlacesLaws.{reading_only, reading_cut}
+use Rattle.link_model.specs.Places.{Place, start, run, place_after, at_rest}
+use Rattle.link_model.specs.Fronts.{telling_front}
+use Rattle.link_model.proofs.FrontLaws.{front-count, front-place, run-telling_front}
+use Rattle.link_model.proofs.PlacesLaws.{reading_only, reading_cut, run-none, place_after-none, place_after-append}
 use Rattle.link_model.proofs.ReadingFound.{found, none_yet}
-use Rattle.rio_framer.proofs.FeedingLaws.{events_more, stands_more, events_all, stands_all}
+use Rattle.rio_framer.specs.declared.events.Events.{Events}
+use Rattle.rio_framer.specs.declared.events.Told.{Told}
+use Rattle.rio_framer.specs.Framing.{Framing, framing_after}
+use Rattle.rio_framer.specs.Giving.{listed, told_of, events_by}
+use Rattle.rio_framer.proofs.GivingLaws.{events_by-front, listed-front}
 use Rattle.rio_cli.specs.Decoding.{event_text, end_text, decode_text, SpellsChars, Decoded, Decodes, DecodesFront}
 use Rattle.rio_cli.proofs.WordLaws.{AreTexts-once}
 
@@ -22,47 +28,88 @@ use Rattle.rio_cli.proofs.WordLaws.{AreTexts-once}
 abbrev pub whole_text : List Char → List ℕ
 whole_text chars = decode_text (run start 0 chars) (at_rest (place_after start chars))
 
--- how far a loop has come: the lines of the first characters were told, and the framer stands behind them
-pub record Going {K : Type 0} (written : K → Option (List ℕ)) (faults : K → ℕ) (begun out : Outbox K) (chars : List Char) (n : ℕ) (framer : Place) : Type 0 where
+-- how far a loop has come: the lines of the characters before these were told, and the framer stands before these
+pub record Going {K : Type 0} (written : K → Option (List ℕ)) (faults : K → ℕ) (begun out : Outbox K) (chars : List Char) (n : ℕ) (left : List Char) (framer : Place) : Type 0 where
+  pub counted : n + length left ≡ length chars
   pub found : List (ℕ × Event)
-  pub events : found ++ run framer n (drop n chars) ≡ run start 0 chars
-  pub stands : place_after framer (drop n chars) ≡ place_after start chars
+  pub events : found ++ run framer n left ≡ run start 0 chars
+  pub stands : place_after framer left ≡ place_after start chars
   pub told : Writes written faults begun out (flat_map event_text found)
 
+-- behind a run of characters
+behind_stands : (from : Place) (left : List Char) → place_after (telling_front from left).step.place (drop (telling_front from left).count left) ≡ place_after from left
+behind_stands from left =
+    ap (λ place. place_after place (drop (telling_front from left).count left)) (front-place from left)
+    ∙ sym (place_after-append from (take (telling_front from left).count left) (drop (telling_front from left).count left))
+    ∙ ap (place_after from) (take-append-drop (telling_front from left).count left)
+
+-- what a run of characters gives is what it tells, with the packet that ended
+given_lines : (from : Place) (left : List Char) (place : ℕ) (told : Told) (new : Framing) → told ≡ told_of (telling_front from left).step.gives → new ≡ framing_after (telling_front from left).step
+    → flat_map event_text (placed place (listed (events_by told new.ended).first (events_by told new.ended).second)) ≡ flat_map event_text (placed place (telling_front from left).step.gives)
+given_lines from left place told new told_is new_is =
+    ap (λ t. flat_map event_text (placed place (listed (events_by t new.ended).first (events_by t new.ended).second))) told_is
+    ∙ ap (λ (f : Framing). flat_map event_text (placed place (listed (events_by (told_of (telling_front from left).step.gives) f.ended).first (events_by (told_of (telling_front from left).step.gives) f.ended).second))) new_is
+    ∙ ap (λ (e : Events). flat_map event_text (placed place (listed e.first e.second))) (events_by-front from left)
+    ∙ ap (λ es. flat_map event_text (placed place es)) (listed-front from left)
+
 module _ {K : Type 0} (written : K → Option (List ℕ)) (faults : K → ℕ) (begun : Outbox K) (chars : List Char) where
-  abbrev Gone : Outbox K → ℕ → Place → Type 0
-  Gone out n framer = Going written faults begun out chars n framer
+  abbrev Gone : Outbox K → ℕ → List Char → Place → Type 0
+  Gone out n left framer = Going written faults begun out chars n left framer
 
-  pub Going-begin : (framer : Place) → framer ≡ start → Gone begun 0 framer
-  Going-begin framer new = rw new (record { found = []; events = refl; stands = refl; told = Writes-nil written faults begun })
+  pub Going-begin : (framer : Place) → framer ≡ start → Gone begun 0 chars framer
+  Going-begin framer new = rw new (record { counted = omega arith; found = []; events = refl; stands = refl; told = Writes-nil written faults begun })
 
-  pub Going-more : (d : Char) (n : ℕ) (given : List Event) {out out2 : Outbox K} {framer to : Place} → n < length chars
-      → Gone out n framer → to ≡ (step framer (get_or chars n d)).place → given ≡ (step framer (get_or chars n d)).gives
-      → Writes written faults out out2 (flat_map event_text (placed n given)) → Gone out2 (n + 1) to
-  Going-more d n given {out} {out2} {framer} {to} within h to_is given_is more = record {
-    found = h.found ++ placed n given;
-    events = events_more framer to n chars d given h.found (h.found ++ placed n given) (run start 0 chars) within to_is given_is refl h.events;
-    stands = stands_more framer to n chars d within to_is ∙ h.stands;
-    told = subst (Writes written faults begun out2) (sym (flat_map-append event_text h.found (placed n given))) (Writes-then (flat_map event_text h.found) (flat_map event_text (placed n given)) h.told more);
-  }
+  -- a run of characters, of which the last has the place m
+  pub Going-more : (n m : ℕ) (left : List Char) (framer : Place) {out out2 : Outbox K} → n + (telling_front framer left).count ≡ suc m → Gone out n left framer
+      → Writes written faults out out2 (flat_map event_text (placed m (telling_front framer left).step.gives))
+      → Gone out2 (suc m) (drop (telling_front framer left).count left) (telling_front framer left).step.place
+  Going-more n m left framer {out} {out2} here h more =
+      let front = telling_front framer left in
+      let fits = front-count framer left in
+      let counted = h.counted in
+      record {
+        counted = omega (arith, length-drop front.count left);
+        found = h.found ++ placed m front.step.gives;
+        events = append_assoc h.found (placed m front.step.gives) (run front.step.place (suc m) (drop front.count left))
+            ∙ ap (λ es. h.found ++ es) (sym (run-telling_front framer n m left here)) ∙ h.events;
+        stands = behind_stands framer left ∙ h.stands;
+        told = subst (Writes written faults begun out2) (sym (flat_map-append event_text h.found (placed m front.step.gives)))
+            (Writes-then (flat_map event_text h.found) (flat_map event_text (placed m front.step.gives)) h.told more);
+      }
+
+  -- the same, as the framer reads the run and its lines are told
+  pub Going-read : (n : ℕ) (left left2 : List Char) (from : Place) (count : ℕ) (told : Told) (new : Framing) {out out2 : Outbox K} → count ≡ (telling_front from left).count
+      → told ≡ told_of (telling_front from left).step.gives → new ≡ framing_after (telling_front from left).step → left2 ≡ drop count left → 0 < count → Gone out n left from
+      → Writes written faults out out2 (flat_map event_text (placed (n + count - 1) (listed (events_by told new.ended).first (events_by told new.ended).second)))
+      → Gone out2 (n + count) left2 new.place
+  Going-read n left left2 from count told new {out} {out2} count_is told_is new_is left_is some h more =
+      let front = telling_front from left in
+      let m : ℕ = n + count - 1 in
+      let here : n + front.count ≡ suc m = omega (arith, count_is) in
+      let whole : n + count ≡ suc m = omega arith in
+      let lines = subst (Writes written faults out out2) (given_lines from left m told new told_is new_is) more in
+      let done : Gone out2 (suc m) (drop front.count left) front.step.place = Going-more n m left from here h lines in
+      subst (λ k. Gone out2 k left2 new.place) (sym whole)
+      (subst (λ cs. Gone out2 (suc m) cs new.place) (sym (left_is ∙ ap (λ k. drop k left) count_is))
+      (subst (λ p. Gone out2 (suc m) (drop front.count left) p) (sym (ap (λ (f : Framing). f.place) new_is)) done))
 
   -- the text so far is a front of the whole text
-  pub Going-front : {out : Outbox K} (n : ℕ) {framer : Place} → begun.buffer.now ≡ [] → Gone out n framer → AppendsFront (written begun.sink.now) (written out.sink.now) (whole_text chars)
-  Going-front {out} n {framer} empty h =
-      let rest = flat_map event_text (run framer n (drop n chars)) ++ end_text (at_rest (place_after start chars)) in
+  pub Going-front : {out : Outbox K} (n : ℕ) (left : List Char) {framer : Place} → begun.buffer.now ≡ [] → Gone out n left framer → AppendsFront (written begun.sink.now) (written out.sink.now) (whole_text chars)
+  Going-front {out} n left {framer} empty h =
+      let rest = flat_map event_text (run framer n left) ++ end_text (at_rest (place_after start chars)) in
       let all : whole_text chars ≡ flat_map event_text h.found ++ rest =
       ap (λ es. flat_map event_text es ++ end_text (at_rest (place_after start chars))) (sym h.events)
-      ∙ ap (λ text. text ++ end_text (at_rest (place_after start chars))) (flat_map-append event_text h.found (run framer n (drop n chars)))
-      ∙ append_assoc (flat_map event_text h.found) (flat_map event_text (run framer n (drop n chars))) (end_text (at_rest (place_after start chars))) in
+      ∙ ap (λ text. text ++ end_text (at_rest (place_after start chars))) (flat_map-append event_text h.found (run framer n left))
+      ∙ append_assoc (flat_map event_text h.found) (flat_map event_text (run framer n left)) (end_text (at_rest (place_after start chars))) in
       subst (AppendsFront (written begun.sink.now) (written out.sink.now)) (sym all) (AppendsFront-longer (written begun.sink.now) (written out.sink.now) (flat_map event_text h.found) rest
       (Writes-front written faults begun out (flat_map event_text h.found) empty h.told))
 
   -- the last line was told behind all others
-  pub Going-end : (n : ℕ) (rest : Bool) {out out2 out3 : Outbox K} {framer : Place} → length chars ≤ n
-      → Gone out n framer → rest ≡ at_rest framer → Writes written faults out out2 (end_text rest) → Writes written faults out2 out3 [] → Writes written faults begun out3 (whole_text chars)
-  Going-end n rest {out} {out2} {out3} {framer} whole h is last flush =
-      let events : h.found ≡ run start 0 chars = events_all framer n chars h.found (run start 0 chars) whole h.events in
-      let stands : framer ≡ place_after start chars = stands_all framer (place_after start chars) n chars whole h.stands in
+  pub Going-end : (n : ℕ) (left : List Char) (rest : Bool) {out out2 out3 : Outbox K} {framer : Place} → left ≡ []
+      → Gone out n left framer → rest ≡ at_rest framer → Writes written faults out out2 (end_text rest) → Writes written faults out2 out3 [] → Writes written faults begun out3 (whole_text chars)
+  Going-end n left rest {out} {out2} {out3} {framer} none h is last flush =
+      let events : h.found ≡ run start 0 chars = sym (ap (λ cs. h.found ++ run framer n cs) none ∙ ap (λ es. h.found ++ es) (run-none framer n) ∙ append-nil h.found) ∙ h.events in
+      let stands : framer ≡ place_after start chars = sym (ap (place_after framer) none ∙ place_after-none framer) ∙ h.stands in
       let text : flat_map event_text h.found ++ end_text rest ++ [] ≡ whole_text chars =
       append-nil (flat_map event_text h.found ++ end_text rest)
       ∙ ap (λ es. flat_map event_text es ++ end_text rest) events

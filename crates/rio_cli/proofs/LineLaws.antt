@@ -1,14 +1,16 @@
 -- What calls of an outbox tell, one after the other.
-use Rattle.std.proofs.Common.{◌≡◌, ℕ, List, [], ◌++◌, Option, None, Some, refl, ap, subst, append-nil}
+use Rattle.std.proofs.Common.{◌≡◌, ℕ, List, [], ◌∷◌, ◌++◌, Option, None, Some, IsSome, refl, sym, ap, subst, append-nil}
 use Rattle.std.specs.List.{flat_map}
 use Rattle.rio_chars.specs.Written.{Writes}
 use Rattle.rio_chars.specs.declared.outbox.Outbox.{Outbox}
 use Rattle.rio_chars.proofs.WrittenLaws.{Writes-then}
 use Rattle.rio_symbols.specs.Fields.{Fields}
 use Rattle.link_model.specs.declared.event.Event.{Event}
-use Rattle.link_model.specs.declared.event.Event.TheVariants.{Ctl}
+use Rattle.link_model.specs.declared.event.Event.TheVariants.{Ctl, Pkt, Bad}
 use Rattle.link_model.specs.Reading.{placed}
-use Rattle.rio_framer.specs.Giving.{listed}
+use Rattle.rio_framer.specs.Framing.{ended_of}
+use Rattle.rio_framer.specs.Giving.{listed, told_of}
+use Rattle.rio_framer.specs.declared.events.Told.TheVariants as told
 use Rattle.rio_cli.specs.Decoding.{event_text, symbol_text}
 
 -- the lines of the first event and of the second
@@ -25,5 +27,23 @@ pub Writes-both : {K : Type 0} {written : K → Option (List ℕ)} {faults : K �
 Writes-both {K} {written} {faults} {a} {b} {c} n first second h k =
     subst (Writes written faults a c) (listed-parts n first second) (Writes-then (flat_map event_text (placed n (listed first None))) (flat_map event_text (placed n (listed None second))) h k)
 
+-- the line of one event
+pub Writes-event : {K : Type 0} {written : K → Option (List ℕ)} {faults : K → ℕ} {a b : Outbox K} (n : ℕ) (event : Event)
+    → Writes written faults a b (event_text (n, event)) → Writes written faults a b (flat_map event_text (placed n (event ∷ [])))
+Writes-event {K} {written} {faults} {a} {b} n event h = subst (Writes written faults a b) (sym (append-nil (event_text (n, event)))) h
+
+-- that of the one that ended
+pub Writes-ended : {K : Type 0} {written : K → Option (List ℕ)} {faults : K → ℕ} {a b : Outbox K} (n : ℕ) (ended : Option Event) (event : Event) → ended ≡ Some event
+    → Writes written faults a b (event_text (n, event)) → Writes written faults a b (flat_map event_text (placed n (listed ended None)))
+Writes-ended {K} {written} {faults} {a} {b} n ended event is h = rw is (Writes-event n event h)
+
 pub Writes-symbol : {K : Type 0} {written : K → Option (List ℕ)} {faults : K → ℕ} {a b : Outbox K} (inside symbol : Fields) → inside ≡ symbol → Writes written faults a b (symbol_text inside) → Writes written faults a b (symbol_text symbol)
 Writes-symbol {K} {written} {faults} {a} {b} inside symbol is h = subst (λ s. Writes written faults a b (symbol_text s)) is h
+
+-- where a symbol is told that ended a packet, the packet is there
+pub ended-there : (es : List Event) (symbol : Fields) → told_of es ≡ told.Ends symbol → IsSome (ended_of es)
+ended-there [] symbol e = cc
+ended-there (Ctl s ∷ []) symbol e = cc
+ended-there (Pkt ack packet ∷ []) symbol e = cc
+ended-there (Bad cause ∷ []) symbol e = cc
+ended-there (x ∷ y ∷ es) symbol e = refl

@@ -1,5 +1,5 @@
 -- Characters are read line by line and word by word.
-use Rattle.std.proofs.Common.{◌≡◌, ◌==◌, ℕ, ◌+◌, ◌<◌, ◌≤◌, suc, Bool, true, false, cond, List, [], ◌∷◌, ◌++◌, length, get_or, take, drop, drop-cons, refl, sym, ap, ◌∙◌, subst, arith, take-append-drop, length-append, filter}
+use Rattle.std.proofs.Common.{◌≡◌, ◌≢◌, ◌==◌, ℕ, ◌+◌, ◌-◌, ◌/◌, ◌%◌, ◌<◌, ◌≤◌, suc, Bool, true, false, cond, List, [], ◌∷◌, ◌++◌, length, get_or, take, drop, drop-cons, refl, sym, ap, ◌∙◌, subst, arith, take-append-drop, length-append, filter}
 use denote.Param.Members.{Mut}
 use denote.Ref.{Bor}
 use Rattle.std.specs.Fn.{CalledAt}
@@ -10,6 +10,12 @@ use Rattle.std.proofs.lemmas.Iterator.{YieldsList}
 use Rattle.std.proofs.lemmas.Iterator.Splits.{YieldsList-from_slice_split}
 use Rattle.std.proofs.lemmas.Grind.{flat_map-append}
 use Rattle.std.proofs.lemmas.List.Elements.{filter-append}
+use Rattle.std.proofs.lemmas.Bool.{ne_eqb}
+use Rattle.std.proofs.lemmas.Bool.Decides.{nat_tests}
+use Rattle.std.proofs.lemmas.Grind.{common_steps}
+use Rattle.rio_chars.specs.CharText.{char_text_of}
+use Rattle.rio_chars.specs.HexText.{hex_digit}
+use Rattle.rio_chars.specs.declared.chars.Char.TheVariants.{Data, Special, Invalid}
 use Rattle.rio_chars.proofs.CharLaws.{char_text_of-injective}
 use Rattle.rio_chars.specs.declared.chars.Char.{Char}
 use Rattle.rio_chars.specs.Lines.{lines_of}
@@ -26,7 +32,7 @@ spelled_front [] more chars h = ([], tt)
 spelled_front (w ∷ words) more [] h = absurd h
 spelled_front (w ∷ words) more (c ∷ chars) h = let rest = spelled_front words more chars h.2 in (c ∷ rest.0, (h.0, h.1, rest.1))
 
-spelled_behind : (words more : List (List ℕ)) (chars : List Char) → AreTexts (words ++ more) chars → AreSpelled more
+pub spelled_behind : (words more : List (List ℕ)) (chars : List Char) → AreTexts (words ++ more) chars → AreSpelled more
 spelled_behind [] more chars h = (chars, h)
 spelled_behind (w ∷ words) more [] h = absurd h
 spelled_behind (w ∷ words) more (c ∷ chars) h = spelled_behind words more chars h.2
@@ -46,6 +52,47 @@ AreTexts-length [] [] h = refl
 AreTexts-length [] (c ∷ chars) h = absurd h
 AreTexts-length (w ∷ words) [] h = absurd h
 AreTexts-length (w ∷ words) (c ∷ chars) h = ap suc (AreTexts-length words chars h.2)
+
+-- ---- a word of three bytes that a space follows
+
+digit_no_space : (n : ℕ) → hex_digit n ≢ 32
+digit_no_space n is = grind (arith, nat_tests)
+
+no_space : (c : Char) (x y z : ℕ) → (x ∷ y ∷ z ∷ []) ≡ char_text_of c → (x ≢ 32) × (y ≢ 32) × (z ≢ 32)
+no_space (Data b) x y z e =
+    let first : x ≡ 100 = cc in
+    let second : y ≡ hex_digit (b / 16) = cc in
+    let third : z ≡ hex_digit (b % 16) = cc in
+    ((λ is. absurd (omega arith)), (λ is. digit_no_space (b / 16) (sym second ∙ is)), (λ is. digit_no_space (b % 16) (sym third ∙ is)))
+no_space (Special b) x y z e =
+    let first : x ≡ 107 = cc in
+    let second : y ≡ hex_digit (b / 16) = cc in
+    let third : z ≡ hex_digit (b % 16) = cc in
+    ((λ is. absurd (omega arith)), (λ is. digit_no_space (b / 16) (sym second ∙ is)), (λ is. digit_no_space (b % 16) (sym third ∙ is)))
+no_space Invalid x y z e =
+    let first : x ≡ 105 = cc in
+    let second : y ≡ 110 = cc in
+    let third : z ≡ 118 = cc in
+    ((λ is. absurd (omega arith)), (λ is. absurd (omega arith)), (λ is. absurd (omega arith)))
+
+words_front : (x y z : ℕ) (rest : List ℕ) → x ≢ 32 → y ≢ 32 → z ≢ 32 → words_in (x ∷ y ∷ z ∷ 32 ∷ rest) ≡ (x ∷ y ∷ z ∷ []) ∷ words_in rest
+words_front x y z rest nx ny nz =
+    let ex : (x == 32) ≡ false = ne_eqb x 32 nx in
+    let ey : (y == 32) ≡ false = ne_eqb y 32 ny in
+    let ez : (z == 32) ≡ false = ne_eqb z 32 nz in
+    rw (ex, ey, ez) refl
+
+-- one more word was read
+pub words-turn : (left : List ℕ) (c : Char) → 4 ≤ length left → get_or left 3 0 ≡ 32 → (get_or left 0 0 ∷ get_or left 1 0 ∷ get_or left 2 0 ∷ []) ≡ char_text_of c
+    → words_in left ≡ char_text_of c ∷ words_in (take (length left - 4) (drop 4 left))
+words-turn [] c four space is = absurd (omega arith)
+words-turn (x ∷ []) c four space is = absurd (omega arith)
+words-turn (x ∷ y ∷ []) c four space is = absurd (omega arith)
+words-turn (x ∷ y ∷ z ∷ []) c four space is = absurd (omega arith)
+words-turn (x ∷ y ∷ z ∷ s ∷ rest) c four space is =
+    let no = no_space c x y z is in
+    let all : take (length (x ∷ y ∷ z ∷ s ∷ rest) - 4) rest ≡ rest = grind (arith, common_steps) in
+    rw all (ap (λ b. words_in (x ∷ y ∷ z ∷ b ∷ rest)) space ∙ words_front x y z rest no.0 no.1 no.2 ∙ ap (λ w. w ∷ words_in rest) is)
 
 -- ---- a part that is not spelled
 
@@ -72,6 +119,25 @@ no_bad_word bytes chars line spelled b =
     ap (flat_map words_in) b.split ∙ flat_map-append words_in b.before (b.text ∷ b.behind) in
     let behind = spelled_behind (flat_map words_in b.before) (words_in b.text ++ flat_map words_in b.behind) chars (subst (λ words. AreTexts words chars) whole spelled) in
     b.bad (spelled_front (words_in b.text) (flat_map words_in b.behind) behind.0 behind.1)
+
+-- the first bad line is one
+same_front : (before before2 : List (List ℕ)) (text text2 : List ℕ) (behind behind2 : List (List ℕ)) → before ++ text ∷ behind ≡ before2 ++ text2 ∷ behind2
+    → AreSpelled (flat_map words_in before) → ¬ AreSpelled (words_in text) → AreSpelled (flat_map words_in before2) → ¬ AreSpelled (words_in text2) → length before ≡ length before2
+same_front [] [] text text2 behind behind2 e h bad h2 bad2 = refl
+same_front [] (y ∷ ys) text text2 behind behind2 e h bad h2 bad2 =
+    let here : text ≡ y = cc in
+    absurd (bad (subst (λ t. AreSpelled (words_in t)) (sym here) (spelled_front (words_in y) (flat_map words_in ys) h2.0 h2.1)))
+same_front (x ∷ xs) [] text text2 behind behind2 e h bad h2 bad2 =
+    let here : x ≡ text2 = cc in
+    absurd (bad2 (subst (λ t. AreSpelled (words_in t)) here (spelled_front (words_in x) (flat_map words_in xs) h.0 h.1)))
+same_front (x ∷ xs) (y ∷ ys) text text2 behind behind2 e h bad h2 bad2 =
+    let rest : xs ++ text ∷ behind ≡ ys ++ text2 ∷ behind2 = cc in
+    ap suc (same_front xs ys text text2 behind behind2 rest (spelled_behind (words_in x) (flat_map words_in xs) h.0 h.1) bad (spelled_behind (words_in y) (flat_map words_in ys) h2.0 h2.1) bad2)
+
+pub bad_word_once : (bytes : List ℕ) (line line2 : ℕ) → BadWordAt bytes line → BadWordAt bytes line2 → line ≡ line2
+bad_word_once bytes line line2 h k =
+    let same : length h.before ≡ length k.before = same_front h.before k.before h.text k.text h.behind k.behind (sym h.split ∙ k.split) h.spelled h.bad k.spelled k.bad in
+    h.place ∙ ap (λ n. n + 1) same ∙ sym k.place
 
 -- the n-th of the lines is bad, and those before it are not
 pub BadWordAt-from_turn : (bytes : List ℕ) (n : ℕ) (before : List (List ℕ)) (text : List ℕ) (chars : List Char) (line : ℕ) → before ≡ take n (lines_of bytes) → n < length (lines_of bytes)

@@ -8,7 +8,7 @@ ghost use Rattle.rio_cli.specs.Inputs.{most_input};
 ghost use Rattle.rio_cli.specs.Decoding.{decode_text};
 ghost use Rattle.rio_cli.specs.declared.decode.DecodeEnd.TheVariants.{NoMemory};
 
-use crate::lines::{write_end, write_events};
+use crate::lines::{write_end, write_told};
 use rio_chars::{Char, Outbox, Sink, TextBuffer};
 use rio_framer::Framer;
 use std::alloc::Global;
@@ -77,8 +77,13 @@ fn write_reading<K: Sink>(chars: &[Char], outbox: &mut Outbox<K>)
     ensures never_falls { K.faults outbox.old.sink.now ≤ K.faults outbox.new.sink.now }
 {
     let mut framer = Framer::new();
-    for (place, c) in chars.iter().enumerate() {
-        write_events(outbox, place as u32, framer.feed(*c));
+    let mut left = chars;
+    let mut place = 0u32;
+    while !left.is_empty() {
+        let (count, told) = framer.read_run(left);
+        left = &left[count..];
+        place += count as u32;
+        write_told(outbox, place - 1, told, &framer);
         if outbox.failed() {
             return;
         }

@@ -1,65 +1,62 @@
 //! The lines of events, told to an outbox.
-ghost use Rattle.std.specs.Prelude.{◌++◌, codes, None, option_to_list};
+ghost use Rattle.std.specs.Prelude.{◌≡◌, ◌≤◌, ◌++◌, ℕ, codes, take, Some, None, IsSome};
 ghost use Rattle.std.specs.List.{flat_map};
 ghost use Rattle.std.specs.Fmt.{decimal};
 ghost use Rattle.rio_chars.specs.HexText.{hex_of};
 ghost use Rattle.rio_chars.specs.Written.{Writes};
+ghost use Rattle.rio_symbols.specs.Fields.{Fields};
 ghost use Rattle.link_model.specs.Reading.{placed};
-ghost use Rattle.rio_framer.specs.Giving.{listed};
-ghost use Rattle.rio_cli.specs.Decoding.{spaced, symbol_text, packet_text, bad_text, told_text, event_text, end_text};
+ghost use Rattle.rio_framer.specs.Giving.{listed, events_by};
+ghost use Rattle.rio_cli.specs.Decoding.{spaced, symbol_text, packet_text, bad_text, event_text, end_text};
 
 use link_model::Event;
 use rio_chars::{Outbox, Sink};
-use rio_framer::Events;
-use rio_packets::{Cause, Packet, cause_number};
+use rio_framer::{Framer, Told};
+use rio_packets::{Cause, cause_number};
 use rio_symbols::Symbol;
 
-/// Tells the lines of the events that the character at this place completes.
-pub(crate) fn write_events<K: Sink>(outbox: &mut Outbox<K>, place: u32, events: Events)
-    ensures { Writes K.written K.faults outbox.old outbox.new (flat_map event_text (placed place (listed events.first events.second))) }
+/// Tells the lines of what a run of characters told, of which the last has this place.
+pub(crate) fn write_told<K: Sink>(outbox: &mut Outbox<K>, place: u32, told: Told, framer: &Framer)
+    requires { (symbol : Fields) → told ≡ Told.Ends symbol → IsSome framer.now.ended }
+    ensures { Writes K.written K.faults outbox.old outbox.new
+        (flat_map event_text (placed place (listed (events_by told framer.now.ended).first
+        (events_by told framer.now.ended).second))) }
 {
-    let Events { first, second } = events;
-    write_first(outbox, place, first);
-    write_second(outbox, place, second);
-}
-
-fn write_first<K: Sink>(outbox: &mut Outbox<K>, place: u32, first: Option<Event>)
-    ensures { Writes K.written K.faults outbox.old outbox.new (flat_map event_text (placed place (listed first None))) }
-{
-    if let Some(event) = first {
-        write_event(outbox, place, &event);
+    match told {
+        Told::Nothing => {}
+        Told::Ctl(symbol) => write_symbol(outbox, place, &symbol),
+        Told::Ends(symbol) => {
+            write_ended(outbox, place, framer);
+            write_symbol(outbox, place, &symbol);
+        }
+        Told::Bad(cause) => write_bad(outbox, place, cause),
     }
 }
 
-fn write_second<K: Sink>(outbox: &mut Outbox<K>, place: u32, second: Option<Symbol>)
-    ensures { Writes K.written K.faults outbox.old outbox.new (flat_map event_text (placed place (listed None second))) }
+// The line of the packet that ended.
+fn write_ended<K: Sink>(outbox: &mut Outbox<K>, place: u32, framer: &Framer)
+    requires { IsSome framer.now.ended }
+    ensures { Writes K.written K.faults outbox.old outbox.new
+        (flat_map event_text (placed place (listed framer.now.ended None))) }
 {
-    if let Some(symbol) = second {
-        write_event(outbox, place, &Event::Ctl(symbol));
+    match framer.ended() {
+        Ok((ack, packet)) => write_packet(outbox, place, ack, packet),
+        Err(cause) => write_bad(outbox, place, cause),
     }
 }
 
-fn write_event<K: Sink>(outbox: &mut Outbox<K>, place: u32, event: &Event)
-    ensures { Writes K.written K.faults outbox.old outbox.new (event_text (place, event.now)) }
+fn write_symbol<K: Sink>(outbox: &mut Outbox<K>, place: u32, symbol: &Symbol)
+    ensures { Writes K.written K.faults outbox.old outbox.new
+        (decimal place ++ symbol_text symbol.now) }
 {
     outbox.write_decimal(place);
-    write_told(outbox, event);
+    write_fields(outbox, symbol);
 }
 
-fn write_told<K: Sink>(outbox: &mut Outbox<K>, event: &Event)
-    ensures { Writes K.written K.faults outbox.old outbox.new (told_text event.now) }
-{
-    match event {
-        Event::Ctl(symbol) => write_symbol(outbox, symbol),
-        Event::Pkt(ack, packet) => write_packet(outbox, *ack, packet),
-        Event::Bad(cause) => write_bad(outbox, *cause),
-    }
-}
-
-fn write_symbol<K: Sink>(outbox: &mut Outbox<K>, symbol: &Symbol)
+fn write_fields<K: Sink>(outbox: &mut Outbox<K>, symbol: &Symbol)
     ensures { Writes K.written K.faults outbox.old outbox.new (symbol_text symbol.now) }
 {
-    outbox.write(b" symbol");
+    outbox.write_short(b" symbol\n", 7);
     write_number(outbox, symbol.s0);
     write_number(outbox, symbol.p0);
     write_number(outbox, symbol.p1);
@@ -68,20 +65,36 @@ fn write_symbol<K: Sink>(outbox: &mut Outbox<K>, symbol: &Symbol)
     outbox.write(b"\n");
 }
 
-fn write_packet<K: Sink>(outbox: &mut Outbox<K>, ack: u8, packet: &Packet)
+fn write_packet<K: Sink>(outbox: &mut Outbox<K>, place: u32, ack: u8, packet: &[u8])
+    ensures { Writes K.written K.faults outbox.old outbox.new
+        (decimal place ++ packet_text ack packet.now) }
+{
+    outbox.write_decimal(place);
+    write_form(outbox, ack, packet);
+}
+
+fn write_form<K: Sink>(outbox: &mut Outbox<K>, ack: u8, packet: &[u8])
     ensures { Writes K.written K.faults outbox.old outbox.new (packet_text ack packet.now) }
 {
-    outbox.write(b" packet");
+    outbox.write_short(b" packet\n", 7);
     write_number(outbox, ack);
     outbox.write(b" ");
-    outbox.write_hex(packet.bytes());
+    outbox.write_hex(packet);
     outbox.write(b"\n");
 }
 
-fn write_bad<K: Sink>(outbox: &mut Outbox<K>, cause: Cause)
+fn write_bad<K: Sink>(outbox: &mut Outbox<K>, place: u32, cause: Cause)
+    ensures { Writes K.written K.faults outbox.old outbox.new
+        (decimal place ++ bad_text cause) }
+{
+    outbox.write_decimal(place);
+    write_cause(outbox, cause);
+}
+
+fn write_cause<K: Sink>(outbox: &mut Outbox<K>, cause: Cause)
     ensures { Writes K.written K.faults outbox.old outbox.new (bad_text cause) }
 {
-    outbox.write(b" bad");
+    outbox.write_short(b" bad\n\n\n\n", 4);
     write_number(outbox, cause_number(cause));
     outbox.write(b"\n");
 }
@@ -101,6 +114,22 @@ pub(crate) fn write_end<K: Sink>(outbox: &mut Outbox<K>, at_rest: bool)
 fn write_number<K: Sink>(outbox: &mut Outbox<K>, number: u8)
     ensures { Writes K.written K.faults outbox.old outbox.new (spaced number) }
 {
-    outbox.write(b" ");
-    outbox.write_decimal(u32::from(number));
+    let (text, count) = spaced_number(number);
+    outbox.write_short(&text, count);
+}
+
+// A number behind a space, and how many bytes that are.
+fn spaced_number(number: u8) -> ([u8; 8], usize)
+    ensures count { result.1 ≤ 8 }
+    ensures text { take result.1 result.0 ≡ spaced number }
+{
+    let last = b'0' + number % 10;
+    if number < 10 {
+        return ([b' ', last, 0, 0, 0, 0, 0, 0], 2);
+    }
+    let middle = b'0' + number / 10 % 10;
+    if number < 100 {
+        return ([b' ', middle, last, 0, 0, 0, 0, 0], 3);
+    }
+    ([b' ', b'0' + number / 100, middle, last, 0, 0, 0, 0], 4)
 }

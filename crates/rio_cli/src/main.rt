@@ -5,6 +5,7 @@
 //! - `run`: the whole program, over any source, sink and sink of messages; `main` gives it the arguments and the
 //!   standard streams, and does nothing more.
 //! - `answer` and `rio`: what the words ask for is done; `Answer`, `Status`, `Refusal` and `Command`.
+//! - `inputs_are_judged_once`: a law of inputs.
 //!
 //! If the system does not give the arguments, the status is 1 and nothing is written.
 #![tactic(auto)]
@@ -12,6 +13,7 @@
 mod answer;
 mod command;
 mod decode;
+mod laws;
 mod lines;
 mod messages;
 mod program;
@@ -23,6 +25,7 @@ mod words;
 
 pub use answer::{Answer, Refusal};
 pub use command::Command;
+pub use laws::inputs_are_judged_once;
 pub use program::run;
 use rio_chars::{StdSink, StdSource};
 pub use status::{Status, status_number};

@@ -32,7 +32,7 @@ pub(crate) fn read_chars(alloc: Global, bytes: &[u8]) -> Result<Vec<Char>, Chars
     ensures count { IfOk result (λ chars. length chars.items ≤ most_input) }
     ensures bad { (line : ℕ) → IsErrOf result (CharsEnd.BadWord line) → BadWordAt bytes.now line }
 {
-    let mut chars = Vec::new(alloc);
+    let mut chars = Vec::with_capacity(alloc, bytes.len() / 4 + 1)?;
     let mut line = 0;
     for text in bytes.split(|byte| *byte == b'\n') {
         line += 1;
@@ -49,12 +49,30 @@ fn read_line(text: &[u8], chars: &mut Vec<Char>) -> Result<bool, AllocError>
         × (chars.new.items ≡ chars.old.items ++ more) × AreTexts (words_in text.now) more) }
     ensures bad { IfOk result (λ good. IsFalse good → ¬ AreSpelled (words_in text.now)) }
 {
-    for word in text.split(|byte| *byte == b' ') {
+    let left = read_front(text, chars)?;
+    for word in left.split(|byte| *byte == b' ') {
         if !read_word(word, chars)? {
             return Ok(false);
         }
     }
     Ok(true)
+}
+
+// Appends the characters of words at the front that a space follows, and answers what is left of the line.
+fn read_front<'a>(text: &'a [u8], chars: &mut Vec<Char>) -> Result<&'a [u8], AllocError>
+    ensures { IfOk result (λ left. (more : List Char) × (words : List (List ℕ))
+        × (chars.new.items ≡ chars.old.items ++ more)
+        × (words_in text.now ≡ words ++ words_in left.now) × AreTexts words more) }
+{
+    let mut left = text;
+    while let [a, b, c, b' ', rest @ ..] = left {
+        let Some(read) = read_char(&[*a, *b, *c]) else {
+            return Ok(left);
+        };
+        chars.push(read)?;
+        left = rest;
+    }
+    Ok(left)
 }
 
 // Appends the character of a word, and answers whether it is one. Between two spaces there may be no word.

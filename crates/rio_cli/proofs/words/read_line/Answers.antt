@@ -2,8 +2,8 @@ use Rattle.std.proofs.Common.{◌++◌, ◌∷◌, [], map, filter, sym, ap, ◌
 use Rattle.std.proofs.lemmas.List.{map-append}
 use Rattle.std.proofs.lemmas.List.Elements.{filter-append}
 use Rattle.std.proofs.lemmas.Iterator.Consumers.{YieldsList-turn, YieldsList-end}
-use Rattle.rio_cli.specs.Decoding.{is_word, word_in, AreTexts}
-use Rattle.rio_cli.proofs.WordLaws.{AreTexts-append, bad_word, words-road}
+use Rattle.rio_cli.specs.Decoding.{is_word, word_in, words_in, AreTexts}
+use Rattle.rio_cli.proofs.WordLaws.{AreTexts-append, bad_word, spelled_behind, words-road}
 use Rattle.rio_cli.proofs.words.read_line.Goals as goal
 
 pub loop-word-init : goal.loop-word-init
@@ -21,14 +21,22 @@ loop-word-preserved c =
     )
 
 pub returns-then-not-branch-clause-bad : goal.returns-then-not-branch-clause-bad
-returns-then-not-branch-clause-bad c = λ is.
-    let all = words-road c.args.text.now c.loop-word.yielded _ c.loop-word.yielded_by (search rules) (search rules) (search rules) (λ x r q k. search (rules, tests)) in
+returns-then-not-branch-clause-bad c = λ is h.
+    let left = c.in_ok-left.left.now in
+    let front = c.in_ok-left.ensures in
+    let all = words-road left c.loop-word.yielded _ c.loop-word.yielded_by (search rules) (search rules) (search rules) (λ x r q k. search (rules, tests)) in
     let turn = YieldsList-turn all c.loop-word.yielded _ c.loop-word.yielded_by _ _ c.in-Some.word c.in-Some.is c.next.ensures.steps in
-    bad_word c.args.text.now c.in-Some.word.now _ turn.0 turn.1 (c.in_ok-read_word.ensures.bad c.if-not-branch.true)
+    bad_word left c.in-Some.word.now _ turn.0 turn.1 (c.in_ok-read_word.ensures.bad c.if-not-branch.true)
+    (spelled_behind front.1 (words_in left) h.0 (subst (λ ws. AreTexts ws h.0) front.3 h.1))
 
 pub returns-clause-good : goal.returns-clause-good
 returns-clause-good c = λ is.
-    let all = words-road c.args.text.now c.loop-word.yielded _ c.loop-word.yielded_by (search rules) (search rules) (search rules) (λ x r q k. search (rules, tests)) in
+    let left = c.in_ok-left.left.now in
+    let front = c.in_ok-left.ensures in
+    let all = words-road left c.loop-word.yielded _ c.loop-word.yielded_by (search rules) (search rules) (search rules) (λ x r q k. search (rules, tests)) in
     let end = YieldsList-end all c.loop-word.yielded _ c.loop-word.yielded_by _ _ c.in-None.is c.next.ensures.steps in
-    let h = c.loop-word.invariant in
-    (h.0, h.1, subst (λ ws. AreTexts (filter is_word ws) h.0) end.0 h.2)
+    let h = c.loop-word.invariant in (
+      front.0 ++ h.0,
+      h.1 ∙ ap (λ xs. xs ++ h.0) front.2 ∙ append_assoc _ front.0 h.0,
+      subst (λ ws. AreTexts ws (front.0 ++ h.0)) (sym front.3) (AreTexts-append front.1 (words_in left) front.0 h.0 front.4 (subst (λ ws. AreTexts (filter is_word ws) h.0) end.0 h.2)),
+    )
