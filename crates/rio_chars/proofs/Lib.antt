@@ -1,5 +1,6 @@
 pub mod FrontLaws
 pub mod TakingLaws
+pub mod SpacedLaws
 pub mod UnlessLaws
 pub mod WrittenLaws
 pub mod FaultLaws

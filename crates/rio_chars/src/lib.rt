@@ -23,6 +23,7 @@ mod outbox;
 mod plain;
 mod plan;
 mod reading;
+mod runs;
 mod sink;
 mod source;
 mod standard;

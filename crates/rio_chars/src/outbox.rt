@@ -1,12 +1,14 @@
 ghost use Rattle.std.specs.Prelude.{◌≡◌, ◌≤◌, false, [], length, take};
 ghost use Rattle.std.specs.Fmt.{decimal};
+ghost use Rattle.rio_chars.specs.CharText.{spaced_chars, AreData};
 ghost use Rattle.rio_chars.specs.HexText.{hex_of};
 ghost use Rattle.rio_chars.specs.Unless.{WritesUnless};
 ghost use Rattle.rio_chars.specs.Written.{Writes};
 
 use crate::digits::write_decimal;
+use crate::runs::{data_run, spaced_char};
 use crate::text_buffer::ROOM;
-use crate::{Failed, Sink, TextBuffer, write_all};
+use crate::{Char, Sink, TextBuffer, write_all};
 
 // The most bytes whose digits have room in an empty buffer.
 const HEX_PART: usize = 32768;
@@ -81,6 +83,23 @@ impl<'a, K: Sink> Outbox<'a, K> {
         self.write_hex_part(rest);
     }
 
+    /// Tells the text of each character behind a space. Runs of data characters go fastest.
+    pub fn write_chars(&mut self, chars: &[Char])
+        ensures { Writes K.written K.faults self.old self.new (spaced_chars chars.now) }
+    {
+        let mut left = chars;
+        while let [first, rest @ ..] = left {
+            let run = data_run(left);
+            if run > 0 {
+                self.write_data(&left[..run]);
+                left = &left[run..];
+            } else {
+                self.write_short(&spaced_char(*first), 4);
+                left = rest;
+            }
+        }
+    }
+
     /// Tells a number in decimal digits, with no zero in front.
     pub fn write_decimal(&mut self, number: u32)
         ensures { Writes K.written K.faults self.old self.new (decimal number) }
@@ -108,6 +127,18 @@ impl<'a, K: Sink> Outbox<'a, K> {
             self.flush();
         }
         self.buffer.append_hex(bytes);
+    }
+
+    // Tells the texts of data characters that have room in an empty buffer.
+    fn write_data(&mut self, chars: &[Char])
+        requires most { length chars.now ≤ 16384 }
+        requires are_data { AreData chars.now }
+        ensures { Writes K.written K.faults self.old self.new (spaced_chars chars.now) }
+    {
+        if 4 * chars.len() > self.buffer.room() {
+            self.flush();
+        }
+        self.buffer.append_data(chars);
     }
 
     // Tells bytes that have no room behind those that wait.

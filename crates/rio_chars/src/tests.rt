@@ -94,6 +94,30 @@ fn characters_are_spelled_and_read_back(rt: HostRuntime) {
 }
 
 #[test]
+fn characters_are_told_behind_spaces(rt: HostRuntime) -> Result<(), Fail> {
+    let alloc = rt.alloc();
+    let chars = [
+        Char::Special(0x1c),
+        Char::Data(0x80),
+        Char::Data(0xff),
+        Char::Invalid,
+        Char::Data(0x0f),
+    ];
+    let Ok(mut sink) = MemSink::new(alloc, 64, 7, Vec::new(alloc)) else {
+        panic!(rt; "no memory");
+    };
+    let Ok(mut buffer) = TextBuffer::new(alloc) else {
+        panic!(rt; "no memory");
+    };
+    let mut outbox = Outbox::new(&mut buffer, &mut sink);
+    outbox.write_chars(&chars);
+    outbox.flush();
+    assert!(rt; !outbox.failed());
+    assert_eq!(rt; sink.written(), b" k1c d80 dff inv d0f".as_slice());
+    Ok(())
+}
+
+#[test]
 fn digits_are_read_two_a_byte(rt: HostRuntime) -> Result<(), Fail> {
     let alloc = rt.alloc();
     let Some(bytes) = read_hex(alloc, b"00cafe0f")? else {

@@ -1,9 +1,11 @@
 ghost use Rattle.std.specs.Prelude.{◌≡◌, ◌≤◌, ◌+◌, ◌*◌, ◌++◌, [], length, take, IfOk};
+ghost use Rattle.rio_chars.specs.CharText.{spaced_chars, AreData};
 ghost use Rattle.rio_chars.specs.HexText.{hex_of};
 
-use crate::NoMemory;
 use crate::digits::write_hex;
 use crate::memory::zeros;
+use crate::runs::write_data;
+use crate::{Char, NoMemory};
 use std::alloc::Global;
 use std::marker::Model;
 
@@ -78,6 +80,17 @@ impl TextBuffer {
     {
         self.bytes[self.len..self.len + 8].copy_from_slice(text);
         self.len += count;
+    }
+
+    // Lets the texts of data characters wait that have room, each behind a space.
+    pub(crate) fn append_data(&mut self, chars: &[Char])
+        requires room { length self.old + 4 * length chars.now ≤ 65536 }
+        requires are_data { AreData chars.now }
+        ensures { self.new ≡ self.old ++ spaced_chars chars.now }
+    {
+        let end = self.len + 4 * chars.len();
+        write_data(&mut self.bytes[self.len..end], chars);
+        self.len = end;
     }
 
     // Lets the digits of bytes wait that have room.
