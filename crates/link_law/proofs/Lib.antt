@@ -1,0 +1,6 @@
+pub mod Walking
+pub mod Flowing
+pub mod Turning
+pub mod Machine
+pub mod Noting
+pub mod Delivering

@@ -1,0 +1,12 @@
+use Rattle.std.proofs.Common.{List, ap, ◌∙◌}
+use Rattle.rio_symbols.specs.Fields.{Fields}
+use Rattle.link_wires.specs.Wires.{answers}
+use Rattle.link_law.proofs.deliveries.carry.Goals as goal
+
+pub returns-clause-told : goal.returns-clause-told
+returns-clause-told c = record {
+  got_is = c.in_ok-delivery.ensures.got;
+  moves_are = c.in_ok-delivery.ensures.moves;
+  answers_are = c.in_ok-answers.ensures.sent ∙ ap (λ (replies : List Fields). (answers replies).chars) (c.as_slice.ensures.value ∙ c.in_ok-delivery.ensures.replies);
+  found_is = c.in_ok-delivery.ensures.undetected;
+}

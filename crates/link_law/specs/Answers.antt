@@ -1,0 +1,51 @@
+-- What each call of a link answers.
+use Rattle.std.specs.Prelude.{Bool, true, false, ℕ, Option, Some, None, Result, Ok, Err, if◌then◌else◌}
+use Rattle.link_model.specs.declared.event.Event.{Event}
+use Rattle.link_watch.specs.Sides.{other_side}
+use Rattle.link_watch.specs.declared.side.Side.{Side}
+use Rattle.link_watch.specs.declared.watch.NoteEnd.{NoteEnd}
+use Rattle.link_watch.specs.declared.watch.NoteEnd.TheVariants as NoteEnds
+use Rattle.link_wires.specs.Deliveries.{Delivered, Through, Undetected as Unsent}
+use Rattle.link_wires.specs.declared.edits.Edited.{Edited}
+use Rattle.link_wires.specs.declared.edits.Edited.TheVariants.{Done, Short}
+use Rattle.link_law.specs.Calls.{has_chars, delivery_from}
+use Rattle.link_law.specs.States.{LinkState}
+use Rattle.link_law.specs.declared.answers.Fired.{Fired}
+use Rattle.link_law.specs.declared.answers.Fired.TheVariants as Fires
+use Rattle.link_law.specs.declared.answers.LinkEnd.{LinkEnd}
+use Rattle.link_law.specs.declared.answers.LinkEnd.TheVariants.{Undetected, Failed, NoMemory}
+
+-- of a time-out, by whether nothing stands on either wire
+abbrev pub fired : Bool → Fired
+fired true = Fires.Done
+fired false = Fires.Early
+
+-- of a delivery to the port at this end
+abbrev pub taken_by : Side → Delivered → Result Edited LinkEnd
+taken_by to (Through flow) = Ok Done
+taken_by to (Unsent told e) = Err (Undetected to e)
+
+-- of a delivery from this end, unless memory or the watch ended it
+abbrev pub delivery_answer : Side → ℕ → LinkState → Result Edited LinkEnd
+delivery_answer from count s = if has_chars from count s then taken_by (other_side from) (delivery_from from count s) else Ok Short
+
+-- memory or the watch ended a call, or a fact holds
+abbrev pub UnlessGivenUp : {T : Type 0} → Result T LinkEnd → Type 0 → Type 0
+UnlessGivenUp (Ok x) P = P
+UnlessGivenUp (Err (Undetected side e)) P = P
+UnlessGivenUp (Err Failed) P = Unit {0}
+UnlessGivenUp (Err NoMemory) P = Unit {0}
+
+-- where memory or the watch ended a call, a fact holds
+abbrev pub OnGivenUp : {T : Type 0} → Result T LinkEnd → Type 0 → Type 0
+OnGivenUp (Ok x) P = Unit {0}
+OnGivenUp (Err (Undetected side e)) P = Unit {0}
+OnGivenUp (Err Failed) P = P
+OnGivenUp (Err NoMemory) P = P
+
+-- of a delivery, by whether its notes were taken in, and by the event that was not sent
+abbrev pub end_of : Result (Unit {0}) NoteEnd → Side → Option Event → Result Edited LinkEnd
+end_of (Ok done) to None = Ok Done
+end_of (Ok done) to (Some e) = Err (Undetected to e)
+end_of (Err NoteEnds.Failed) to found = Err Failed
+end_of (Err NoteEnds.NoMemory) to found = Err NoMemory

@@ -1,0 +1,8 @@
+pub mod States
+pub mod Calls
+pub mod Sound
+pub mod Queues
+pub mod Layer
+pub mod Runs
+pub mod Answers
+pub mod Carried
