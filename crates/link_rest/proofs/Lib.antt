@@ -1,0 +1,14 @@
+pub mod SaidLaws
+pub mod TableLaws
+pub mod AnswerLaws
+pub mod Signals
+pub mod Packets
+pub mod Lines
+pub mod Drains
+pub mod Recovery
+pub mod Sending
+pub mod Settled
+pub mod Counts
+pub mod DrainCounts
+pub mod Rounds
+pub mod Ends

@@ -1,0 +1,53 @@
+-- Each round of the last step is a packet held and freed, or the last.
+use Rattle.std.proofs.Common.{◌≡◌, inl, inr, ℕ, Bool, true, false, List, length, ap, arith}
+use Rattle.link_buffers.specs.Queues.{popped, packet_count}
+use Rattle.link_buffers.proofs.QueueLemmas.{packet_count-popped}
+use Rattle.link_buffers.proofs.PriorityLaws.{highest_below-some}
+use Rattle.link_port.specs.Ports.{PortState}
+use Rattle.link_watch.specs.declared.side.Side.{Side}
+use Rattle.link_watch.specs.declared.side.Side.TheVariants.{A, B}
+use Rattle.link_law.specs.States.{LinkState, from_end}
+use Rattle.link_law.specs.Sound.{IsSoundLink}
+use Rattle.link_rest.specs.Acts.{Act, At, goes, OnState}
+use Rattle.link_rest.specs.Settling.{is_retry_stopped, waits, of_end, TakesTurn}
+use Rattle.link_rest.specs.Rest.{IsBlocked, IsQuiet, HasPassed, IsRound}
+use Rattle.link_rest.proofs.Drains.{on_state}
+use Rattle.link_rest.proofs.Recovery.{end_sound}
+use Rattle.link_rest.proofs.Sending.{Round, Quiet, AfterRound, round_goes}
+
+pub quiet_at : (near : Side) (s : LinkState) → IsSoundLink s → IsQuiet s → Quiet near s
+quiet_at A s l q = record { sound = l; none = (q.wire_a, q.wire_b); out = q.a_to_b; into = q.b_to_a }
+quiet_at B s l q = record { sound = l; none = (q.wire_a, q.wire_b); out = q.b_to_a; into = q.a_to_b }
+
+passed : (t u : LinkState) (ack : ℕ) → length t.a.queued ≡ 4 → Round true ack t.a t.b u.a u.b → HasPassed t u
+passed t u ack four r =
+    let found = highest_below-some 4 r.prio t.a.queued r.highest_is in
+    let one = packet_count-popped t.a.queued r.prio (omega arith) found.1 in
+    let freed : u.a.queued ≡ popped t.a.queued r.prio = ap (λ (p : PortState). p.queued) r.a in
+    let same = ap packet_count freed in
+    record {
+      prio = r.prio;
+      packet = r.packet;
+      highest_is = r.highest_is;
+      first = r.first;
+      room = r.has;
+      held = ap (λ (q : PortState). q.received) r.b;
+      freed = freed;
+      less = omega arith;
+    }
+
+blocked : (t u : LinkState) (ack : ℕ) → Round false ack t.a t.b u.a u.b → IsBlocked t.a.queued t.b.received
+blocked t u ack r = record { prio = r.prio; packet = r.packet; highest_is = r.highest_is; first = r.first; full = r.has }
+
+by_room : (t u : LinkState) (room : Bool) (ack : ℕ) → length t.a.queued ≡ 4 → Round room ack t.a t.b u.a u.b → IsRound t u
+by_room t u true ack four r = inl (passed t u ack four r, ap (λ (p : PortState). is_retry_stopped p.output) r.a)
+by_room t u false ack four r = inr (blocked t u ack r, ap (λ (p : PortState). is_retry_stopped p.output) r.a)
+
+pub after_round : (near : Side) (s m : LinkState) → IsSoundLink s → AfterRound near s m → IsRound (from_end near s) (from_end near m)
+after_round near s m l h = by_room (from_end near s) (from_end near m) h.room h.ack (end_sound near s l).port_a.sends.four h.round
+
+-- A round, from a link at rest on which a packet waits.
+pub round_is : (near : Side) (s : LinkState) (all : List Act) → IsSoundLink s → IsQuiet s → of_end near (λ link. waits link.a) (At s) ≡ true → TakesTurn near (At s) all
+    → OnState (λ m. IsSoundLink m × IsRound (from_end near s) (from_end near m)) (goes (At s) all)
+round_is near s all l quiet some turn =
+    on_state (goes (At s) all) (λ m x. (x.sound, after_round near s m l x)) (round_goes near s all (quiet_at near s l quiet) some turn)

@@ -1,0 +1,63 @@
+-- What is done on a link, one thing after another.
+use Rattle.std.specs.Prelude.{ℕ, Bool, false, if◌then◌else◌, List, [], ◌∷◌, ◌++◌}
+use Rattle.link_model.specs.declared.event.Event.{Event}
+use Rattle.link_watch.specs.Sides.{other_side}
+use Rattle.link_watch.specs.declared.note.Note.{Note}
+use Rattle.link_watch.specs.declared.side.Side.{Side}
+use Rattle.link_wires.specs.Deliveries.{Delivered, Through, Undetected}
+use Rattle.link_law.specs.States.{LinkState}
+use Rattle.link_law.specs.Calls.{pumped, pump_notes, has_chars, delivery_from, delivered_from, delivery_notes, timed_out_at, time_out_notes}
+
+-- turns of a port; a delivery of characters from a port's wire; a time-out of a port
+pub data Act : Type 0 where
+  Pump : (from : Side) (turns : ℕ) → Act
+  Deliver : (from : Side) (count : ℕ) → Act
+  Fire : (side : Side) → Act
+
+-- How far a link has come: to a state, or to an event that a port acted on and that was not sent.
+-- Nothing is done after such an event.
+pub data Reached : Type 0 where
+  At : LinkState → Reached
+  Found : Side → Event → Reached
+
+-- by what became of a delivery to a port
+abbrev pub reached_by : Side → LinkState → Delivered → Reached
+reached_by to next (Through flow) = At next
+reached_by to next (Undetected told e) = Found to e
+
+-- after one thing
+abbrev pub after : Act → LinkState → Reached
+after (Pump from turns) link = At (pumped from turns link)
+after (Deliver from count) link =
+    if has_chars from count link
+    then reached_by (other_side from) (delivered_from from count link) (delivery_from from count link)
+    else At link
+after (Fire side) link = At (timed_out_at side link)
+
+-- after a list of things
+unfoldable pub goes : Reached → List Act → Reached
+goes reached [] = reached
+goes (At link) (act ∷ acts) = goes (after act link) acts
+goes (Found side e) (act ∷ acts) = Found side e
+
+-- what one thing is noted as
+abbrev pub act_notes : Act → LinkState → List Note
+act_notes (Pump from turns) link = pump_notes from turns link
+act_notes (Deliver from count) link = delivery_notes from count link
+act_notes (Fire side) link = time_out_notes side link
+
+-- the notes of a list of things
+unfoldable pub acts_notes : Reached → List Act → List Note
+acts_notes reached [] = []
+acts_notes (At link) (act ∷ acts) = act_notes act link ++ acts_notes (after act link) acts
+acts_notes (Found side e) (act ∷ acts) = []
+
+-- whether a test holds of the state that is reached
+abbrev pub holds : (LinkState → Bool) → Reached → Bool
+holds test (At link) = test link
+holds test (Found side e) = false
+
+-- what is true of the state that is reached, if every event was sent
+abbrev pub OnState : (LinkState → Type 0) → Reached → Type 0
+OnState P (At link) = P link
+OnState P (Found side e) = Unit {0}

@@ -1,0 +1,62 @@
+//! What holds of settling. The calls do nothing: their clauses are the laws.
+
+ghost use Rattle.std.specs.Prelude.{◌≡◌, ℕ, ◌<◌, ◌≤◌, true, List, [], length};
+ghost use Rattle.rio_chars.specs.declared.chars.Char.{Char};
+ghost use Rattle.link_model.specs.declared.reading_kinds.Pending.{Pending};
+ghost use Rattle.link_port.specs.Ports.{PortState};
+ghost use Rattle.link_port.specs.States.{expected_of};
+ghost use Rattle.link_watch.specs.declared.side.Side.{Side};
+ghost use Rattle.link_law.specs.Sound.{IsSoundLink};
+ghost use Rattle.link_law.specs.States.{LinkState, from_end};
+ghost use Rattle.link_rest.specs.Acts.{Act, Reached, At, goes, OnState};
+ghost use Rattle.link_rest.specs.Counts.{fires};
+ghost use Rattle.link_rest.specs.Led.{answered, chars_of};
+ghost use Rattle.link_rest.specs.Rest.{IsQuiet, IsSettled, IsRound};
+ghost use Rattle.link_rest.specs.Settling.{waits, of_end, Drains, TakesTurn, Settles};
+
+/// What a port answers, whatever came to it, has no answer at a port that has no symbol in progress.
+pub fn answers_have_no_answer()
+    ensures { (p q : PortState) (chars : List Char)
+        → expected_of p.input < 32 → q.place.pending ≡ Pending.Nothing
+        → answered q (chars_of (answered p chars)) ≡ [] }
+{}
+
+/// A drain of a sound link is at most five deliveries, whatever stood on its wires and however the
+/// framers stood. It ends: from every sound link there is one. After it the link is sound, and both
+/// wires are empty.
+pub fn drains_end()
+    ensures five { (s : LinkState) (all : List Act) → IsSoundLink s
+        → Drains (At s) all → length all ≤ 5 }
+    ensures exists { (s : LinkState) → IsSoundLink s → (all : List Act) × Drains (At s) all }
+    ensures empty { (s : LinkState) (all : List Act) → IsSoundLink s → Drains (At s) all
+        → OnState (λ m. IsSoundLink m × (m.wire_a.chars ≡ []) × (m.wire_b.chars ≡ []))
+        (goes (At s) all) }
+{}
+
+/// Settling fires at most one time-out of each side.
+pub fn each_side_fires_once()
+    ensures { (side : Side) (from : Reached) (all : List Act)
+        → Settles from all → fires side all ≤ 1 }
+{}
+
+/// If both directions are at rest and a packet waits at a side, a turn with what comes of it passes
+/// the first packet of the highest priority that has one; or that packet has no room, and the port
+/// is to restart.
+pub fn rounds_pass_packets()
+    ensures { (near : Side) (s : LinkState) (all : List Act) → IsSoundLink s → IsQuiet s
+        → of_end near (λ link. waits link.a) (At s) ≡ true → TakesTurn near (At s) all
+        → OnState (λ m. IsSoundLink m × IsRound (from_end near s) (from_end near m))
+        (goes (At s) all) }
+{}
+
+/// From every sound link there is a way to settle it.
+pub fn settling_ends()
+    ensures { (s : LinkState) → IsSoundLink s → (all : List Act) × Settles (At s) all }
+{}
+
+/// Settling ends at rest, from every sound state, whatever stood on the wires and however the
+/// framers stood, if every event that was acted on was sent.
+pub fn settling_ends_at_rest()
+    ensures { (s : LinkState) (all : List Act) → IsSoundLink s → Settles (At s) all
+        → OnState (λ m. IsSoundLink m × IsSettled m) (goes (At s) all) }
+{}
