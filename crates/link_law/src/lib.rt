@@ -24,6 +24,12 @@ mod answers;
 mod deliveries;
 mod laws;
 mod link;
+#[cfg(test)]
+mod run_tests;
+#[cfg(test)]
+mod tests;
+#[cfg(test)]
+mod trace_tests;
 
 pub use answers::{Fired, LinkEnd};
 pub use laws::{
