@@ -105,7 +105,7 @@ impl Registers {
     fn status_register(&self, offset: u32) -> Option<Register>
         ensures { result
             ≡ option_map (λ n. Register.Fixed (status_of self.now n))
-                (status_port self.now.ports offset) }
+            (status_port self.now.ports offset) }
     {
         let port = status_port(self.ports, offset)?;
         let linked = self.linked >> port & 1 == 1;
