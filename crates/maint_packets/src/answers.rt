@@ -1,5 +1,6 @@
 //! How a device answers a request.
 ghost use Rattle.std.specs.Prelude.{◌≡◌, ◌<◌, ◌+◌, min};
+ghost use Rattle.maint_registers.specs.Devices.{IsSameDevice};
 ghost use Rattle.maint_packets.specs.Responses.{IsFormed};
 ghost use Rattle.maint_packets.specs.Answers.{answered, answered_to, back};
 
@@ -14,6 +15,7 @@ use maint_registers::Registers;
 pub fn answer(registers: &mut Registers, request: &Request, port: u8) -> Response
     ensures response { result ≡ (answered registers.old request.now port).response }
     ensures registers { registers.new ≡ (answered registers.old request.now port).device }
+    ensures device { IsSameDevice registers.old registers.new }
     ensures form { IsFormed result.write result.status result.words }
     ensures prio { result.prio < 4 }
 {

@@ -24,6 +24,12 @@ pub record IsDevice (device : Device) : Type 0 where
   pub destinations : length device.routes ≡ 256
   pub selected : device.select < 256
 
+-- It is the same device, whatever was written to it: of the same kind, with the same ports and the same links.
+pub record IsSameDevice (before after : Device) : Type 0 where
+  pub kind : after.kind ≡ before.kind
+  pub ports : after.ports ≡ before.ports
+  pub linked : after.linked ≡ before.linked
+
 abbrev pub is_switch : Device → Bool
 is_switch device = is_kind device.kind
   where

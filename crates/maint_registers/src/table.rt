@@ -1,5 +1,6 @@
 //! The table of registers: what stands at an offset, and how it is read and written.
 ghost use Rattle.std.specs.Prelude.{◌≡◌, ◌<◌, ◌↔◌, IsTrue, IsSome, IfSome, unwrap_or, option_map};
+ghost use Rattle.maint_registers.specs.Devices.{IsSameDevice};
 ghost use Rattle.maint_registers.specs.Table.{table, in_rows, status_port, status_of, register_at};
 ghost use Rattle.maint_registers.specs.Access.{value_of, value_at, locked, written_to, written_at};
 
@@ -49,6 +50,7 @@ impl Registers {
     pub fn write(&mut self, offset: u32, value: u32) -> bool
         ensures exact { IsTrue result ↔ IsSome (written_at self.old offset value) }
         ensures becomes { self.new ≡ unwrap_or (written_at self.old offset value) self.old }
+        ensures device { IsSameDevice self.old self.new }
     {
         match self.register_at(offset) {
             Some(register) => self.write_to(register, value),
@@ -76,6 +78,7 @@ impl Registers {
     fn write_to(&mut self, register: Register, value: u32) -> bool
         ensures exact { IsTrue result ↔ IsSome (written_to self.old value register) }
         ensures becomes { self.new ≡ unwrap_or (written_to self.old value register) self.old }
+        ensures device { IsSameDevice self.old self.new }
     {
         match register {
             Register::Fixed(_) | Register::PortInformation => return false,

@@ -4,7 +4,7 @@ ghost use Rattle.std.specs.Option.{option_and_then};
 ghost use Rattle.maint_packets.specs.Requests.{request_of};
 ghost use Rattle.maint_packets.specs.Responses.{response_bytes};
 ghost use Rattle.maint_packets.specs.Answers.{answered};
-ghost use Rattle.maint_registers.specs.Devices.{is_switch};
+ghost use Rattle.maint_registers.specs.Devices.{is_switch, IsSameDevice};
 ghost use Rattle.link_port.specs.Faces.{AreLists};
 ghost use Rattle.switch_core.specs.Faces.{face_of, head_of, has_room, without_head, with_packet};
 ghost use Rattle.switch_core.specs.EndpointSteps.{sent_by, after_sent, first_held, collected, face_after, device_after};
@@ -67,6 +67,7 @@ pub fn endpoint_collect<P: PortFace>(port: &mut P, registers: &mut Registers) ->
     ensures face { face_of P.received P.queued port.new
         ≡ face_after (face_of P.received P.queued port.old) result }
     ensures registers { registers.new ≡ device_after registers.old result }
+    ensures device { IsSameDevice registers.old registers.new }
     ensures alike { P.alike port.old port.new }
 {
     let Some(prio) = highest_held(port) else {
@@ -155,6 +156,7 @@ fn answer_first<P: PortFace>(
         ≡ with_packet (without_head (face_of P.received P.queued port.old) prio)
         (response_bytes (answered registers.old request.now 0).response) }
     ensures registers { registers.new ≡ (answered registers.old request.now 0).device }
+    ensures device { IsSameDevice registers.old registers.new }
     ensures alike { P.alike port.old port.new }
 {
     let Some(packet) = port.in_pop(prio) else {

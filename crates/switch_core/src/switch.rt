@@ -2,7 +2,7 @@
 ghost use Rattle.std.specs.Prelude.{◌≡◌, ◌<◌, ◌≤◌, length, Some, None, IsTrue, IsSome, IfSome, is_some};
 ghost use Rattle.std.specs.Option.{option_and_then};
 ghost use Rattle.rio_packets.specs.Fields.{prio_of};
-ghost use Rattle.maint_registers.specs.Devices.{is_switch};
+ghost use Rattle.maint_registers.specs.Devices.{is_switch, IsSameDevice};
 ghost use Rattle.link_port.specs.Faces.{AreLists};
 ghost use Rattle.switch_core.specs.Faces.{faces_of, face_at, AreAlike};
 ghost use Rattle.switch_core.specs.Order.{least_first};
@@ -65,6 +65,7 @@ pub fn switch_step<P: PortFace>(ports: &mut [P], registers: &mut Registers) -> S
     ensures faces { faces_of P.received P.queued ports.new
         ≡ faces_after (faces_of P.received P.queued ports.old) result }
     ensures registers { registers.new ≡ device_after registers.old result }
+    ensures device { IsSameDevice registers.old registers.new }
     ensures alike { AreAlike P.alike ports.old ports.new }
 {
     match first_place(ports, registers) {
@@ -149,6 +150,7 @@ fn step_from<P: PortFace>(ports: &mut [P], registers: &mut Registers, place: Pla
     ensures faces { faces_of P.received P.queued ports.new
         ≡ faces_after (faces_of P.received P.queued ports.old) result }
     ensures registers { registers.new ≡ device_after registers.old result }
+    ensures device { IsSameDevice registers.old registers.new }
     ensures alike { AreAlike P.alike ports.old ports.new }
 {
     let from = place.port;

@@ -248,3 +248,21 @@ fn an_endpoint_answers_a_request_if_its_response_has_room(rt: HostRuntime) {
     };
     assert_eq!(rt; endpoint_collect(&mut endpoint, &mut registers), answered);
 }
+
+#[test]
+fn a_switch_answers_if_its_response_has_room(rt: HostRuntime) {
+    let alloc = rt.alloc();
+    let mut registers = Registers::switch(2, 0b01);
+    let mut ports = [port(&rt, alloc), port(&rt, alloc)];
+    receive(&rt, alloc, &mut ports[0], &READ_MOVED);
+    assert_eq!(rt; fill(&rt, &mut ports[0], &PRIORITY_1, 17), 16);
+    assert_eq!(rt; step(&mut ports, &mut registers), Step::Nothing);
+    let mut far = port(&rt, alloc);
+    pass(&mut ports[0], &mut far);
+    let answered = Step::Answered {
+        port: 0,
+        request: packet(&rt, &READ_MOVED),
+        response: packet(&rt, &RESPONSE),
+    };
+    assert_eq!(rt; step(&mut ports, &mut registers), answered);
+}
