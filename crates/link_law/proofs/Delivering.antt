@@ -6,8 +6,8 @@ use Rattle.link_watch.specs.declared.side.Side.{Side}
 use Rattle.link_watch.specs.declared.watch.NoteEnd.{NoteEnd}
 use Rattle.link_watch.specs.declared.watch.NoteEnd.TheVariants as NoteEnds
 use Rattle.link_law.specs.Answers.{end_of}
-use Rattle.link_law.specs.Calls.{first_takes, has_chars, delivered_from}
-use Rattle.link_law.specs.States.{LinkState, at_end}
+use Rattle.link_machine.specs.Calls.{first_takes, has_chars, delivered_from}
+use Rattle.link_machine.specs.States.{LinkState, at_end}
 
 pub link_is : (from : Side) (count : ℕ) (s : LinkState) → has_chars from count s ≡ true → at_end (other_side from) (first_takes count) s ≡ delivered_from from count s
 link_is from count s has = ap (λ b. if b then at_end (other_side from) (first_takes count) s else s) (sym has)

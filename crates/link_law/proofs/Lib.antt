@@ -1,6 +1,8 @@
-pub mod Walking
-pub mod Flowing
-pub mod Turning
-pub mod Machine
 pub mod Noting
 pub mod Delivering
+pub mod DoesLaws
+pub mod DeliverLaws
+pub mod DrainLaws
+pub mod PortTests
+pub mod SendLaws
+pub mod SettleLaws

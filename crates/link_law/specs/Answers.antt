@@ -8,8 +8,8 @@ use Rattle.link_watch.specs.declared.watch.NoteEnd.TheVariants as NoteEnds
 use Rattle.link_wires.specs.Deliveries.{Delivered, Through, Undetected as Unsent}
 use Rattle.link_wires.specs.declared.edits.Edited.{Edited}
 use Rattle.link_wires.specs.declared.edits.Edited.TheVariants.{Done, Short}
-use Rattle.link_law.specs.Calls.{has_chars, delivery_from}
-use Rattle.link_law.specs.States.{LinkState}
+use Rattle.link_machine.specs.Calls.{has_chars, delivery_from}
+use Rattle.link_machine.specs.States.{LinkState}
 use Rattle.link_law.specs.declared.answers.Fired.{Fired}
 use Rattle.link_law.specs.declared.answers.Fired.TheVariants as Fires
 use Rattle.link_law.specs.declared.answers.LinkEnd.{LinkEnd}

@@ -1,8 +1,3 @@
-pub mod States
-pub mod Calls
-pub mod Sound
-pub mod Queues
-pub mod Layer
-pub mod Runs
 pub mod Answers
 pub mod Carried
+pub mod Does

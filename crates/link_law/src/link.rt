@@ -5,9 +5,9 @@ ghost use Rattle.link_port.specs.Ports.{PortState};
 ghost use Rattle.link_watch.specs.Stops.{Stopped};
 ghost use Rattle.link_wires.specs.Wires.{bursts, fits, answered};
 ghost use Rattle.link_law.specs.Answers.{fired};
-ghost use Rattle.link_law.specs.Calls.{sent_notes, pumped, pump_notes, edited_from, is_silent, timed_out_at, time_out_notes};
-ghost use Rattle.link_law.specs.Sound.{IsSoundLink};
-ghost use Rattle.link_law.specs.States.{link, empty_wires, wire_at, from_end};
+ghost use Rattle.link_machine.specs.Calls.{sent_notes, pumped, pump_notes, edited_from, is_silent, timed_out_at, time_out_notes};
+ghost use Rattle.link_machine.specs.Sound.{IsSoundLink};
+ghost use Rattle.link_machine.specs.States.{link, empty_wires, wire_at, from_end};
 
 use crate::answers::Fired;
 use link_port::Port;
@@ -25,7 +25,7 @@ pub struct Link {
 }
 
 impl Model for Link {
-    ghost use Rattle.link_law.specs.States.{Wires};
+    ghost use Rattle.link_machine.specs.States.{Wires};
 
     ghost Value = { Wires };
 

@@ -3,8 +3,8 @@ use Rattle.std.proofs.Common.{◌≡◌, inl, inr, ℕ, zero, suc, ◌+◌, ◌-
 use Rattle.std.proofs.lemmas.Bool.{or_parts, cases_lt}
 use Rattle.link_watch.specs.declared.side.Side.{Side}
 use Rattle.link_watch.specs.declared.side.Side.TheVariants.{A, B}
-use Rattle.link_law.specs.States.{LinkState}
-use Rattle.link_law.specs.Sound.{IsSoundLink}
+use Rattle.link_machine.specs.States.{LinkState}
+use Rattle.link_machine.specs.Sound.{IsSoundLink}
 use Rattle.link_rest.specs.Schedules.{NextOf}
 use Rattle.link_rest.specs.Schedules.LoopOf.{Rests, GoesOn, Leaves}
 use Rattle.link_rest.specs.Acts.{Act, Reached, At, Found, goes}

@@ -12,9 +12,9 @@ use Rattle.link_port.specs.States.{expected_of}
 use Rattle.link_watch.specs.Sides.{other_side}
 use Rattle.link_watch.specs.declared.side.Side.{Side}
 use Rattle.link_watch.specs.declared.side.Side.TheVariants.{A, B}
-use Rattle.link_law.specs.States.{LinkState, turned_round, from_end}
-use Rattle.link_law.specs.Calls.{has_none}
-use Rattle.link_law.specs.Sound.{IsSoundLink}
+use Rattle.link_machine.specs.States.{LinkState, turned_round, from_end}
+use Rattle.link_machine.specs.Calls.{has_none}
+use Rattle.link_machine.specs.Sound.{IsSoundLink}
 use Rattle.link_model.specs.Said.{said}
 use Rattle.link_rest.specs.Led.{fed, answered, chars_of, AreAnswers}
 use Rattle.link_rest.specs.Schedules.{NextOf}

@@ -6,10 +6,10 @@ use Rattle.link_watch.specs.Sides.{other_side}
 use Rattle.link_watch.specs.declared.side.Side.{Side}
 use Rattle.link_watch.specs.declared.side.Side.TheVariants.{A, B}
 use Rattle.link_wires.specs.Deliveries.{Delivered, Through, Undetected}
-use Rattle.link_law.specs.States.{LinkState, from_end}
-use Rattle.link_law.specs.Calls.{pumped, has_chars, delivery_from, delivered_from}
-use Rattle.link_law.specs.Sound.{IsSoundLink}
-use Rattle.link_law.proofs.Machine.{pump_keeps, delivery_keeps, fired_keeps}
+use Rattle.link_machine.specs.States.{LinkState, from_end}
+use Rattle.link_machine.specs.Calls.{pumped, has_chars, delivery_from, delivered_from}
+use Rattle.link_machine.specs.Sound.{IsSoundLink}
+use Rattle.link_machine.proofs.Machine.{pump_keeps, delivery_keeps, fired_keeps}
 use Rattle.link_rest.specs.Schedules.{NextOf, WhereOf, Is}
 use Rattle.link_rest.specs.Schedules.LoopOf.{Rests, GoesOn, Leaves}
 use Rattle.link_rest.specs.Acts.{Act, Pump, Deliver, Fire, Reached, At, Found, reached_by, after, goes, OnState}

@@ -14,11 +14,11 @@ use Rattle.link_watch.specs.declared.side.Side.{Side}
 use Rattle.link_watch.specs.declared.side.Side.TheVariants.{A, B}
 use Rattle.link_wires.specs.Kept.{behind}
 use Rattle.link_wires.specs.Deliveries.{Flow, Delivered, Through, Undetected, begun, done, met, goes_on, come, ended, delivered}
-use Rattle.link_law.specs.States.{LinkState, turned_round, from_end}
-use Rattle.link_law.specs.Calls.{delivery, after_delivery, first_takes, has_none}
-use Rattle.link_law.specs.Sound.{IsSoundLink}
-use Rattle.link_law.specs.Queues.{queues_between}
-use Rattle.link_law.proofs.Flowing.{AreFlowing, delivered_flowing}
+use Rattle.link_machine.specs.States.{LinkState, turned_round, from_end}
+use Rattle.link_machine.specs.Calls.{delivery, after_delivery, first_takes, has_none}
+use Rattle.link_machine.specs.Sound.{IsSoundLink}
+use Rattle.link_machine.specs.Queues.{queues_between}
+use Rattle.link_machine.proofs.Flowing.{AreFlowing, delivered_flowing}
 use Rattle.link_model.specs.Said.{said}
 use Rattle.link_rest.specs.Led.{led, fed, answered, chars_of}
 use Rattle.link_rest.specs.Acts.{Act, Deliver, Reached, At, reached_by, after, goes, OnState}

@@ -22,10 +22,10 @@ use Rattle.link_sound.specs.Meanings.{forward, backward}
 use Rattle.link_watch.specs.declared.side.Side.{Side}
 use Rattle.link_watch.specs.declared.side.Side.TheVariants.{A, B}
 use Rattle.link_wires.specs.Wires.{turned, bursts}
-use Rattle.link_law.specs.States.{LinkState, turned_round, at_end, from_end}
-use Rattle.link_law.specs.Calls.{pumped, is_silent, has_none, first_fires, timed_out_at}
-use Rattle.link_law.specs.Sound.{IsSoundLink}
-use Rattle.link_law.proofs.Machine.{pump_keeps, fired_keeps, none_failed}
+use Rattle.link_machine.specs.States.{LinkState, turned_round, at_end, from_end}
+use Rattle.link_machine.specs.Calls.{pumped, is_silent, has_none, first_fires, timed_out_at}
+use Rattle.link_machine.specs.Sound.{IsSoundLink}
+use Rattle.link_machine.proofs.Machine.{pump_keeps, fired_keeps, none_failed}
 use Rattle.link_rest.specs.Led.{led, fed, answered, chars_of, controls, AreAnswers}
 use Rattle.link_rest.specs.Schedules.{NextOf}
 use Rattle.link_rest.specs.Acts.{Act, Pump, Fire, Reached, At, Found, goes, OnState}

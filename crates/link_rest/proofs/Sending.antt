@@ -20,8 +20,8 @@ use Rattle.link_port.specs.Ports.{PortState}
 use Rattle.link_port.specs.States.{prios_of, expected_of}
 use Rattle.link_port.specs.Turns.{turn_sends, turns_to, waiting_in}
 use Rattle.link_watch.specs.declared.side.Side.{Side}
-use Rattle.link_law.specs.States.{LinkState, from_end}
-use Rattle.link_law.specs.Sound.{IsSoundLink}
+use Rattle.link_machine.specs.States.{LinkState, from_end}
+use Rattle.link_machine.specs.Sound.{IsSoundLink}
 use Rattle.link_rest.specs.Led.{fed, answered, chars_of, AreAnswers}
 use Rattle.link_rest.specs.Schedules.{LoopOf}
 use Rattle.link_rest.specs.Schedules.LoopOf.{Rests, GoesOn, Leaves}

@@ -11,8 +11,8 @@ use Rattle.link_port.specs.States.{prios_of, expected_of}
 use Rattle.link_sound.specs.Lent.{lent}
 use Rattle.link_sound.specs.Meanings.{oldest_of}
 use Rattle.link_watch.specs.declared.side.Side.TheVariants.{A, B}
-use Rattle.link_law.specs.States.{LinkState}
-use Rattle.link_law.specs.Sound.{IsSoundLink}
+use Rattle.link_machine.specs.States.{LinkState}
+use Rattle.link_machine.specs.Sound.{IsSoundLink}
 use Rattle.link_rest.specs.Schedules.{NextOf}
 use Rattle.link_rest.specs.Acts.{Act, Reached, At, Found, goes, OnState}
 use Rattle.link_rest.specs.Settling.{Drains, Recovers, SendsAll, Settles}

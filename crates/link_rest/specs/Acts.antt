@@ -5,8 +5,8 @@ use Rattle.link_watch.specs.Sides.{other_side}
 use Rattle.link_watch.specs.declared.note.Note.{Note}
 use Rattle.link_watch.specs.declared.side.Side.{Side}
 use Rattle.link_wires.specs.Deliveries.{Delivered, Through, Undetected}
-use Rattle.link_law.specs.States.{LinkState}
-use Rattle.link_law.specs.Calls.{pumped, pump_notes, has_chars, delivery_from, delivered_from, delivery_notes, timed_out_at, time_out_notes}
+use Rattle.link_machine.specs.States.{LinkState}
+use Rattle.link_machine.specs.Calls.{pumped, pump_notes, has_chars, delivery_from, delivered_from, delivery_notes, timed_out_at, time_out_notes}
 
 -- turns of a port; a delivery of characters from a port's wire; a time-out of a port
 pub data Act : Type 0 where

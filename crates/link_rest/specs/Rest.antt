@@ -9,7 +9,7 @@ use Rattle.link_model.specs.Outstanding.{from_ack}
 use Rattle.link_model.specs.Places.{at_rest}
 use Rattle.link_port.specs.Ports.{PortState}
 use Rattle.link_sound.specs.Lent.{lent}
-use Rattle.link_law.specs.States.{LinkState}
+use Rattle.link_machine.specs.States.{LinkState}
 use Rattle.link_rest.specs.Settling.{is_retry_stopped}
 
 -- The sender is OK with nothing outstanding. The receiver is OK with nothing in progress, and expects

@@ -10,8 +10,8 @@ use Rattle.link_port.specs.Ports.{PortState}
 use Rattle.link_port.specs.Turns.{waiting_in}
 use Rattle.link_watch.specs.declared.side.Side.{Side}
 use Rattle.link_watch.specs.declared.side.Side.TheVariants.{A, B}
-use Rattle.link_law.specs.States.{LinkState, from_end}
-use Rattle.link_law.specs.Calls.{has_none}
+use Rattle.link_machine.specs.States.{LinkState, from_end}
+use Rattle.link_machine.specs.Calls.{has_none}
 use Rattle.link_rest.specs.Schedules.{NextOf, WhereOf, Is, LoopOf}
 use Rattle.link_rest.specs.Acts.{Act, Pump, Deliver, Fire, Reached, At, Found, goes, holds}
 

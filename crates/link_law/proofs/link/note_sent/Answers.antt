@@ -5,7 +5,7 @@ use Rattle.link_watch.specs.Stops.{Stopped}
 use Rattle.link_watch.specs.declared.note.Note.{Note}
 use Rattle.link_watch.specs.declared.note.Note.TheVariants.{Sent}
 use Rattle.link_watch.proofs.StopLaws.{stopped_in_one}
-use Rattle.link_law.specs.Calls.{sent_notes}
+use Rattle.link_machine.specs.Calls.{sent_notes}
 use Rattle.link_law.proofs.Noting.{sent_one}
 use Rattle.link_law.proofs.link.note_sent.Goals as goal
 

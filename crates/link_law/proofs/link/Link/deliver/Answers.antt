@@ -1,17 +1,16 @@
-use Rattle.std.proofs.Common.{◌≡◌, ℕ, true, false, List, [], None, take, OnOk, Result, Option, sym, ◌∙◌, subst, if◌then◌else◌}
-use Rattle.link_model.specs.declared.event.Event.{Event}
+use Rattle.std.proofs.Common.{◌≡◌, true, false, [], None, take, OnOk, Result, sym, ◌∙◌, subst, if◌then◌else◌}
 use Rattle.link_watch.specs.Sides.{other_side}
 use Rattle.link_watch.proofs.StopLaws.{stopped_at_once}
 use Rattle.link_wires.specs.Deliveries.{told_of, undetected}
 use Rattle.link_wires.specs.declared.edits.Edited.{Edited}
-use Rattle.link_law.specs.Calls.{has_chars, delivery_from, delivered_from, told_notes, delivery_notes}
-use Rattle.link_law.specs.Queues.{queues_of, steps_of, Walks}
-use Rattle.link_law.specs.Queues.Walks.{Ends}
-use Rattle.link_law.specs.Sound.{IsSoundLink}
-use Rattle.link_law.specs.States.{LinkState, link, from_end}
+use Rattle.link_machine.specs.Calls.{has_chars, delivery_from, delivered_from, told_notes, delivery_notes}
+use Rattle.link_machine.specs.Queues.{queues_of, steps_of, Walks}
+use Rattle.link_machine.specs.Queues.Walks.{Ends}
+use Rattle.link_machine.specs.Sound.{IsSoundLink}
+use Rattle.link_machine.specs.States.{LinkState, link, from_end}
 use Rattle.link_law.specs.declared.answers.LinkEnd.{LinkEnd}
 use Rattle.link_law.proofs.Delivering.{link_is, on_done}
-use Rattle.link_law.proofs.Machine.{delivery_keeps, delivery_walks}
+use Rattle.link_machine.proofs.Machine.{delivery_keeps, delivery_walks}
 use Rattle.link_law.proofs.link.Link.deliver.Goals as goal
 
 pub returns-then-not-has-clause-steps : goal.returns-then-not-has-clause-steps

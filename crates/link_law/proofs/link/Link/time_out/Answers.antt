@@ -1,11 +1,11 @@
-use Rattle.std.proofs.Common.{◌≡◌, true, List, [], ◌∷◌, subst, sym, ◌∙◌, if◌then◌else◌}
+use Rattle.std.proofs.Common.{◌≡◌, true, [], ◌∷◌, subst, sym, ◌∙◌, if◌then◌else◌}
 use Rattle.link_watch.specs.Stops.{Stopped}
 use Rattle.link_watch.specs.declared.note.Note.TheVariants.{Fire}
 use Rattle.link_watch.proofs.StopLaws.{stopped_in_one}
-use Rattle.link_law.specs.Calls.{is_silent}
-use Rattle.link_law.specs.Sound.{IsSoundLink}
-use Rattle.link_law.specs.States.{LinkState, link}
-use Rattle.link_law.proofs.Machine.{fired_keeps}
+use Rattle.link_machine.specs.Calls.{is_silent}
+use Rattle.link_machine.specs.Sound.{IsSoundLink}
+use Rattle.link_machine.specs.States.{LinkState, link}
+use Rattle.link_machine.proofs.Machine.{fired_keeps}
 use Rattle.link_law.proofs.link.Link.time_out.Goals as goal
 
 pub returns-in-Err-clause-stopped : goal.returns-in-Err-clause-stopped

@@ -1,5 +1,0 @@
-use Rattle.link_law.proofs.Machine.{pump_keeps, delivery_keeps, edited_keeps, fired_keeps}
-use Rattle.link_law.proofs.laws.calls_keep_it.Goals as goal
-
-pub returns : goal.returns
-returns c = record { pump = pump_keeps; deliver = delivery_keeps; edit = edited_keeps; time_out = fired_keeps }

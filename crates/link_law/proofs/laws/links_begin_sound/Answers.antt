@@ -1,5 +1,0 @@
-use Rattle.link_law.proofs.Machine.{new_sound}
-use Rattle.link_law.proofs.laws.links_begin_sound.Goals as goal
-
-pub returns : goal.returns
-returns c = new_sound

@@ -1,5 +1,0 @@
-use Rattle.link_law.proofs.Machine.{none_failed}
-use Rattle.link_law.proofs.laws.no_sender_fails.Goals as goal
-
-pub returns : goal.returns
-returns c = none_failed

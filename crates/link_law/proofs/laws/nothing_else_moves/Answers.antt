@@ -1,5 +1,0 @@
-use Rattle.link_law.proofs.Machine.{pump_moves_none, edit_moves_none, fire_moves_none}
-use Rattle.link_law.proofs.laws.nothing_else_moves.Goals as goal
-
-pub returns : goal.returns
-returns c = record { pump = pump_moves_none; edit = edit_moves_none; time_out = fire_moves_none }

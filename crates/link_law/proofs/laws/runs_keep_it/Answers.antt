@@ -1,5 +1,0 @@
-use Rattle.link_law.proofs.Machine.{run_keeps}
-use Rattle.link_law.proofs.laws.runs_keep_it.Goals as goal
-
-pub returns : goal.returns
-returns c = λ s end notes run l. run_keeps run l

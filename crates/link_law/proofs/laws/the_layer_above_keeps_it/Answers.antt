@@ -1,5 +1,0 @@
-use Rattle.link_law.proofs.Machine.{layer_keeps}
-use Rattle.link_law.proofs.laws.the_layer_above_keeps_it.Goals as goal
-
-pub returns : goal.returns
-returns c = layer_keeps

@@ -1,0 +1,39 @@
+use Rattle.std.proofs.Common.{subst, sym, ap, ◌∙◌}
+use Rattle.link_port.specs.Ports.{PortState}
+use Rattle.link_machine.specs.States.{link}
+use Rattle.link_rest.specs.Settling.{TimesOut, may_fire, of_end}
+use Rattle.link_law.specs.Does.{Ends}
+use Rattle.link_law.proofs.DeliverLaws.{Only}
+use Rattle.link_rest.specs.Acts.{Fire}
+use Rattle.link_law.proofs.DoesLaws.{IsWatch, comes_none}
+use Rattle.link_law.proofs.DrainLaws.{fire_comes, fire_ends}
+use Rattle.link_law.proofs.link.Link.fire_if_due.Goals as goal
+
+pub returns-then-not-fires-clause-does : goal.returns-then-not-fires-clause-does
+returns-then-not-fires-clause-does g c =
+    let watch : IsWatch g.W.Watch.grew g.W.Watch.cut = record {
+      none = g.met.W.Watch.grew_none;
+      on = g.met.W.Watch.grew_on;
+      cut_none = g.met.W.Watch.cut_none;
+    } in
+    let s = link c.args.self.now c.args.a.now c.args.b.now in
+    comes_none g.W.Watch.grew g.W.Watch.cut watch (of_end c.args.side (λ link. may_fire
+    link.a.output)) (Only (Fire c.args.side)) s c.args.watch.now (ap (λ (p : PortState). may_fire
+    p.output) (sym (c.near.ensures c.args.self.now)) ∙ sym c.fires.ensures ∙ c.if-not-fires.true)
+
+pub returns-in-Err-clause-does : goal.returns-in-Err-clause-does
+returns-in-Err-clause-does g c =
+    let s = link c.args.self.now c.args.a.now c.args.b.now in
+    subst (λ end. Ends g.W.Watch.grew g.W.Watch.cut (TimesOut c.args.side) s c.args.watch.now end
+    c.time_out.new.watch) (sym c.given_up.ensures) (fire_ends g.W.Watch.grew g.W.Watch.cut
+    c.args.side s c.args.watch.now c.time_out.new.watch c.in-Err.end (ap (λ (p : PortState).
+    may_fire p.output) (sym (c.near.ensures c.args.self.now)) ∙ sym c.fires.ensures ∙
+    c.if-not-fires.false) c.in-Err.ensures.stopped)
+
+pub returns-clause-does : goal.returns-clause-does
+returns-clause-does g c =
+    let s = link c.args.self.now c.args.a.now c.args.b.now in
+    let next = link c.time_out.new.self c.time_out.new.a c.time_out.new.b in
+    fire_comes g.W.Watch.grew c.args.side s next c.args.watch.now c.time_out.new.watch (ap (λ (p :
+    PortState). may_fire p.output) (sym (c.near.ensures c.args.self.now)) ∙ sym c.fires.ensures ∙
+    c.if-not-fires.false) c.in_default.ensures.link c.in_default.ensures.noted

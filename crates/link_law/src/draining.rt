@@ -1,0 +1,148 @@
+//! Drains of a link, and turns with what comes of them.
+ghost use Rattle.std.specs.Prelude.{◌≡◌, not};
+ghost use Rattle.link_port.specs.Ports.{PortState};
+ghost use Rattle.link_watch.specs.declared.side.Side.TheVariants.{A, B};
+ghost use Rattle.link_machine.specs.Sound.{IsSoundLink};
+ghost use Rattle.link_machine.specs.States.{link};
+ghost use Rattle.link_rest.specs.Acts.{At, goes};
+ghost use Rattle.link_rest.specs.Schedules.{NextOf};
+ghost use Rattle.link_rest.specs.Settling.{Empties, Drains, TakesTurn, is_busy};
+ghost use Rattle.link_law.specs.Does.{Did, Counted, Pumps, end_of};
+
+use crate::answers::LinkEnd;
+use crate::link::Link;
+use link_port::Port;
+use link_watch::{NoteEnd, Side, Watch};
+use std::alloc::Global;
+
+impl Link {
+    /// Delivers all characters of a wire, if there are any.
+    fn empty<W: Watch>(
+        &mut self,
+        alloc: Global,
+        from: Side,
+        a: &mut Port,
+        b: &mut Port,
+        watch: &mut W,
+    ) -> Result<(), LinkEnd>
+        ensures does { Did W.grew W.cut (Empties from) (link self.old a.old b.old) watch.old
+            result (link self.new a.new b.new) watch.new }
+        ensures counts { Counted result (W.faults watch.old) (W.faults watch.new) }
+    {
+        let length = self.length(from);
+        if length == 0 {
+            return Ok(());
+        }
+        let Ok(count) = u32::try_from(length) else {
+            return Err(LinkEnd::NoMemory);
+        };
+        if let Err(end) = self.deliver(alloc, from, count, a, b, watch) {
+            return Err(end);
+        }
+        Ok(())
+    }
+
+    /// Delivers all that stands on each wire, side A's first.
+    fn round<W: Watch>(
+        &mut self,
+        alloc: Global,
+        a: &mut Port,
+        b: &mut Port,
+        watch: &mut W,
+    ) -> Result<(), LinkEnd>
+        ensures does { Did W.grew W.cut (NextOf goes (Empties A) (Empties B))
+            (link self.old a.old b.old) watch.old result (link self.new a.new b.new) watch.new }
+        ensures counts { Counted result (W.faults watch.old) (W.faults watch.new) }
+    {
+        if let Err(end) = self.empty(alloc, Side::A, a, b, watch) {
+            return Err(end);
+        }
+        if let Err(end) = self.empty(alloc, Side::B, a, b, watch) {
+            return Err(end);
+        }
+        Ok(())
+    }
+
+    /// Whether nothing stands on either wire.
+    fn is_idle(&self) -> bool
+        ensures { (a b : PortState) → is_busy (At (link self.now a b)) ≡ not result }
+    {
+        self.length(Side::A) == 0 && self.length(Side::B) == 0
+    }
+
+    /// Delivers all characters of both wires, side A's first, until none is left.
+    pub(crate) fn drain<W: Watch>(
+        &mut self,
+        alloc: Global,
+        a: &mut Port,
+        b: &mut Port,
+        watch: &mut W,
+    ) -> Result<(), LinkEnd>
+        requires { IsSoundLink (link self.old a.old b.old) }
+        ensures does { Did W.grew W.cut Drains (link self.old a.old b.old) watch.old
+            result (link self.new a.new b.new) watch.new }
+        ensures counts { Counted result (W.faults watch.old) (W.faults watch.new) }
+    {
+        for _ in 0..3u8 {
+            if self.is_idle() {
+                return Ok(());
+            }
+            if let Err(end) = self.round(alloc, a, b, watch) {
+                return Err(end);
+            }
+        }
+        Ok(())
+    }
+
+    /// Has a port take one turn.
+    fn pump_once<W: Watch>(
+        &mut self,
+        alloc: Global,
+        side: Side,
+        a: &mut Port,
+        b: &mut Port,
+        watch: &mut W,
+    ) -> Result<(), LinkEnd>
+        ensures does { Did W.grew W.cut (Pumps side) (link self.old a.old b.old) watch.old
+            result (link self.new a.new b.new) watch.new }
+        ensures counts { Counted result (W.faults watch.old) (W.faults watch.new) }
+    {
+        if let Err(end) = self.pump(alloc, side, 1, a, b, watch) {
+            return Err(given_up(end));
+        }
+        Ok(())
+    }
+
+    /// Has a port take one turn, and drains what comes of it.
+    pub(crate) fn take_turn<W: Watch>(
+        &mut self,
+        alloc: Global,
+        side: Side,
+        a: &mut Port,
+        b: &mut Port,
+        watch: &mut W,
+    ) -> Result<(), LinkEnd>
+        requires { IsSoundLink (link self.old a.old b.old) }
+        ensures does { Did W.grew W.cut (TakesTurn side) (link self.old a.old b.old) watch.old
+            result (link self.new a.new b.new) watch.new }
+        ensures counts { Counted result (W.faults watch.old) (W.faults watch.new) }
+    {
+        if let Err(end) = self.pump_once(alloc, side, a, b, watch) {
+            return Err(end);
+        }
+        if let Err(end) = self.drain(alloc, a, b, watch) {
+            return Err(end);
+        }
+        Ok(())
+    }
+}
+
+/// Why a call ended, if a note was not taken in.
+pub(crate) fn given_up(end: NoteEnd) -> LinkEnd
+    ensures { result ≡ end_of end }
+{
+    match end {
+        NoteEnd::Failed => LinkEnd::Failed,
+        NoteEnd::NoMemory => LinkEnd::NoMemory,
+    }
+}

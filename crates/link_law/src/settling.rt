@@ -1,0 +1,185 @@
+//! Settling: the schedule that brings a link to rest.
+ghost use Rattle.std.specs.Prelude.{◌≤◌, IsErrOf, OnOk, IfErr};
+ghost use Rattle.rio_chars.specs.Faults.{Rose};
+ghost use Rattle.link_machine.specs.Sound.{IsSoundLink};
+ghost use Rattle.link_machine.specs.States.{link};
+ghost use Rattle.link_rest.specs.Acts.{At};
+ghost use Rattle.link_rest.specs.Rest.{IsQuiet, IsSettled};
+ghost use Rattle.link_rest.specs.Settling.{Restarts, TimesOut, Requests, Recovers, SendsAll, Settles};
+ghost use Rattle.link_law.specs.Does.{Comes, Ends, Did, Counted};
+
+use crate::answers::LinkEnd;
+use crate::draining::given_up;
+use crate::link::Link;
+use crate::port_states::{failed, far, fires, is_quiet, is_waiting, near, stands_back};
+use link_port::Port;
+use link_watch::{Side, Watch};
+use std::alloc::Global;
+
+impl Link {
+    /// Brings a sound link to rest. Both wires are drained; each side recovers, with a restart-from-retry if one is owed,
+    /// and a time-out and a link-request if its direction is not at rest then; and what waits is sent, as far as it
+    /// has room. Each turn is noted as `pump` of one, each delivery as `deliver`. Undetected comes as for `deliver`.
+    /// A wire of more than `u32::MAX` characters ends it with `NoMemory`.
+    pub fn settle<W: Watch>(
+        &mut self,
+        alloc: Global,
+        a: &mut Port,
+        b: &mut Port,
+        watch: &mut W,
+    ) -> Result<(), LinkEnd>
+        requires { IsSoundLink (link self.old a.old b.old) }
+        ensures done { OnOk result (Comes W.grew Settles (link self.old a.old b.old) watch.old
+            (At (link self.new a.new b.new)) watch.new) }
+        ensures rest { OnOk result (IsSoundLink (link self.new a.new b.new)
+            × IsSettled (link self.new a.new b.new)) }
+        ensures ended { IfErr result (λ end. Ends W.grew W.cut Settles (link self.old a.old b.old)
+            watch.old end watch.new) }
+        ensures cause { IsErrOf result LinkEnd.Failed → Rose (W.faults watch.old) (W.faults watch.new) }
+        ensures never_falls { W.faults watch.old ≤ W.faults watch.new }
+    {
+        if let Err(end) = self.drain(alloc, a, b, watch) {
+            return Err(end);
+        }
+        if let Err(end) = self.recover(alloc, Side::A, a, b, watch) {
+            return Err(end);
+        }
+        if let Err(end) = self.recover(alloc, Side::B, a, b, watch) {
+            return Err(end);
+        }
+        if let Err(end) = self.send_all(alloc, Side::A, a, b, watch) {
+            return Err(end);
+        }
+        if let Err(end) = self.send_all(alloc, Side::B, a, b, watch) {
+            return Err(end);
+        }
+        Ok(())
+    }
+
+    /// Sends a restart-from-retry, if one is owed.
+    fn restart<W: Watch>(
+        &mut self,
+        alloc: Global,
+        side: Side,
+        a: &mut Port,
+        b: &mut Port,
+        watch: &mut W,
+    ) -> Result<(), LinkEnd>
+        requires { IsSoundLink (link self.old a.old b.old) }
+        ensures does { Did W.grew W.cut (Restarts side) (link self.old a.old b.old) watch.old
+            result (link self.new a.new b.new) watch.new }
+        ensures counts { Counted result (W.faults watch.old) (W.faults watch.new) }
+    {
+        if !stands_back(near(side, a, b)) {
+            return Ok(());
+        }
+        if let Err(end) = self.take_turn(alloc, side, a, b, watch) {
+            return Err(end);
+        }
+        Ok(())
+    }
+
+    /// Fires a time-out, if it may fire.
+    fn fire_if_due<W: Watch>(
+        &mut self,
+        alloc: Global,
+        side: Side,
+        a: &mut Port,
+        b: &mut Port,
+        watch: &mut W,
+    ) -> Result<(), LinkEnd>
+        requires { IsSoundLink (link self.old a.old b.old) }
+        ensures does { Did W.grew W.cut (TimesOut side) (link self.old a.old b.old) watch.old
+            result (link self.new a.new b.new) watch.new }
+        ensures counts { Counted result (W.faults watch.old) (W.faults watch.new) }
+    {
+        if !fires(near(side, a, b)) {
+            return Ok(());
+        }
+        if let Err(end) = self.time_out(alloc, side, a, b, watch) {
+            return Err(given_up(end));
+        }
+        Ok(())
+    }
+
+    /// Sends a link-request, if the direction is not at rest.
+    fn request<W: Watch>(
+        &mut self,
+        alloc: Global,
+        side: Side,
+        a: &mut Port,
+        b: &mut Port,
+        watch: &mut W,
+    ) -> Result<(), LinkEnd>
+        requires { IsSoundLink (link self.old a.old b.old) }
+        ensures does { Did W.grew W.cut (Requests side) (link self.old a.old b.old) watch.old
+            result (link self.new a.new b.new) watch.new }
+        ensures counts { Counted result (W.faults watch.old) (W.faults watch.new) }
+    {
+        if is_quiet(near(side, a, b), far(side, a, b)) {
+            return Ok(());
+        }
+        if let Err(end) = self.fire_if_due(alloc, side, a, b, watch) {
+            return Err(end);
+        }
+        if let Err(end) = self.take_turn(alloc, side, a, b, watch) {
+            return Err(end);
+        }
+        Ok(())
+    }
+
+    /// Brings the direction of one side to rest.
+    fn recover<W: Watch>(
+        &mut self,
+        alloc: Global,
+        side: Side,
+        a: &mut Port,
+        b: &mut Port,
+        watch: &mut W,
+    ) -> Result<(), LinkEnd>
+        requires { IsSoundLink (link self.old a.old b.old) }
+        ensures does { Did W.grew W.cut (Recovers side) (link self.old a.old b.old) watch.old
+            result (link self.new a.new b.new) watch.new }
+        ensures counts { Counted result (W.faults watch.old) (W.faults watch.new) }
+    {
+        if failed(near(side, a, b)) {
+            return Ok(());
+        }
+        if let Err(end) = self.restart(alloc, side, a, b, watch) {
+            return Err(end);
+        }
+        if let Err(end) = self.request(alloc, side, a, b, watch) {
+            return Err(end);
+        }
+        Ok(())
+    }
+
+    /// Sends what waits at a side, packet by packet, of a link at rest. If one has no room, the port restarts and sends no
+    /// more.
+    fn send_all<W: Watch>(
+        &mut self,
+        alloc: Global,
+        side: Side,
+        a: &mut Port,
+        b: &mut Port,
+        watch: &mut W,
+    ) -> Result<(), LinkEnd>
+        requires { IsSoundLink (link self.old a.old b.old) × IsQuiet (link self.old a.old b.old) }
+        ensures does { Did W.grew W.cut (SendsAll side) (link self.old a.old b.old) watch.old
+            result (link self.new a.new b.new) watch.new }
+        ensures counts { Counted result (W.faults watch.old) (W.faults watch.new) }
+    {
+        while is_waiting(near(side, a, b)) {
+            if let Err(end) = self.take_turn(alloc, side, a, b, watch) {
+                return Err(end);
+            }
+            if stands_back(near(side, a, b)) {
+                if let Err(end) = self.take_turn(alloc, side, a, b, watch) {
+                    return Err(end);
+                }
+                return Ok(());
+            }
+        }
+        Ok(())
+    }
+}

@@ -1,0 +1,4 @@
+pub mod Walking
+pub mod Flowing
+pub mod Turning
+pub mod Machine

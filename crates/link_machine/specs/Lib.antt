@@ -1,0 +1,6 @@
+pub mod States
+pub mod Calls
+pub mod Sound
+pub mod Queues
+pub mod Layer
+pub mod Runs
