@@ -11,65 +11,44 @@ use rio_chars::NoMemory;
 use rio_packets::Packet;
 use rio_symbols::Symbol;
 
-/// What came of events, as they happened: what the port did with packets, and the symbols that answer.
+/// What came of events, as they happened: what the port did with packets, and the symbols that answer. `freed` has the
+/// packets that the last event freed: it is made once, since a list with room for so many packets is dear to make.
 #[derive(Drop)]
 pub(crate) struct Came {
     pub(crate) moves: Vec<Move>,
     pub(crate) replies: Vec<Symbol>,
+    pub(crate) freed: ArrayVec<Packet, 31>,
 }
 
 impl Came {
-    /// What an event did.
-    pub(crate) fn note(
-        &mut self,
-        event: Event,
-        done: Done,
-        freed: ArrayVec<Packet, 31>,
-    ) -> Result<(), NoMemory>
-        ensures moves { OnOk result (self.new.moves.items ≡ self.old.moves.items ++ (map (λ packet. Held packet) (option_to_list (held_of event done.held)) ++ map (λ packet. Freed packet) freed.items)) }
+    /// What an event did, apart from the packets that it freed, which stand in `freed`.
+    pub(crate) fn note(&mut self, event: Event, done: Done) -> Result<(), NoMemory>
+        ensures moves { OnOk result (self.new.moves.items ≡ self.old.moves.items
+            ++ (map (λ packet. Held packet) (option_to_list (held_of event done.held))
+            ++ map (λ packet. Freed packet) self.old.freed.items)) }
         ensures replies { OnOk result (self.new.replies.items ≡ self.old.replies.items ++ option_to_list done.reply) }
     {
         self.hold(event, done.held)?;
-        self.free(freed)?;
+        push_freed(&mut self.moves, self.freed.as_slice())?;
         self.reply(done.reply)?;
         Ok(())
     }
 
     /// The packet of an event, where it was accepted.
     fn hold(&mut self, event: Event, held: bool) -> Result<(), NoMemory>
-        ensures moves { OnOk result (self.new.moves.items ≡ self.old.moves.items ++ map (λ packet. Held packet) (option_to_list (held_of event held))) }
+        ensures moves { OnOk result (self.new.moves.items ≡ self.old.moves.items
+            ++ map (λ packet. Held packet) (option_to_list (held_of event held))) }
         ensures replies { self.new.replies ≡ self.old.replies }
+        ensures freed { self.new.freed ≡ self.old.freed }
     {
         match event {
             Event::Pkt(_, packet) => {
                 if held {
-                    return self.push(Move::Held(packet));
+                    return push(&mut self.moves, Move::Held(packet));
                 }
                 Ok(())
             }
             Event::Ctl(_) | Event::Bad(_) => Ok(()),
-        }
-    }
-
-    /// Packets that were freed.
-    fn free(&mut self, freed: ArrayVec<Packet, 31>) -> Result<(), NoMemory>
-        ensures moves { OnOk result (self.new.moves.items ≡ self.old.moves.items ++ map (λ packet. Freed packet) freed.items) }
-        ensures replies { OnOk result (self.new.replies ≡ self.old.replies) }
-    {
-        for packet in freed {
-            self.push(Move::Freed(packet))?;
-        }
-        Ok(())
-    }
-
-    /// What the port did with a packet.
-    fn push(&mut self, step: Move) -> Result<(), NoMemory>
-        ensures moves { OnOk result (self.new.moves.items ≡ self.old.moves.items ++ step ∷ []) }
-        ensures replies { self.new.replies ≡ self.old.replies }
-    {
-        match self.moves.push(step) {
-            Ok(()) => Ok(()),
-            Err(_) => Err(NoMemory),
         }
     }
 
@@ -84,5 +63,25 @@ impl Came {
             }
         }
         Ok(())
+    }
+}
+
+/// Packets that were freed.
+fn push_freed(moves: &mut Vec<Move>, freed: &[Packet]) -> Result<(), NoMemory>
+    ensures { OnOk result (moves.new.items ≡ moves.old.items ++ map (λ packet. Freed packet) freed.now) }
+{
+    for packet in freed {
+        push(moves, Move::Freed(packet.copy()))?;
+    }
+    Ok(())
+}
+
+/// What the port did with a packet.
+fn push(moves: &mut Vec<Move>, step: Move) -> Result<(), NoMemory>
+    ensures { OnOk result (moves.new.items ≡ moves.old.items ++ step ∷ []) }
+{
+    match moves.push(step) {
+        Ok(()) => Ok(()),
+        Err(_) => Err(NoMemory),
     }
 }

@@ -54,6 +54,7 @@ impl Wire {
         let mut came = Came {
             moves: Vec::new(alloc),
             replies: Vec::new(alloc),
+            freed: ArrayVec::new(),
         };
         let (taken, undetected) = lead(port, &mut self.kept, got.as_slice(), &mut came)?;
         got.truncate(taken);
@@ -169,9 +170,9 @@ fn act(
     if !meet(port, kept, &event) {
         return Ok(Some(event));
     }
-    let mut freed = ArrayVec::new();
-    let done = port.act(&event, &mut freed);
-    came.note(event, done, freed)?;
+    came.freed.clear();
+    let done = port.act(&event, &mut came.freed);
+    came.note(event, done)?;
     Ok(None)
 }
 
