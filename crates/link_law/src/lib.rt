@@ -23,6 +23,8 @@ mod link;
 mod port_states;
 #[cfg(test)]
 mod run_tests;
+#[cfg(test)]
+mod settle_tests;
 mod settling;
 #[cfg(test)]
 mod tests;

@@ -1,8 +1,10 @@
 //! Many packets, deliveries in pieces, and watches that fail.
 ghost use Rattle.std.specs.Prelude.{◌≤◌, ◌<◌};
+ghost use Rattle.link_machine.specs.Sound.{IsSoundLink};
+ghost use Rattle.link_machine.specs.States.{link};
 
 use crate::tests::{DATA, Pair, new_pair, packet};
-use crate::{Fired, LinkEnd};
+use crate::LinkEnd;
 use link_port::{OutKind, PortFace};
 use link_watch::{Note, NoteEnd, Side, Watch};
 use link_wires::Edit;
@@ -36,6 +38,16 @@ fn held_and_freed(rt: &impl Abort, notes: &[Note]) -> (u8, u8) {
     (held, freed)
 }
 
+/// Of every third packet, the acceptance is lost.
+fn lose_third(rt: &impl Abort, alloc: Global, pair: &mut Pair, n: u8)
+    requires { IsSoundLink (link pair.old.link pair.old.a pair.old.b) }
+    ensures { IsSoundLink (link pair.new.link pair.new.a pair.new.b) }
+{
+    if n % 3 == 2 {
+        pair.edit(rt, alloc, Side::B, &Edit::Erase { place: 0, count: 4 });
+    }
+}
+
 #[test]
 fn every_third_lost_acceptance_is_found_past_ack_31(rt: HostRuntime) -> Result<(), Fail> {
     let alloc = rt.alloc();
@@ -44,16 +56,14 @@ fn every_third_lost_acceptance_is_found_past_ack_31(rt: HostRuntime) -> Result<(
         pair.send(numbered(&rt, n));
         pair.pump(&rt, alloc, Side::A, 1);
         pair.deliver(&rt, alloc, Side::A, 16);
-        if n % 3 == 2 {
-            pair.edit(&rt, alloc, Side::B, &Edit::Erase { place: 0, count: 4 });
-            assert_eq!(rt; pair.time_out(alloc, Side::A), Some(Fired::Done));
-            pair.pump(&rt, alloc, Side::A, 1);
-            pair.deliver(&rt, alloc, Side::A, 4);
-        }
-        pair.deliver(&rt, alloc, Side::B, 4);
-        assert!(rt; pair.b.in_pop(0).is_some(), "held");
+        lose_third(&rt, alloc, &mut pair, n);
+        pair.settle(&rt, alloc);
+        assert!(rt; pair.collect(0) == Some(numbered(&rt, n)), "held");
     }
-    assert_eq!(rt; held_and_freed(&rt, pair.list.notes()), (40, 40));
+    let notes = pair.list.notes();
+    assert_eq!(rt; held_and_freed(&rt, notes), (40, 40));
+    let fires = notes.iter().filter(|note| matches!(note, Note::Fire(Side::A))).count();
+    assert_eq!(rt; fires, 13);
     assert_eq!(rt; pair.a.outstanding(), 0);
     Ok(())
 }

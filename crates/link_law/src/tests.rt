@@ -1,7 +1,9 @@
 //! Two ports and a link, with the notes as lines: the side, and characters or a packet in hexadecimal. The expected lines
 //! are worked by hand from the layouts of control symbols and packets and from the step tables (RapidIO Interconnect
 //! Specification 1.3, Part 6; `docs/link.md`).
-ghost use Rattle.std.specs.Prelude.{◌≤◌, ◌<◌};
+ghost use Rattle.std.specs.Prelude.{◌≤◌, ◌<◌, OnOk};
+ghost use Rattle.link_machine.specs.Sound.{IsSoundLink};
+ghost use Rattle.link_machine.specs.States.{link};
 
 use crate::{Fired, Link, LinkEnd};
 use link_port::{Port, PortFace};
@@ -26,6 +28,7 @@ pub(crate) struct Pair {
 pub(crate) fn new_pair(rt: &impl Abort, alloc: Global, buffers: u8) -> Pair
     requires least { 4 ≤ buffers }
     requires most { buffers ≤ 30 }
+    ensures { IsSoundLink (link result.link result.a result.b) }
 {
     Pair {
         link: Link::new(alloc),
@@ -50,14 +53,29 @@ pub(crate) fn packet(rt: &impl Abort, prio: u8, data: &[u8]) -> Packet
 
 impl Pair {
     /// A packet is to be sent from A.
-    pub(crate) fn send(&mut self, packet: Packet) {
+    pub(crate) fn send(&mut self, packet: Packet)
+        ensures { IsSoundLink (link self.old.link self.old.a self.old.b)
+            → IsSoundLink (link self.new.link self.new.a self.new.b) }
+    {
         if self.a.out_room(packet.prio()) {
             self.a.out_put(packet);
         }
     }
 
+    /// The first packet of a priority that B holds leaves.
+    pub(crate) fn collect(&mut self, prio: u8) -> Option<Packet>
+        requires { prio < 4 }
+        ensures { IsSoundLink (link self.old.link self.old.a self.old.b)
+            → IsSoundLink (link self.new.link self.new.a self.new.b) }
+    {
+        self.b.in_pop(prio)
+    }
+
     /// So many turns.
-    pub(crate) fn pump(&mut self, rt: &impl Abort, alloc: Global, from: Side, turns: u32) {
+    pub(crate) fn pump(&mut self, rt: &impl Abort, alloc: Global, from: Side, turns: u32)
+        ensures { IsSoundLink (link self.old.link self.old.a self.old.b)
+            → IsSoundLink (link self.new.link self.new.a self.new.b) }
+    {
         self.link
             .pump(alloc, from, turns, &mut self.a, &mut self.b, &mut self.list)
             .expect(rt, "memory");
@@ -66,9 +84,11 @@ impl Pair {
     /// So many characters, which are there.
     pub(crate) fn deliver(&mut self, rt: &impl Abort, alloc: Global, from: Side, count: u32)
         requires { 1 ≤ count }
+        ensures { IsSoundLink (link self.old.link self.old.a self.old.b)
+            → IsSoundLink (link self.new.link self.new.a self.new.b) }
     {
-        let delivered = self.try_deliver(alloc, from, count);
-        assert!(rt; matches!(delivered, Ok(Edited::Done)), "delivered");
+        let delivered = self.try_deliver(alloc, from, count).expect(rt, "delivered");
+        assert_eq!(rt; delivered, Edited::Done);
     }
 
     /// So many characters, if they are there.
@@ -79,20 +99,43 @@ impl Pair {
         count: u32,
     ) -> Result<Edited, LinkEnd>
         requires { 1 ≤ count }
+        ensures { OnOk result (IsSoundLink (link self.old.link self.old.a self.old.b)
+            → IsSoundLink (link self.new.link self.new.a self.new.b)) }
     {
         self.link.deliver(alloc, from, count, &mut self.a, &mut self.b, &mut self.list)
     }
 
     /// An edit within a wire.
-    pub(crate) fn edit(&mut self, rt: &impl Abort, alloc: Global, from: Side, edit: &Edit) {
-        assert_eq!(rt; self.link.edit(alloc, from, edit), Ok(Edited::Done));
+    pub(crate) fn edit(&mut self, rt: &impl Abort, alloc: Global, from: Side, edit: &Edit)
+        ensures { IsSoundLink (link self.old.link self.old.a self.old.b)
+            → IsSoundLink (link self.new.link self.new.a self.new.b) }
+    {
+        let Ok(edited) = self.link.edit(alloc, from, edit) else {
+            panic!(rt; "memory")
+        };
+        assert_eq!(rt; edited, Edited::Done);
     }
 
     /// A time-out.
-    pub(crate) fn time_out(&mut self, alloc: Global, side: Side) -> Option<Fired> {
+    pub(crate) fn time_out(&mut self, rt: &impl Abort, alloc: Global, side: Side) -> Fired
+        ensures { IsSoundLink (link self.old.link self.old.a self.old.b)
+            → IsSoundLink (link self.new.link self.new.a self.new.b) }
+    {
         self.link
             .time_out(alloc, side, &mut self.a, &mut self.b, &mut self.list)
-            .ok()
+            .expect(rt, "memory")
+    }
+
+    /// The link settles. Both wires are empty then.
+    pub(crate) fn settle(&mut self, rt: &impl Abort, alloc: Global)
+        requires { IsSoundLink (link self.old.link self.old.a self.old.b) }
+        ensures { IsSoundLink (link self.new.link self.new.a self.new.b) }
+    {
+        self.link
+            .settle(alloc, &mut self.a, &mut self.b, &mut self.list)
+            .expect(rt, "settled");
+        assert_eq!(rt; self.link.length(Side::A), 0);
+        assert_eq!(rt; self.link.length(Side::B), 0);
     }
 
     /// The notes so far are these lines.

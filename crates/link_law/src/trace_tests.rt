@@ -1,7 +1,6 @@
 //! What is noted, in worked cases.
 use crate::tests::{DATA, Pair, new_pair, packet, text};
 use crate::{Fired, LinkEnd};
-use link_port::PortFace;
 use link_watch::{NoteList, Side};
 use link_wires::{Edit, Edited};
 use rio_chars::Char;
@@ -24,9 +23,7 @@ fn packet_goes_across_and_is_freed(rt: HostRuntime) -> Result<(), Fail> {
     let alloc = rt.alloc();
     let mut pair = new_pair(&rt, alloc, 8);
     pair.send(packet(&rt, 0, &DATA));
-    pair.pump(&rt, alloc, Side::A, 1);
-    pair.deliver(&rt, alloc, Side::A, 20);
-    pair.deliver(&rt, alloc, Side::B, 4);
+    pair.settle(&rt, alloc);
     pair.expect(&rt, alloc, ACROSS)
 }
 
@@ -49,8 +46,7 @@ fn corrupted_packet_is_sent_again_and_held_once(rt: HostRuntime) -> Result<(), F
         ch: Char::Data(0xcb),
     };
     pair.edit(&rt, alloc, Side::A, &edit);
-    pair.deliver(&rt, alloc, Side::A, 20);
-    recover(&rt, alloc, &mut pair);
+    pair.settle(&rt, alloc);
     let mut lines = Vec::new(alloc);
     lines.extend_from_slice(
         b"sent A k7c d80 df8 d1f d00 d0f d02 d01 dca dfe d00 d01 da9 dbb d00 d00 k7c d80 dfa d18\n",
@@ -66,17 +62,6 @@ fn corrupted_packet_is_sent_again_and_held_once(rt: HostRuntime) -> Result<(), F
         lines.as_slice()
     );
     Ok(())
-}
-
-/// From a packet-not-accepted on B's wire on: the link-request, its response, and the packet again.
-fn recover(rt: &impl Abort, alloc: Global, pair: &mut Pair) {
-    pair.deliver(rt, alloc, Side::B, 4);
-    pair.pump(rt, alloc, Side::A, 1);
-    pair.deliver(rt, alloc, Side::A, 4);
-    pair.deliver(rt, alloc, Side::B, 4);
-    pair.pump(rt, alloc, Side::A, 1);
-    pair.deliver(rt, alloc, Side::A, 20);
-    pair.deliver(rt, alloc, Side::B, 4);
 }
 
 #[test]
@@ -107,14 +92,11 @@ fn lost_acceptance_is_found_by_a_time_out(rt: HostRuntime) -> Result<(), Fail> {
     let mut pair = new_pair(&rt, alloc, 8);
     pair.send(packet(&rt, 0, &DATA));
     pair.pump(&rt, alloc, Side::A, 1);
-    assert_eq!(rt; pair.time_out(alloc, Side::A), Some(Fired::Early));
+    assert_eq!(rt; pair.time_out(&rt, alloc, Side::A), Fired::Early);
     pair.deliver(&rt, alloc, Side::A, 20);
-    assert_eq!(rt; pair.time_out(alloc, Side::A), Some(Fired::Early));
+    assert_eq!(rt; pair.time_out(&rt, alloc, Side::A), Fired::Early);
     pair.edit(&rt, alloc, Side::B, &Edit::Erase { place: 0, count: 4 });
-    assert_eq!(rt; pair.time_out(alloc, Side::A), Some(Fired::Done));
-    pair.pump(&rt, alloc, Side::A, 1);
-    pair.deliver(&rt, alloc, Side::A, 4);
-    pair.deliver(&rt, alloc, Side::B, 4);
+    pair.settle(&rt, alloc);
     pair.expect(
         &rt,
         alloc,
@@ -161,39 +143,51 @@ got A k1c dd4 dff d16
     )
 }
 
-#[test]
-fn retry_for_want_of_buffers_is_sent_again(rt: HostRuntime) -> Result<(), Fail> {
-    let alloc = rt.alloc();
-    let mut pair = new_pair(&rt, alloc, 4);
-    pair.send(packet(&rt, 0, &[]));
-    pair.pump(&rt, alloc, Side::A, 1);
-    pair.deliver(&rt, alloc, Side::A, 16);
-    pair.deliver(&rt, alloc, Side::B, 4);
-    pair.list = NoteList::new(alloc);
-    pair.send(packet(&rt, 0, &[0xca, 0xfe]));
-    pair.pump(&rt, alloc, Side::A, 1);
-    pair.deliver(&rt, alloc, Side::A, 16);
-    pair.deliver(&rt, alloc, Side::B, 4);
-    pair.pump(&rt, alloc, Side::A, 1);
-    pair.deliver(&rt, alloc, Side::A, 4);
-    assert!(rt; pair.b.in_pop(0).is_some(), "held");
-    pair.pump(&rt, alloc, Side::A, 1);
-    pair.deliver(&rt, alloc, Side::A, 16);
-    pair.deliver(&rt, alloc, Side::B, 4);
-    pair.expect(
-        &rt,
-        alloc,
-        "sent A k7c d80 df8 d1f d08 d0f d02 d01 dca dfe d46 dff k7c d80 dfa d18
+/// A packet that has no room, and then one of a higher priority that passes it.
+const PASSED: &str = "sent A k7c d80 df8 d1f d08 d0f d02 d01 dca dfe d46 dff k7c d80 dfa d18
 got B k7c d80 df8 d1f d08 d0f d02 d01 dca dfe d46 dff k7c d80 dfa d18
 sent B k1c d21 dff d19
 got A k1c d21 dff d19
 sent A k1c d80 dfb d01
 got B k1c d80 dfb d01
-sent A k7c d80 df8 d1f d08 d0f d02 d01 dca dfe d46 dff k7c d80 dfa d18
-got B k7c d80 df8 d1f d08 d0f d02 d01 dca dfe d46 dff k7c d80 dfa d18
-hold B 000f0201cafe46ff
+sent A k7c d80 df8 d1f d08 dcf d02 d01 df8 d45 d00 d00 k7c d80 dfa d18
+got B k7c d80 df8 d1f d08 dcf d02 d01 df8 d45 d00 d00 k7c d80 dfa d18
+hold B 00cf0201f8450000
 sent B k1c d01 dff d12
 got A k1c d01 dff d12
+free A 00cf0201f8450000
+sent A k7c d80 df8 d1f d10 d0f d02 d01 dca dfe d46 dff k7c d80 dfa d18
+got B k7c d80 df8 d1f d10 d0f d02 d01 dca dfe d46 dff k7c d80 dfa d18
+sent B k1c d22 dff d15
+got A k1c d22 dff d15
+sent A k1c d80 dfb d01
+got B k1c d80 dfb d01
+";
+
+#[test]
+fn retry_for_want_of_buffers_is_sent_again(rt: HostRuntime) -> Result<(), Fail> {
+    let alloc = rt.alloc();
+    let mut pair = new_pair(&rt, alloc, 4);
+    pair.send(packet(&rt, 0, &[]));
+    pair.settle(&rt, alloc);
+    pair.list = NoteList::new(alloc);
+    pair.send(packet(&rt, 0, &[0xca, 0xfe]));
+    pair.settle(&rt, alloc);
+    pair.send(packet(&rt, 3, &[]));
+    pair.settle(&rt, alloc);
+    pair.expect(&rt, alloc, PASSED)?;
+    pair.list = NoteList::new(alloc);
+    assert!(rt; pair.collect(3) == Some(packet(&rt, 3, &[])), "leaves");
+    assert!(rt; pair.collect(0) == Some(packet(&rt, 0, &[])), "leaves");
+    pair.settle(&rt, alloc);
+    pair.expect(
+        &rt,
+        alloc,
+        "sent A k7c d80 df8 d1f d10 d0f d02 d01 dca dfe d46 dff k7c d80 dfa d18
+got B k7c d80 df8 d1f d10 d0f d02 d01 dca dfe d46 dff k7c d80 dfa d18
+hold B 000f0201cafe46ff
+sent B k1c d02 dff d1e
+got A k1c d02 dff d1e
 free A 000f0201cafe46ff
 ",
     )
@@ -203,13 +197,12 @@ free A 000f0201cafe46ff
 fn three_packets_fly_with_three_acceptances(rt: HostRuntime) -> Result<(), Fail> {
     let alloc = rt.alloc();
     let mut pair = new_pair(&rt, alloc, 8);
-    for _ in 0..3 {
-        pair.send(packet(&rt, 0, &[]));
-    }
+    pair.send(packet(&rt, 0, &[]));
+    pair.send(packet(&rt, 0, &[]));
+    pair.send(packet(&rt, 0, &[]));
     pair.pump(&rt, alloc, Side::A, 3);
     pair.list = NoteList::new(alloc);
-    pair.deliver(&rt, alloc, Side::A, 48);
-    pair.deliver(&rt, alloc, Side::B, 12);
+    pair.settle(&rt, alloc);
     pair.expect(
         &rt,
         alloc,

@@ -1,5 +1,5 @@
 -- A delivery keeps a link sound, and what is held and freed are steps of plain queues.
-use Rattle.std.proofs.Common.{◌≡◌, ℕ, suc, ◌++◌, true, false, List, [], ◌∷◌, map, length, Option, Some, None, option_to_list, refl, sym, ap, ◌∙◌, subst, if◌then◌else◌, append_assoc}
+use Rattle.std.proofs.Common.{◌≡◌, ℕ, ◌++◌, true, false, List, [], ◌∷◌, map, Option, Some, None, option_to_list, refl, sym, ap, ◌∙◌, subst, if◌then◌else◌, append_assoc}
 use Rattle.std.proofs.lemmas.List.{append-nil, map-append}
 use Rattle.rio_chars.specs.declared.chars.Char.{Char}
 use Rattle.rio_symbols.specs.Fields.{Fields}
@@ -16,8 +16,7 @@ use Rattle.link_sound.proofs.Steps.{acted_keeps, other_keeps, lost_keeps}
 use Rattle.link_sound.proofs.Moves.{acted_holds, other_holds, acted_frees, other_frees}
 use Rattle.link_sound.proofs.PortBounds.{acted_port, other_port, read_port}
 use Rattle.link_wires.specs.Kept.{behind}
-use Rattle.link_wires.specs.Deliveries.{Told, Flow, Delivered, Through, Undetected, begun, moves_of, done, met, comes, goes_on, come, ended, flows, delivered}
-use Rattle.link_wires.specs.declared.moves.Move.{Move}
+use Rattle.link_wires.specs.Deliveries.{Flow, Delivered, Through, Undetected, begun, done, met, comes, goes_on, come, ended, delivered}
 use Rattle.link_machine.specs.Queues.{Queues, queues_between}
 use Rattle.link_machine.proofs.Walking.{FirstWalks, Stays, walks_on, event_walks}
 

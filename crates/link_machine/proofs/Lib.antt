@@ -2,3 +2,4 @@ pub mod Walking
 pub mod Flowing
 pub mod Turning
 pub mod Machine
+pub mod Serving

@@ -1,5 +1,5 @@
 -- Each call of a link keeps it sound, and its notes are steps of plain queues.
-use Rattle.std.proofs.Common.{◌≡◌, ◌≢◌, ℕ, ◌++◌, ◌&&◌, Bool, true, false, List, [], ◌∷◌, map, take, length, nat_le, None, refl, sym, ap, ◌∙◌, subst, if◌then◌else◌}
+use Rattle.std.proofs.Common.{◌≡◌, ◌≢◌, ℕ, ◌++◌, true, false, List, [], ◌∷◌, map, take, None, refl, sym, ap, ◌∙◌, subst, if◌then◌else◌}
 use Rattle.std.proofs.lemmas.List.{append-nil}
 use Rattle.rio_chars.specs.declared.chars.Char.{Char}
 use Rattle.link_model.specs.declared.event.Event.{Event}
@@ -15,12 +15,12 @@ use Rattle.link_watch.specs.declared.note.Note.{Note}
 use Rattle.link_watch.specs.declared.side.Side.{Side}
 use Rattle.link_watch.specs.declared.side.Side.TheVariants.{A, B}
 use Rattle.link_wires.specs.Deliveries.{Told, Delivered, Through, Undetected, told_of, undetected}
-use Rattle.link_wires.specs.Wires.{answers, fits, edited, after_edit}
+use Rattle.link_wires.specs.Wires.{answers}
 use Rattle.link_wires.specs.declared.edits.Edit.{Edit}
 use Rattle.link_wires.specs.declared.moves.Move.{Move}
 use Rattle.link_wires.specs.declared.moves.Move.TheVariants.{Held, Freed}
 use Rattle.link_machine.specs.States.{LinkState, link, empty_wires, turned_round, at_end, from_end}
-use Rattle.link_machine.specs.Calls.{sent_notes, first_turns, pumped, delivery, after_delivery, first_takes, has_chars, delivery_from, delivered_from, move_note, told_notes, delivery_notes, first_edited, edited_from, is_silent, has_none, first_fires, timed_out_at}
+use Rattle.link_machine.specs.Calls.{sent_notes, first_turns, pumped, delivery, after_delivery, first_takes, has_chars, delivery_from, delivered_from, move_note, told_notes, delivery_notes, first_edited, edited_from, is_silent, first_fires, timed_out_at}
 use Rattle.link_machine.specs.Layer.{IsServed, with_port}
 use Rattle.link_machine.specs.Queues.{Queues, queues_of, queues_between, queues_round, Step, steps_at, Walks, steps_of}
 use Rattle.link_machine.specs.Queues.Walks.{Ends}
@@ -29,7 +29,7 @@ use Rattle.link_machine.specs.Runs.IsRun.{Rests, Pumps, Delivers, Edits, TimesOu
 use Rattle.link_machine.specs.Sound.{IsSoundLink}
 use Rattle.link_machine.proofs.Flowing.{AreFlowing, delivered_flowing}
 use Rattle.link_machine.proofs.Turning.{turned_port, turned_keeps, turned_stays, time_out_moves_none, edit_keeps, served_keeps}
-use Rattle.link_machine.proofs.Walking.{FirstWalks, queues_from, walks_at}
+use Rattle.link_machine.proofs.Walking.{FirstWalks, walks_at}
 
 pub round_keeps : (s : LinkState) → IsSoundLink s → IsSoundLink (turned_round s)
 round_keeps s l = record { port_a = l.port_b; port_b = l.port_a; sound = exchanged s.a s.b s.wire_a.kept s.wire_b.kept l.sound }

@@ -1,12 +1,12 @@
 -- Turns, time-outs, edits and the layer above keep a link sound, and none of them but the layer above moves a packet.
-use Rattle.std.proofs.Common.{◌≡◌, ℕ, zero, suc, ◌<◌, ◌≤◌, ◌==◌, ◌++◌, cond, Bool, true, false, List, [], ◌∷◌, map, length, take, drop, inl, inr, refl, sym, ap, ◌∙◌, subst, if◌then◌else◌, append_assoc, arith}
+use Rattle.std.proofs.Common.{◌≡◌, ℕ, zero, suc, ◌<◌, ◌≤◌, ◌==◌, ◌++◌, cond, true, false, List, [], ◌∷◌, map, length, take, drop, inl, inr, refl, sym, ap, ◌∙◌, subst, if◌then◌else◌, append_assoc, arith}
 use Rattle.std.proofs.lemmas.Bool.Decides.{eqb_tells}
 use Rattle.std.proofs.lemmas.List.{append-nil, take-append-le, drop-append-le}
 use Rattle.link_buffers.specs.Queues.{list_at, popped}
 use Rattle.link_buffers.specs.Priorities.{Covers, packets_of, highest}
 use Rattle.link_buffers.proofs.PriorityLaws.{Covers-first, Covers-rest, list_at-popped}
 use Rattle.link_model.specs.declared.event.Event.{Event}
-use Rattle.link_port.specs.Ports.{PortState, IsPort, AreAlike}
+use Rattle.link_port.specs.Ports.{PortState, IsPort}
 use Rattle.link_port.specs.Turns.{turns_to, turn_sends, timed_out, waiting_in}
 use Rattle.link_port.specs.States.{prios_of, expected_of}
 use Rattle.link_sound.specs.Meanings.{forward, backward}
@@ -18,7 +18,7 @@ use Rattle.link_sound.proofs.PortBounds.{turn_port}
 use Rattle.link_wires.specs.Wires.{WireState, turned, bursts, fits, edited, after_edit}
 use Rattle.link_wires.specs.declared.edits.Edit.{Edit}
 use Rattle.link_machine.specs.Layer.{IsServed}
-use Rattle.link_machine.specs.Queues.{Queues, queues_between}
+use Rattle.link_machine.specs.Queues.{queues_between}
 
 pub turned_port : (n : ℕ) (a : PortState) → IsPort a → IsPort (turned n a)
 unfolding turned

@@ -1,12 +1,12 @@
 -- What an event does to the packets of a link, as steps of plain queues.
-use Rattle.std.proofs.Common.{◌≡◌, ℕ, ◌++◌, List, [], ◌∷◌, map, drop, slice_get, Option, Some, None, option_to_list, refl, sym, ap, ◌∙◌, subst}
+use Rattle.std.proofs.Common.{◌≡◌, ℕ, ◌++◌, List, [], ◌∷◌, map, drop, slice_get, Option, Some, None, option_to_list, sym, ap, ◌∙◌, subst}
 use Rattle.link_port.specs.Ports.{PortState}
 use Rattle.link_sound.specs.Lent.{Holds, Frees}
 use Rattle.link_watch.specs.declared.side.Side.{Side}
 use Rattle.link_watch.specs.declared.side.Side.TheVariants.{A, B}
 use Rattle.link_wires.specs.declared.moves.Move.{Move}
 use Rattle.link_wires.specs.declared.moves.Move.TheVariants.{Held, Freed}
-use Rattle.link_machine.specs.Queues.{Queues, queues_between, queues_round, NeedsFirst, first_moved, Step, steps_at, Walks}
+use Rattle.link_machine.specs.Queues.{Queues, queues_between, queues_round, NeedsFirst, first_moved, steps_at, Walks}
 use Rattle.link_machine.specs.Queues.Walks.{Ends, Goes}
 
 -- steps of the first port, one after another

@@ -1,15 +1,13 @@
 -- What each call of a link does to it, and what it notes.
-use Rattle.std.specs.Prelude.{◌≡◌, ℕ, nat_le, Bool, true, false, ◌&&◌, ◌++◌, List, [], ◌∷◌, length, map, take, Result, Ok, Err, if◌then◌else◌}
+use Rattle.std.specs.Prelude.{ℕ, nat_le, Bool, true, false, ◌&&◌, ◌++◌, List, [], ◌∷◌, length, map, take, if◌then◌else◌}
 use Rattle.rio_chars.specs.declared.chars.Char.{Char}
-use Rattle.link_model.specs.declared.event.Event.{Event}
-use Rattle.link_port.specs.Ports.{PortState}
 use Rattle.link_port.specs.Turns.{timed_out}
 use Rattle.link_watch.specs.Sides.{other_side}
 use Rattle.link_watch.specs.declared.note.Note.{Note}
 use Rattle.link_watch.specs.declared.note.Note.TheVariants.{Sent, Got, Hold, Free, Fire}
 use Rattle.link_watch.specs.declared.side.Side.{Side}
-use Rattle.link_wires.specs.Wires.{with_sent, turned, bursts, answers, without_front, silenced, fits, after_edit, answered}
-use Rattle.link_wires.specs.Deliveries.{Told, Flow, Delivered, Through, Undetected, delivered, told_of}
+use Rattle.link_wires.specs.Wires.{with_sent, turned, bursts, answers, without_front, silenced, after_edit}
+use Rattle.link_wires.specs.Deliveries.{Told, Delivered, Through, Undetected, delivered, told_of}
 use Rattle.link_wires.specs.declared.edits.Edit.{Edit}
 use Rattle.link_wires.specs.declared.moves.Move.{Move}
 use Rattle.link_wires.specs.declared.moves.Move.TheVariants.{Held, Freed}

@@ -1,5 +1,5 @@
 -- Whole runs of a link, by its calls and by the layer above.
-use Rattle.std.specs.Prelude.{◌≡◌, ℕ, true, ◌++◌, List, [], None}
+use Rattle.std.specs.Prelude.{◌≡◌, ℕ, ◌++◌, List, [], None}
 use Rattle.link_port.specs.Ports.{PortState, IsPort}
 use Rattle.link_watch.specs.declared.note.Note.{Note}
 use Rattle.link_watch.specs.declared.side.Side.{Side}

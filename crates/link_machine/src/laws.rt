@@ -1,7 +1,8 @@
 //! The law of a link, of its states alone. The calls do nothing: their clauses are the laws.
-ghost use Rattle.std.specs.Prelude.{◌≡◌, ◌≢◌, ℕ, List, None};
+ghost use Rattle.std.specs.Prelude.{◌≡◌, ◌≢◌, ◌<◌, ℕ, List, None};
+ghost use Rattle.link_buffers.specs.Queues.{appended, popped};
 ghost use Rattle.link_model.specs.Output as out;
-ghost use Rattle.link_port.specs.Ports.{PortState, IsPort, new_port};
+ghost use Rattle.link_port.specs.Ports.{PortState, IsPort, AreAlike, new_port};
 ghost use Rattle.link_sound.specs.Histories.{AreBuffers};
 ghost use Rattle.link_watch.specs.declared.note.Note.{Note};
 ghost use Rattle.link_watch.specs.declared.side.Side.{Side};
@@ -37,6 +38,17 @@ pub fn the_layer_above_keeps_it()
 /// So does every run of calls and of the layer above, up to the first event that was not sent.
 pub fn runs_keep_it()
     ensures { (s end : LinkState) (notes : List Note) → IsRun s notes end → IsSoundLink s → IsSoundLink end }
+{}
+
+/// What `out_put` and `in_pop` of a port do is of the layer above: a packet at the end of a list to be sent, or one
+/// less at the front of a received list.
+pub fn puts_and_takes_serve()
+    ensures put { (port next : PortState) (prio : ℕ) (packet : List ℕ) → IsPort port → prio < 4
+        → AreAlike port next → next.queued ≡ appended port.queued prio packet
+        → next.received.lists ≡ port.received.lists → IsServed port next }
+    ensures take { (port next : PortState) (prio : ℕ) → AreAlike port next
+        → next.received.lists ≡ popped port.received.lists prio → next.queued ≡ port.queued
+        → IsServed port next }
 {}
 
 /// Every packet that a delivery notes as held is the first of its priority that waits at the far port, and has room; every

@@ -21,5 +21,5 @@ mod laws;
 
 pub use laws::{
     calls_keep_it, deliveries_hold_and_free_in_order, links_begin_sound, no_sender_fails,
-    nothing_else_moves, runs_keep_it, the_layer_above_keeps_it,
+    nothing_else_moves, puts_and_takes_serve, runs_keep_it, the_layer_above_keeps_it,
 };

@@ -1,0 +1,6 @@
+use Rattle.link_machine.specs.Sound.{IsSoundLink}
+use Rattle.link_machine.specs.States.{link}
+use Rattle.link_law.proofs.settle_tests.reached.Given as goal
+
+abbrev pub invariant-loop-step : goal.invariant-loop-step
+invariant-loop-step g l = IsSoundLink (link l.pair.link l.pair.a l.pair.b)
