@@ -3,8 +3,8 @@ ghost use Rattle.std.specs.Prelude.{◌≤◌, ◌<◌};
 ghost use Rattle.link_machine.specs.Sound.{IsSoundLink};
 ghost use Rattle.link_machine.specs.States.{link};
 
-use crate::tests::{DATA, Pair, new_pair, packet};
 use crate::LinkEnd;
+use crate::tests::{DATA, Pair, new_pair, packet};
 use link_port::{OutKind, PortFace};
 use link_watch::{Note, NoteEnd, Side, Watch};
 use link_wires::Edit;
@@ -62,7 +62,10 @@ fn every_third_lost_acceptance_is_found_past_ack_31(rt: HostRuntime) -> Result<(
     }
     let notes = pair.list.notes();
     assert_eq!(rt; held_and_freed(&rt, notes), (40, 40));
-    let fires = notes.iter().filter(|note| matches!(note, Note::Fire(Side::A))).count();
+    let fires = notes
+        .iter()
+        .filter(|note| matches!(note, Note::Fire(Side::A)))
+        .count();
     assert_eq!(rt; fires, 13);
     assert_eq!(rt; pair.a.outstanding(), 0);
     Ok(())

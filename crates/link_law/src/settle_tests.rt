@@ -219,7 +219,13 @@ const WAYS: [Way; 11] = [
     },
     Way {
         first: First::NoRoom,
-        steps: &[Step::Packet, Step::Begin, Step::Lose, Step::TimeOut, Step::Turn],
+        steps: &[
+            Step::Packet,
+            Step::Begin,
+            Step::Lose,
+            Step::TimeOut,
+            Step::Turn,
+        ],
         output: OutKind::ErrorStopped,
         asked: true,
         input: InKind::RetryStopped,
