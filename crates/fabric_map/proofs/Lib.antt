@@ -1,0 +1,9 @@
+mod Order
+mod Lists
+mod Walks
+mod Leading
+mod Maps
+mod Firsts
+mod Endpoints
+mod Worked
+mod Ring

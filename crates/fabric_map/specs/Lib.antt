@@ -1,0 +1,7 @@
+pub mod Topology
+pub mod Walked
+pub mod Routes
+pub mod Numbered
+pub mod Locked
+pub mod Laws
+pub mod Examples

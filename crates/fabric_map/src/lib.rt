@@ -1,0 +1,23 @@
+//! The map of a numbered fabric: which devices a host reaches, with which tags, IDs and paths, and
+//! where the route tables send packets (RapidIO Interconnect Specification 1.3, Part 3,
+//! enumeration; the order of the devices is this project's profile).
+//!
+//! Promised: what a numbered fabric is, over its devices and links alone, with no order of asking.
+//! Every map of one fabric is the same, and the first locked device is one.
+//!
+//! Left out: the code that numbers a fabric.
+//!
+//! - [`Map`] has the [`Device`]s, each with its [`Kind`] and its [`Path`], and each [`Entry`] of the route tables.
+//! - `specs/Topology.antt` says where a path leads, `specs/Walked.antt` in which order devices are met, `specs/Routes.antt`
+//!   where packets go, `specs/Numbered.antt` what a map says, and `specs/Locked.antt` which locked device is met first.
+#![tactic(auto)]
+
+mod examples;
+mod laws;
+mod map;
+
+pub use examples::{the_ring_has_its_map, wrong_maps_are_none};
+pub use laws::{
+    a_fabric_has_one_map, a_map_is_whole, an_id_has_one_endpoint, the_first_locked_is_one,
+};
+pub use map::{Device, Entry, Kind, Map, Path};
