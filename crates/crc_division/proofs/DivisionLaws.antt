@@ -143,7 +143,7 @@ length-division_steps (suc count) divisor bs =
     length-division_steps count divisor (division_step divisor bs) ∙ omega (arith, length-division_step divisor bs)
 
 -- bits that are turned over are as many
-length-complemented : (count : ℕ) (bs : List Bool) → length (complemented count bs) ≡ length bs
+pub length-complemented : (count : ℕ) (bs : List Bool) → length (complemented count bs) ≡ length bs
 unfolding complemented
 length-complemented zero bs = refl
 length-complemented (suc count) [] = refl

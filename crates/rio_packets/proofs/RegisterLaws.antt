@@ -112,7 +112,7 @@ added_to_nothing r =
     let size : length (bits 16 r) ≡ 16 = length-bits 16 r in
     rw (append-nil (bits 16 r), size) at alone
 
-length-crc16_divisor : length crc16_divisor ≡ 17
+pub length-crc16_divisor : length crc16_divisor ≡ 17
 unfolding crc16_divisor
 length-crc16_divisor = ap (λ n. suc n) (length-bits 16 0x1021)
 

@@ -1,20 +1,15 @@
 -- The tables of the CRC, and how they lead the register over four bytes at once.
-use Rattle.std.proofs.Common.{◌≡◌, ℕ, zero, suc, ◌+◌, ◌<◌, List, [], ◌∷◌, get_or, refl, ap, ◌∙◌, arith}
+use Rattle.std.proofs.Common.{◌≡◌, ℕ, ◌+◌, ◌-◌, ◌<◌, false, ◌++◌, length, replicate, get_or, refl, sym, ap, ◌∙◌, arith, lit<, length-append}
+use Rattle.crc_division.specs.Bits.{bits}
+use Rattle.crc_division.specs.Division.{added, division_steps, remainder}
+use Rattle.crc_division.proofs.BitsLaws.{length-bits, bits_of_zero}
+use Rattle.crc_division.proofs.DivisionLaws.{added_zeros}
+use Rattle.crc_division.proofs.Entries.{entries, entry}
+use Rattle.rio_packets.specs.Crc16.{crc16_divisor}
 use Rattle.rio_packets.specs.declared.tables.TheConstants.{CRC16_TABLE, AFTER_ONE_ZERO, AFTER_TWO_ZEROS, AFTER_THREE_ZEROS}
 use Rattle.rio_packets.specs.Register.{shifted, shifted_times, fed}
 use Rattle.rio_packets.specs.Tables.{after_zeros}
-
--- what a function says of the numbers from one on
-abbrev entries : ℕ → ℕ → (ℕ → ℕ) → List ℕ
-entries zero from f = []
-entries (suc count) from f = f from ∷ entries count (suc from) f
-
-get_or-entries : (count from i : ℕ) (f : ℕ → ℕ) → i < count → get_or (entries count from f) i 0 ≡ f (from + i)
-get_or-entries zero from i f h = absurd (omega arith)
-get_or-entries (suc count) from zero f h = let same : from ≡ from + 0 = omega arith in ap f same
-get_or-entries (suc count) from (suc i) f h =
-    let same : suc from + i ≡ from + suc i = omega arith in
-    get_or-entries count (suc from) i f (omega arith) ∙ ap f same
+use Rattle.rio_packets.proofs.RegisterLaws.{division_steps-fed, added_to_nothing, length-crc16_divisor}
 
 table_none : CRC16_TABLE ≡ entries 256 0 (after_zeros 0)
 unfolding fed shifted_times shifted
@@ -32,20 +27,28 @@ table_three : AFTER_THREE_ZEROS ≡ entries 256 0 (after_zeros 3)
 unfolding fed shifted_times shifted
 table_three = refl
 
--- each entry of a table that was compared with the rule
-entry : (table : List ℕ) (f : ℕ → ℕ) (b : ℕ) → table ≡ entries 256 0 f → b < 256 → get_or table b 0 ≡ f b
-entry table f b is h =
-    let same : 0 + b ≡ b = omega arith in
-    ap (λ (t : List ℕ). get_or t b 0) is ∙ get_or-entries 256 0 b f h ∙ ap f same
-
 pub entry_none : (b : ℕ) → b < 256 → get_or CRC16_TABLE b 0 ≡ after_zeros 0 b
-entry_none b h = entry CRC16_TABLE (after_zeros 0) b table_none h
+entry_none b h = entry 256 CRC16_TABLE (after_zeros 0) b table_none h
 
 pub entry_one : (b : ℕ) → b < 256 → get_or AFTER_ONE_ZERO b 0 ≡ after_zeros 1 b
-entry_one b h = entry AFTER_ONE_ZERO (after_zeros 1) b table_one h
+entry_one b h = entry 256 AFTER_ONE_ZERO (after_zeros 1) b table_one h
 
 pub entry_two : (b : ℕ) → b < 256 → get_or AFTER_TWO_ZEROS b 0 ≡ after_zeros 2 b
-entry_two b h = entry AFTER_TWO_ZEROS (after_zeros 2) b table_two h
+entry_two b h = entry 256 AFTER_TWO_ZEROS (after_zeros 2) b table_two h
 
 pub entry_three : (b : ℕ) → b < 256 → get_or AFTER_THREE_ZEROS b 0 ≡ after_zeros 3 b
-entry_three b h = entry AFTER_THREE_ZEROS (after_zeros 3) b table_three h
+entry_three b h = entry 256 AFTER_THREE_ZEROS (after_zeros 3) b table_three h
+
+-- the remainder of a byte and sixteen 0 bits
+remainder_of_byte : (b : ℕ) → b < 256 → remainder (bits 8 b ++ replicate 16 false) crc16_divisor ≡ bits 16 (fed 0 b)
+remainder_of_byte b h =
+    let zeros = replicate 16 false in
+    let alone = bits 8 b ++ zeros in
+    let steps : length alone + 1 - length crc16_divisor ≡ 8 =
+    rw (length-append (bits 8 b) zeros, length-bits 8 b, length-crc16_divisor) (omega arith) in
+    let empty : added (bits 16 0) alone ≡ alone = ap (λ t. added t alone) (bits_of_zero 16) ∙ added_zeros 16 alone in
+    ap (λ n. division_steps n crc16_divisor alone) steps ∙ ap (division_steps 8 crc16_divisor) (sym empty)
+    ∙ division_steps-fed 0 b zeros (lit< tt) h ∙ added_to_nothing (fed 0 b)
+
+pub entry-remainder : (b : ℕ) → b < 256 → bits 16 (get_or CRC16_TABLE b 0) ≡ remainder (bits 8 b ++ replicate 16 false) crc16_divisor
+entry-remainder b h = ap (bits 16) (entry_none b h) ∙ sym (remainder_of_byte b h)

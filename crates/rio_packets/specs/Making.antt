@@ -15,3 +15,7 @@ with_more message (b ∷ bs) = with_crc (message ++ b ∷ bs)
 -- the link form of a body, which has its first CRC after at most 80 bytes
 abbrev pub made : List ℕ → List ℕ
 made body = padded (with_more (with_crc (take 80 body)) (drop 80 body))
+
+-- the most bytes that may follow the source ID of a packet: with them the body has 272
+abbrev pub most_rest : ℕ
+most_rest = 268

@@ -3,15 +3,15 @@ ghost use Rattle.std.specs.Prelude.{◌≡◌, ◌+◌, ◌%◌, ◌<◌, ◌≤
 ghost use Rattle.arrayvec.specs.ArrayVec.{array_vec_len};
 ghost use Rattle.rio_packets.specs.LinkForm.{LinkForm, IsBadLength, padded};
 ghost use Rattle.rio_packets.specs.Fields.{body_of};
-ghost use Rattle.rio_packets.specs.Making.{with_crc, with_more};
+ghost use Rattle.rio_packets.specs.Making.{most_rest, with_crc, with_more};
 ghost use Rattle.rio_packets.specs.Register.{running};
 
 use crate::crc::{PRESET, run};
 use crate::packet::{MAX_BYTES, Packet, append};
 use arrayvec::ArrayVec;
 
-/// How many bytes may follow the IDs of a packet.
-const MAX_REST: usize = 268;
+/// The most bytes that may follow the source ID of a packet.
+pub const MAX_REST: usize = 268;
 
 /// How many of them come before the first CRC.
 const FIRST_REST: usize = 76;
@@ -55,7 +55,7 @@ fn made_of(header: &Header, rest: &[u8]) -> Packet
     requires prio { header.now.prio < 4 }
     requires ftype { header.now.ftype < 16 }
     requires even { length rest.now % 2 ≡ 0 }
-    requires most { length rest.now ≤ 268 }
+    requires most { length rest.now ≤ most_rest }
     ensures { LinkForm
         (body_of header.now.prio header.now.ftype header.now.dest header.now.source rest.now) result }
 {

@@ -1,6 +1,6 @@
 -- The CRC of a control symbol: the polynomial and the preset are the standard's, the bit that is added
 -- to the nineteen is this project's profile.
-use Rattle.std.specs.Prelude.{ℕ, Bool, true, false, List, [], ◌∷◌, ◌++◌}
+use Rattle.std.specs.Prelude.{ℕ, Bool, true, false, List, [], ◌∷◌, ◌++◌, replicate}
 use Rattle.crc_division.specs.Bits.{bits, number}
 use Rattle.crc_division.specs.Division.{remainder, complemented}
 use Rattle.rio_symbols.specs.Fields.{Fields}
@@ -26,3 +26,7 @@ crc5_of symbol = remainder (crc5_message symbol) crc5_divisor
 -- the CRC as a number
 unfoldable pub crc5_value : Fields → ℕ
 crc5_value symbol = number (crc5_of symbol)
+
+-- the remainder of a number's five bits and five 0 bits behind them, as a number
+abbrev pub crc5_entry : ℕ → ℕ
+crc5_entry five = number (remainder (bits 5 five ++ replicate 5 false) crc5_divisor)

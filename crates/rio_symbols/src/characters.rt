@@ -1,3 +1,5 @@
+//! The special characters that stand before symbols.
+
 /// The special character that comes before the three bytes of a symbol.
 #[derive(Clone, Copy, Debug, PartialEq, Eq)]
 pub enum Delimiter {

@@ -1,3 +1,4 @@
+//! Which delimiter stands before which symbol.
 ghost use Rattle.std.specs.Prelude.{◌≡◌, ◌≤◌, ◌<◌, ◌↔◌, IsTrue};
 ghost use Rattle.rio_symbols.specs.Delimiters.{allowed, delimiter_of};
 ghost use Rattle.rio_symbols.specs.Fields.{Fields, InRange};

@@ -1,3 +1,4 @@
+//! A symbol and its three bytes, in both directions.
 ghost use Rattle.std.specs.Prelude.{◌≡◌, ◌↔◌, ◌≢◌, ℕ, ◌%◌, List, [], ◌∷◌, ◌++◌, IsErr, IfErr, IfOk, Ok, Some, None};
 ghost use Rattle.std.specs.List.{flat_map};
 ghost use Rattle.std.specs.Result.{result_ok};

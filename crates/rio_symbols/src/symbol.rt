@@ -1,3 +1,4 @@
+//! The fields of a control symbol.
 use std::marker::Model;
 
 /// What a control symbol says: the fields of RapidIO Interconnect Specification 1.3, Part 6,

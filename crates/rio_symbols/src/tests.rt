@@ -1,3 +1,4 @@
+//! Symbols whose bytes were computed elsewhere.
 use super::*;
 use Delimiter::{Pd, Sc};
 
@@ -66,7 +67,7 @@ fn changed_symbols_are_refused_with_both_crcs(rt: HostRuntime) {
     }
 }
 
-// Whether the bytes are read as these fields, are written for them, and come after that delimiter.
+/// Whether the bytes are read as these fields, are written for them, and come after that delimiter.
 fn is_spelled(fields: [u8; 5], bytes: [u8; 3], before: Delimiter) -> bool {
     match from_bytes(&bytes) {
         Ok(symbol) => {

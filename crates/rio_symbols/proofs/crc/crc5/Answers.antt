@@ -1,25 +1,22 @@
-use Rattle.std.proofs.Common.{◌-◌, ◌∙◌, ap, sym, arith}
-use Rattle.rio_symbols.specs.Crc5.{crc5_divisor}
-use Rattle.crc_division.specs.Division.{division_steps}
-use Rattle.rio_symbols.proofs.CrcLaws.{crc5_of-steps, turn_at_one, turn_at_zero, end_bits, end_value}
+use Rattle.std.proofs.Common.{◌≡◌, ◌*◌, ◌/◌, ◌%◌, ◌^◌, bit_xor, ap, sym, ◌∙◌, arith}
+use Rattle.std.proofs.lemmas.Nat.{shl_whole}
+use Rattle.rio_symbols.specs.Crc5.{crc5_entry}
+use Rattle.rio_symbols.proofs.CrcLaws.{crc5_of-table, crc5_value-of_bits}
 use Rattle.rio_symbols.proofs.crc.crc5.Goals as goal
 
-pub loop-place-init : goal.loop-place-init
-loop-place-init c =
-    ap (division_steps 20 crc5_divisor) c.preset_message-register.ensures ∙ sym (crc5_of-steps c.args.symbol.now)
-
-pub loop-place-preserved-then-register-place-eq1 : goal.loop-place-preserved-then-register-place-eq1
-loop-place-preserved-then-register-place-eq1 c =
-    turn_at_one c.loop-place.place (c.loop-place.place - 1) c.loop-place.register (omega arith) (omega arith) c.if-register-place-eq1.true
-    ∙ c.loop-place.invariant
-
-pub loop-place-preserved : goal.loop-place-preserved
-loop-place-preserved c =
-    turn_at_zero c.loop-place.place (c.loop-place.place - 1) c.loop-place.register (omega arith) c.if-register-place-eq1.false
-    ∙ c.loop-place.invariant
+pub returns-clause-bits : goal.returns-clause-bits
+returns-clause-bits c =
+    let n = c.field_number-bits.result in
+    let whole : n * 2 % 4294967296 ≡ n * 2 = shl_whole n 19 1 32 c.field_number-bits.ensures.small (omega arith) in
+    let same : n * 2 / 2 ^ 0 % 32 ≡ n * 2 % 32 = omega arith in
+    sym (crc5_of-table c.args.symbol.now n c.feed-register.result c.feed-register-2.result c.feed-register-3.result c.feed.result
+    c.field_number-bits.ensures.bits
+    (c.feed-register.ensures.value ∙ ap (λ m. crc5_entry (bit_xor 31 (m / 2 ^ 15 % 32))) whole)
+    (c.feed-register-2.ensures.value ∙ ap (λ m. crc5_entry (bit_xor c.feed-register.result (m / 2 ^ 10 % 32))) whole)
+    (c.feed-register-3.ensures.value ∙ ap (λ m. crc5_entry (bit_xor c.feed-register-2.result (m / 2 ^ 5 % 32))) whole)
+    (c.feed.ensures.value ∙ ap (λ m. crc5_entry (bit_xor c.feed-register-3.result (m % 32))) whole
+    ∙ ap (λ m. crc5_entry (bit_xor c.feed-register-3.result m)) (sym same)))
 
 pub returns-clause-value : goal.returns-clause-value
-returns-clause-value c = end_value c.loop-place.place c.loop-place.register c.args.symbol.now c.loop-place-test.false c.loop-place.invariant
-
-pub returns-clause-bits : goal.returns-clause-bits
-returns-clause-bits c = end_bits c.loop-place.place c.loop-place.register c.args.symbol.now c.loop-place-test.false c.loop-place.invariant
+returns-clause-value c =
+    crc5_value-of_bits c.args.symbol.now c.feed.result c.feed.ensures.small (sym (returns-clause-bits c))
