@@ -110,6 +110,7 @@ struct Draft {
 }
 
 impl Draft {
+    /// Nothing yet, with the preset register.
     fn new() -> Draft
         ensures items { result.bytes.items ≡ [] }
         ensures len { array_vec_len result.bytes ≡ 0 }
@@ -120,6 +121,7 @@ impl Draft {
         }
     }
 
+    /// Bytes behind what stands.
     fn push(&mut self, more: &[u8])
         requires { array_vec_len self.old.bytes + length more.now ≤ 276 }
         ensures items { self.new.bytes.items ≡ self.old.bytes.items ++ more.now }
@@ -129,6 +131,7 @@ impl Draft {
         self.register = run(self.register, more);
     }
 
+    /// The CRC of what stands, behind it.
     fn push_crc(&mut self)
         requires { array_vec_len self.old.bytes ≤ 274 }
         ensures items { self.new.bytes.items ≡ with_crc self.old.bytes.items }
@@ -152,6 +155,7 @@ impl Draft {
         }
     }
 
+    /// Two zero bytes where the length is no multiple of four.
     fn pad(&mut self)
         requires even { array_vec_len self.old.bytes % 2 ≡ 0 }
         requires room { array_vec_len self.old.bytes ≤ 276 }
