@@ -22,7 +22,7 @@ const HEX_VALUES: [u8; 256] = [
     255, 255, 255, 255,
 ];
 
-// The lower-case digit of a number below 16.
+/// The lower-case digit of a number below 16.
 pub(crate) fn hex_digit(number: u8) -> u8
     requires { number < 16 }
     ensures { result ≡ hex_digit_of number }
@@ -34,7 +34,7 @@ pub(crate) fn hex_digit(number: u8) -> u8
     }
 }
 
-// Writes two digits for each byte.
+/// Writes two digits for each byte.
 pub(crate) fn write_hex(room: &mut [u8], bytes: &[u8])
     requires { length room.old ≡ 2 * length bytes.now }
     ensures { room.new ≡ hex_of bytes.now }
@@ -61,7 +61,7 @@ pub fn write_decimal(number: u32, digits: &mut [u8; 10]) -> usize
     begin
 }
 
-// The number of a lower-case digit, and 255 for a byte that is no digit.
+/// The number of a lower-case digit, and 255 for a byte that is no digit.
 fn hex_value(digit: u8) -> u8
     ensures digit { result < 16 → digit ≡ hex_digit_of result }
     ensures none { 16 ≤ result → (number : ℕ) → number < 16 → digit ≢ hex_digit_of number }

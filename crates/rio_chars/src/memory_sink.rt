@@ -66,7 +66,7 @@ impl MemSink {
         &self.buffer[..self.len]
     }
 
-    // Takes bytes that have room.
+    /// Takes bytes that have room.
     fn keep(&mut self, bytes: &[u8])
         requires { length bytes.now ≤ self.old.room }
         ensures { self.new ≡ record self.old { written = self.old.written ++ bytes.now; room = self.old.room - length bytes.now } }

@@ -75,7 +75,7 @@ impl Source for MemSource {
     }
 }
 
-// The least of three numbers.
+/// The least of three numbers.
 pub(crate) fn least(first: usize, second: usize, third: usize) -> usize
     ensures { result ≡ min first (min second third) }
 {

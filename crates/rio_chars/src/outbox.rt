@@ -118,7 +118,7 @@ impl<'a, K: Sink> Outbox<'a, K> {
         self.buffer.clear();
     }
 
-    // Tells the digits of bytes that have room in an empty buffer.
+    /// Tells the digits of bytes that have room in an empty buffer.
     fn write_hex_part(&mut self, bytes: &[u8])
         requires { length bytes.now ≤ 32768 }
         ensures { Writes K.written K.faults self.old self.new (hex_of bytes.now) }
@@ -129,7 +129,7 @@ impl<'a, K: Sink> Outbox<'a, K> {
         self.buffer.append_hex(bytes);
     }
 
-    // Tells the texts of data characters that have room in an empty buffer.
+    /// Tells the texts of data characters that have room in an empty buffer.
     fn write_data(&mut self, chars: &[Char])
         requires most { length chars.now ≤ 16384 }
         requires are_data { AreData chars.now }
@@ -141,7 +141,7 @@ impl<'a, K: Sink> Outbox<'a, K> {
         self.buffer.append_data(chars);
     }
 
-    // Tells bytes that have no room behind those that wait.
+    /// Tells bytes that have no room behind those that wait.
     fn write_long(&mut self, bytes: &[u8])
         ensures { Writes K.written K.faults self.old self.new bytes.now }
     {
@@ -153,7 +153,7 @@ impl<'a, K: Sink> Outbox<'a, K> {
         }
     }
 
-    // Writes bytes where none wait.
+    /// Writes bytes where none wait.
     fn pass(&mut self, bytes: &[u8])
         requires { self.old.buffer.now ≡ [] }
         ensures { Writes K.written K.faults self.old self.new bytes.now }
