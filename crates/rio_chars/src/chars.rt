@@ -1,3 +1,4 @@
+//! Characters of a wire.
 ghost use Rattle.std.specs.Prelude.{◌≡◌};
 
 use std::marker::Model;

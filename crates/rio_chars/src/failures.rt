@@ -1,3 +1,4 @@
+//! The failures that reading and writing tell.
 use std::alloc::AllocError;
 
 /// A read or a write failed.

@@ -1,3 +1,4 @@
+//! Room in memory, and bytes copied into it.
 ghost use Rattle.std.specs.Prelude.{◌≡◌, ◌≤◌, length, take, drop, IfOk};
 
 use std::alloc::{AllocError, Global};

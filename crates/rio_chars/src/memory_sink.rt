@@ -1,3 +1,4 @@
+//! A sink that keeps in memory what is written.
 ghost use Rattle.std.specs.Prelude.{◌≡◌, ◌≤◌, ◌<◌, ◌-◌, ◌↔◌, ◌⊎◌, ◌++◌, [], Some, length, min, IfOk, OnOk, OnErr, IsErr};
 ghost use Rattle.std.specs.List.{Contains};
 ghost use Rattle.std.specs.Io.KnownBytes.{WriteAppends};

@@ -1,3 +1,4 @@
+//! A source that reads from memory.
 ghost use Rattle.std.specs.Prelude.{◌≡◌, ◌≤◌, ◌<◌, ◌↔◌, ℕ, List, Some, length, min, IfOk, OnOk, OnErr, IsErr, take, drop};
 ghost use Rattle.std.specs.List.{Contains};
 ghost use Rattle.std.specs.Io.KnownBytes.{ReadConsumes};

@@ -1,3 +1,4 @@
+//! Output that waits in a buffer until it is written.
 ghost use Rattle.std.specs.Prelude.{◌≡◌, ◌≤◌, false, [], length, take};
 ghost use Rattle.std.specs.Fmt.{decimal};
 ghost use Rattle.rio_chars.specs.CharText.{spaced_chars, AreData};

@@ -1,3 +1,4 @@
+//! Input read to its end.
 ghost use Rattle.std.specs.Prelude.{◌≡◌, ◌≤◌, ◌<◌, ◌+◌, ◌++◌, ℕ, List, length, IfOk, OnOk, IsErrOf, IsOk, IfSome, IsTrue, IsFalse};
 ghost use Rattle.std.specs.Io.KnownBytes.{Consumes, IsAtEnd};
 ghost use Rattle.rio_chars.specs.Faults.{Rose};

@@ -1,3 +1,4 @@
+//! Where bytes are written to.
 ghost use Rattle.std.specs.Prelude.{◌≡◌, List, ℕ, Option, length, ◌≤◌, ◌<◌, IfOk, OnOk, OnErr};
 ghost use Rattle.std.specs.Io.KnownBytes.{WriteAppends};
 ghost use Rattle.rio_chars.specs.Faults.{Rose};

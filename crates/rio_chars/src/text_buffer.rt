@@ -1,3 +1,4 @@
+//! A buffer of text.
 ghost use Rattle.std.specs.Prelude.{◌≡◌, ◌≤◌, ◌+◌, ◌*◌, ◌++◌, [], length, take, IfOk};
 ghost use Rattle.rio_chars.specs.CharText.{spaced_chars, AreData};
 ghost use Rattle.rio_chars.specs.HexText.{hex_of};

@@ -1,3 +1,4 @@
+//! The text of a character, in both directions.
 ghost use Rattle.std.specs.Prelude.{◌≡◌, ◌≢◌, ◌∷◌, [], Some, IfSome, IfNone};
 ghost use Rattle.rio_chars.specs.CharText.{char_text_of, HasByte};
 ghost use Rattle.rio_chars.specs.HexText.{hex_of};

@@ -1,3 +1,4 @@
+//! Bytes written to a sink, all of them.
 ghost use Rattle.std.specs.Prelude.{◌≡◌, ◌≤◌, OnOk, OnErr};
 ghost use Rattle.std.specs.Io.KnownBytes.{Appends};
 ghost use Rattle.rio_chars.specs.Faults.{Rose};
