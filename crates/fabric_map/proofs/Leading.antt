@@ -11,7 +11,7 @@ use Rattle.fabric_map.proofs.Order.{further_from_between}
 abbrev node_of : Option PortRef → Option ℕ
 node_of o = option_map (λ (p : PortRef). p.node) o
 
-followed-host : (topology : Topology) → followed topology topology.host ≡ 1
+pub followed-host : (topology : Topology) → followed topology topology.host ≡ 1
 followed-host topology = rw (eq-eqb topology.host topology.host refl) refl
 
 -- every path that leads to a device stands before the path after all
@@ -49,6 +49,22 @@ along-onward topology at (x ∷ path) port =
         (λ next. along topology next path) o)
     go None more = refl
     go (Some next) more = more next
+
+-- a path that goes on behind another leads on from its device
+pub along-append : (topology : Topology) (at : PortRef) (path rest : List ℕ) (last : PortRef)
+    → along topology at path ≡ Some last
+    → along topology at (path ++ rest) ≡ along topology last rest
+along-append topology at [] rest last leads = ap (λ (p : PortRef). along topology p rest) (cc)
+along-append topology at (x ∷ path) rest last leads =
+    go (behind topology at.node x) leads
+    (λ next leads_on. along-append topology next path rest last leads_on)
+  where
+    go : (o : Option PortRef) → option_and_then (λ next. along topology next path) o ≡ Some last
+        → ((next : PortRef) → along topology next path ≡ Some last
+        → along topology next (path ++ rest) ≡ along topology last rest)
+        → option_and_then (λ next. along topology next (path ++ rest)) o ≡ along topology last rest
+    go None leads on = absurd (cc)
+    go (Some next) leads on = on next leads
 
 -- where a path leads on depends on the device alone
 along-same_device : (topology : Topology) (p q : PortRef) (path : List ℕ) → p.node ≡ q.node

@@ -5,5 +5,7 @@ mod Leading
 mod Maps
 mod Firsts
 mod Endpoints
+mod Steps
+mod Ways
 mod Worked
 mod Ring

@@ -5,6 +5,7 @@ use Rattle.fabric_map.specs.Topology.{port_at, node_at}
 use Rattle.fabric_map.specs.Walked.{IsNotAfter, onward, IsMet, Walked, after_all_paths}
 use Rattle.fabric_map.specs.Numbered.{is_given, AreDescribed, IsMap}
 use Rattle.fabric_map.specs.Examples.{ring, ring_devices, ring_entries}
+use Rattle.fabric_map.proofs.Order.{front_of, front_of-onward}
 use Rattle.fabric_map.proofs.Lists.{AllPairs-rising}
 use Rattle.fabric_map.proofs.Leading.{leads_before_all, onward_is_followed}
 
@@ -34,17 +35,6 @@ each P a b c d e f g path (suc (suc (suc (suc (suc zero)))), within, same) = sub
 each P a b c d e f g path (suc (suc (suc (suc (suc (suc zero))))), within, same) = subst P same g
 each P a b c d e f g path (suc (suc (suc (suc (suc (suc (suc k)))))), within, same) = absurd
     (omega (arith, within))
-
--- a path without its last port
-abbrev front_of : List ℕ → List ℕ
-front_of [] = []
-front_of (x ∷ []) = []
-front_of (x ∷ y ∷ path) = x ∷ front_of (y ∷ path)
-
-front_of-onward : (path : List ℕ) (port : ℕ) → front_of (onward path port) ≡ path
-front_of-onward [] port = refl
-front_of-onward (x ∷ []) port = refl
-front_of-onward (x ∷ y ∷ path) port = ap (λ l. x ∷ l) (front_of-onward (y ∷ path) port)
 
 -- the path of each device
 abbrev path_for : Option ℕ → List ℕ

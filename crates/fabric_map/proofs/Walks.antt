@@ -8,7 +8,7 @@ use Rattle.fabric_map.proofs.Order.{Before-irreflexive, Before-transitive, Befor
 use Rattle.fabric_map.proofs.Lists.{front_is_before, is_in_front, Contains-middle}
 
 -- a path is empty or has a last port
-last_port : (path : List ℕ)
+pub last_port : (path : List ℕ)
     → (path ≡ []) ⊎ ((front : List ℕ) × (port : ℕ) × (path ≡ onward front port))
 last_port [] = inl refl
 last_port (x ∷ path) = inr (go (last_port path))

@@ -1,14 +1,14 @@
 -- The laws of maps: what is reached is in the map, once and below the device that it was met
 -- behind; and every map of one fabric is the same, and so is the first locked device.
-use Rattle.std.specs.Prelude.{◌≡◌, ℕ, ◌≤◌, List, ◌∷◌, ◌++◌, Contains, Some}
+use Rattle.std.specs.Prelude.{◌≡◌, ◌≢◌, ℕ, ◌+◌, ◌<◌, ◌≤◌, List, [], ◌∷◌, ◌++◌, Contains, Some, IsSome}
 use Rattle.fabric_script.specs.declared.ports.PortRef.{PortRef}
 use Rattle.fabric_map.specs.declared.map.Device.{Device}
 use Rattle.fabric_map.specs.declared.map.Entry.{Entry}
 use Rattle.fabric_map.specs.Topology.{Topology, node_at, IsReached}
-use Rattle.fabric_map.specs.Walked.{Before, onward, Walked, after_all_paths}
+use Rattle.fabric_map.specs.Walked.{Before, onward, IsMet, Walked, after_all_paths}
 use Rattle.fabric_map.specs.Routes.{Registers, Arrives}
 use Rattle.fabric_map.specs.Numbered.{IsMap}
-use Rattle.fabric_map.specs.Locked.{IsFirstLocked}
+use Rattle.fabric_map.specs.Locked.{IsNext, IsFirstLocked}
 
 -- The map of a fabric is determined by its devices and links and the ID of the host.
 abbrev pub OneMap : Type 0
@@ -46,3 +46,29 @@ abbrev pub OneEndpoint : Type 0
 OneEndpoint = (topology : Topology) (registers : Registers) (id node other : ℕ) (at : PortRef)
     → Arrives topology registers id node at → Arrives topology registers id other at
     → node ≡ other
+
+-- The next port is tried if nothing is behind this one, or what is there is met.
+abbrev pub GoesPast : Type 0
+GoesPast = (topology : Topology) (paths : List (List ℕ)) (path : List ℕ) (port : ℕ)
+    → Walked topology paths (onward path port) → Contains paths path
+    → (IsSome (node_at topology (onward path port)) → IsMet topology paths (onward path port))
+    → Walked topology paths (onward path (port + 1))
+
+-- A device that is not met yet is met next, and its ports are tried from 0 up.
+abbrev pub TakesIn : Type 0
+TakesIn = (topology : Topology) (paths : List (List ℕ)) (path : List ℕ)
+    → Walked topology paths path → IsNext paths path → IsSome (node_at topology path)
+    → ((other : List ℕ) → Contains paths other → node_at topology other ≢ node_at topology path)
+    → Walked topology (paths ++ path ∷ []) (onward path 0)
+
+-- When all ports of a device are tried, as of an endpoint none are, the port behind which it was
+-- met is done.
+abbrev pub Closes : Type 0
+Closes = (topology : Topology) (paths : List (List ℕ)) (path : List ℕ) (port ports : ℕ)
+    → Walked topology paths (onward (onward path port) ports)
+    → ((on : ℕ) → IsSome (node_at topology (onward (onward path port) on)) → on < ports)
+    → Walked topology paths (onward path (port + 1))
+
+-- Before the host, nothing is met.
+abbrev pub Begins : Type 0
+Begins = (topology : Topology) → Walked topology [] []

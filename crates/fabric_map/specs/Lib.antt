@@ -4,4 +4,5 @@ pub mod Routes
 pub mod Numbered
 pub mod Locked
 pub mod Laws
+pub mod Ways
 pub mod Examples

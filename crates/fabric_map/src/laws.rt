@@ -1,5 +1,6 @@
 //! Laws of maps, for whoever states something of an enumeration.
-ghost use Rattle.fabric_map.specs.Laws.{OneMap, OneWalk, OneFirstLocked, EachIsReached, LaterIsBelow, OneEndpoint};
+ghost use Rattle.fabric_map.specs.Laws.{OneMap, OneWalk, OneFirstLocked, EachIsReached, LaterIsBelow, OneEndpoint, GoesPast, TakesIn, Closes, Begins};
+ghost use Rattle.fabric_map.specs.Ways.{RequestEnds, AnswerReturns};
 
 /// A fabric whose host has an ID has at most one map, and the devices that are met before one path
 /// are determined.
@@ -24,4 +25,22 @@ pub fn a_map_is_whole()
 /// Packets for one ID that leave one port come to at most one endpoint.
 pub fn an_id_has_one_endpoint()
     ensures { OneEndpoint }
+{}
+
+/// How a walk goes on, said of the devices that are met and the path that is tried next, and of
+/// nothing else: from no device at all, past a port, to a device that is not met yet, and back when
+/// its ports are tried.
+pub fn a_walk_goes_on()
+    ensures begun { Begins }
+    ensures past { GoesPast }
+    ensures taken { TakesIn }
+    ensures closed { Closes }
+{}
+
+/// A request ends at the device on its path, and the answer at the host, if each switch on the path
+/// sends packets for 255 onwards and packets for the host's ID back. The tables of the device
+/// itself do not matter.
+pub fn a_host_asks_along_a_path()
+    ensures request { RequestEnds }
+    ensures answer { AnswerReturns }
 {}

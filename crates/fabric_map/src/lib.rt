@@ -9,7 +9,7 @@
 //!
 //! - [`Map`] has the [`Device`]s, each with its [`Kind`] and its [`Path`], and each [`Entry`] of the route tables.
 //! - `specs/Topology.antt` says where a path leads, `specs/Walked.antt` in which order devices are met, `specs/Routes.antt`
-//!   where packets go, `specs/Numbered.antt` what a map says, and `specs/Locked.antt` which locked device is met first.
+//!   where packets go, `specs/Numbered.antt` what a map says, `specs/Locked.antt` which locked device is met first, and `specs/Ways.antt` how a host asks a device.
 #![tactic(auto)]
 
 mod examples;
@@ -18,6 +18,7 @@ mod map;
 
 pub use examples::{the_ring_has_its_map, wrong_maps_are_none};
 pub use laws::{
-    a_fabric_has_one_map, a_map_is_whole, an_id_has_one_endpoint, the_first_locked_is_one,
+    a_fabric_has_one_map, a_host_asks_along_a_path, a_map_is_whole, a_walk_goes_on,
+    an_id_has_one_endpoint, the_first_locked_is_one,
 };
 pub use map::{Device, Entry, Kind, Map, Path};
