@@ -1,12 +1,13 @@
-//! Many packets, deliveries in pieces, and watches that fail.
+//! Many packets, deliveries in pieces, watches that fail, and memory that is refused.
 ghost use Rattle.std.specs.Prelude.{◌≤◌, ◌<◌};
 ghost use Rattle.link_machine.specs.Sound.{IsSoundLink};
 ghost use Rattle.link_machine.specs.States.{link};
 
 use crate::LinkEnd;
-use crate::tests::{DATA, Pair, new_pair, packet};
+use crate::tests::{DATA, Pair, new_pair, packet, text};
+use crate::trace_tests::ACROSS;
 use link_port::{OutKind, PortFace};
-use link_watch::{Note, NoteEnd, Side, Watch};
+use link_watch::{Note, NoteEnd, NoteList, Side, Watch};
 use link_wires::Edit;
 use rio_packets::Packet;
 use std::alloc::Global;
@@ -125,9 +126,10 @@ fn pieces_cut_anywhere_hold_and_free_the_same(rt: HostRuntime) -> Result<(), Fai
     Ok(())
 }
 
-/// A watch that fails at its nth note.
+/// A watch that keeps so many notes, and fails at the next.
 #[derive(Drop)]
 struct Failing {
+    list: NoteList,
     left: u64,
     faults: u64,
 }
@@ -145,12 +147,15 @@ impl Watch for Failing {
 
     ghost cut_none = { λ watch note. tt };
 
-    fn note(&mut self, _alloc: Global, _note: &Note) -> Result<(), NoteEnd> {
+    fn note(&mut self, alloc: Global, note: &Note) -> Result<(), NoteEnd> {
         if self.left == 0 {
             self.faults = self.faults.saturating_add(1);
             return Err(NoteEnd::Failed);
         }
         self.left -= 1;
+        let Ok(()) = self.list.note(alloc, note) else {
+            return Err(NoteEnd::NoMemory);
+        };
         Ok(())
     }
 }
@@ -158,21 +163,44 @@ impl Watch for Failing {
 #[test]
 fn watch_that_fails_ends_the_call(rt: HostRuntime) -> Result<(), Fail> {
     let alloc = rt.alloc();
-    for left in 0..5u64 {
+    for left in 0..8u64 {
         let mut pair = new_pair(&rt, alloc, 8);
-        let mut watch = Failing { left, faults: 0 };
+        let mut watch = Failing {
+            list: NoteList::new(alloc),
+            left,
+            faults: 0,
+        };
         pair.send(packet(&rt, 0, &DATA));
-        let pumped = pair
+        let settled = pair
             .link
-            .pump(alloc, Side::A, 1, &mut pair.a, &mut pair.b, &mut watch);
-        assert_eq!(rt; pumped.is_ok(), left > 0);
-        if pumped.is_ok() {
-            let delivered = pair
-                .link
-                .deliver(alloc, Side::A, 20, &mut pair.a, &mut pair.b, &mut watch);
-            assert_eq!(rt; matches!(delivered, Err(LinkEnd::Failed)), left < 4);
+            .settle(alloc, &mut pair.a, &mut pair.b, &mut watch);
+        assert_eq!(rt; settled.is_ok(), left >= 6);
+        assert_eq!(rt; matches!(settled, Err(LinkEnd::Failed)), left < 6);
+        assert_eq!(rt; watch.faults, u64::from(left < 6));
+        let notes = watch.list.notes();
+        assert_eq!(rt; notes.len() as u64, left.min(6));
+        let lines = text(alloc, notes)?;
+        assert!(rt; ACROSS.as_bytes().starts_with(lines.as_slice()), "a front");
+    }
+    Ok(())
+}
+
+/// Memory is refused here only if the test is run so.
+#[test]
+fn refused_memory_leaves_a_front_of_the_notes(rt: HostRuntime) -> Result<(), Fail> {
+    let alloc = rt.alloc();
+    let mut pair = new_pair(&rt, alloc, 8);
+    pair.send(packet(&rt, 0, &DATA));
+    let settled = pair
+        .link
+        .settle(alloc, &mut pair.a, &mut pair.b, &mut pair.list);
+    let lines = text(alloc, pair.list.notes())?;
+    match settled {
+        Ok(()) => assert_eq!(rt; lines.as_slice(), ACROSS.as_bytes()),
+        Err(end) => {
+            assert!(rt; matches!(end, LinkEnd::NoMemory), "no memory");
+            assert!(rt; ACROSS.as_bytes().starts_with(lines.as_slice()), "a front");
         }
-        assert_eq!(rt; watch.faults, u64::from(left < 4));
     }
     Ok(())
 }

@@ -9,7 +9,7 @@ use std::process::Abort;
 use std::test::Fail;
 
 /// A packet between its two symbols, and its acceptance, across the link and back.
-const ACROSS: &str =
+pub(crate) const ACROSS: &str =
     "sent A k7c d80 df8 d1f d00 d0f d02 d01 dca dfe d00 d01 da9 dbb d00 d00 k7c d80 dfa d18
 got B k7c d80 df8 d1f d00 d0f d02 d01 dca dfe d00 d01 da9 dbb d00 d00 k7c d80 dfa d18
 hold B 000f0201cafe0001a9bb0000
@@ -194,13 +194,15 @@ free A 000f0201cafe46ff
 }
 
 #[test]
-fn three_packets_fly_with_three_acceptances(rt: HostRuntime) -> Result<(), Fail> {
+fn all_turns_send_three_packets_that_fly_with_three_acceptances(
+    rt: HostRuntime,
+) -> Result<(), Fail> {
     let alloc = rt.alloc();
     let mut pair = new_pair(&rt, alloc, 8);
     pair.send(packet(&rt, 0, &[]));
     pair.send(packet(&rt, 0, &[]));
     pair.send(packet(&rt, 0, &[]));
-    pair.pump(&rt, alloc, Side::A, 3);
+    pair.pump(&rt, alloc, Side::A, u32::MAX);
     pair.list = NoteList::new(alloc);
     pair.settle(&rt, alloc);
     pair.expect(

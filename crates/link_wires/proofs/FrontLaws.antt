@@ -1,5 +1,5 @@
 -- A front of characters that stand in two parts.
-use Rattle.std.proofs.Common.{◌≡◌, ℕ, zero, suc, ◌+◌, ◌-◌, ◌++◌, min, List, [], ◌∷◌, length, take, refl, sym, ap, ◌∙◌, arith}
+use Rattle.std.proofs.Common.{◌≡◌, ℕ, zero, suc, ◌-◌, ◌++◌, min, List, [], ◌∷◌, length, take, refl, ap, ◌∙◌, arith}
 use Rattle.rio_chars.specs.declared.chars.Char.{Char}
 
 pub front_is : (first second : List Char) (n m : ℕ) → m ≡ min (length first) n → take m first ++ take (n - m) second ≡ take n (first ++ second)

@@ -1,24 +1,19 @@
 -- What the code of a delivery has done is the delivery.
-use Rattle.std.proofs.Common.{◌≡◌, ℕ, suc, ◌+◌, ◌-◌, ◌<◌, ◌≤◌, ◌++◌, Bool, true, false, List, [], ◌∷◌, map, length, length-append, length-drop, take, drop, Option, Some, None, option_to_list, refl, sym, ap, ◌∙◌, subst, if◌then◌else◌, arith}
+use Rattle.std.proofs.Common.{◌≡◌, ℕ, suc, ◌+◌, ◌-◌, ◌<◌, ◌≤◌, ◌++◌, List, [], ◌∷◌, length, length-drop, take, drop, Option, Some, None, refl, sym, ap, ◌∙◌, subst, arith}
 use Rattle.std.proofs.lemmas.List.{take-append-drop, drop-drop, drop_all}
 use Rattle.rio_chars.specs.declared.chars.Char.{Char}
 use Rattle.rio_symbols.specs.Fields.{Fields}
 use Rattle.link_model.specs.declared.event.Event.{Event}
-use Rattle.link_model.specs.declared.event.Event.TheVariants.{Ctl, Pkt, Bad}
 use Rattle.link_model.specs.Fronts.{telling_front}
 use Rattle.link_model.specs.Places.{Place, run, place_after}
 use Rattle.link_model.specs.Reading.{placed}
 use Rattle.link_model.proofs.FrontLaws.{front-count, front-place, run-telling_front}
 use Rattle.link_model.proofs.PlacesLaws.{place_after-append, place_after-none, run-none}
-use Rattle.link_port.specs.Acts.{held_of}
 use Rattle.link_port.specs.Ports.{PortState}
-use Rattle.link_port.specs.Steps.{acts, is_acted}
-use Rattle.link_wires.specs.Kept.{behind}
 use Rattle.link_wires.specs.Wires.{WireState, without_front}
-use Rattle.link_wires.specs.Deliveries.{Told, Flow, Delivered, Through, Undetected, moves_of, done, met, comes, goes_on, come, ended, flows, told_of, undetected, flow_of, kept_after, Shows, IsLeft}
+use Rattle.link_wires.specs.Deliveries.{Flow, Delivered, Through, Undetected, comes, goes_on, come, ended, flows, told_of, undetected, flow_of, Shows, IsLeft}
 use Rattle.link_wires.specs.declared.moves.Move.{Move}
-use Rattle.link_wires.specs.declared.moves.Move.TheVariants.{Held, Freed}
-use Rattle.link_wires.proofs.DeliveryLaws.{moved, come_moved, come-append, in_pieces}
+use Rattle.link_wires.proofs.DeliveryLaws.{come_moved, come-append, in_pieces}
 
 -- ---- the events of one character
 

@@ -4,3 +4,4 @@ pub mod ActedLaws
 pub mod FrontLaws
 pub mod PumpLaws
 pub mod Leading
+pub mod QuietTurns

@@ -1,12 +1,12 @@
 -- One turn after another.
-use Rattle.std.proofs.Common.{◌≡◌, ℕ, zero, suc, ◌-◌, ◌++◌, ◌<◌, List, [], ◌∷◌, refl, sym, ap, ◌∙◌, arith, append_assoc}
+use Rattle.std.proofs.Common.{◌≡◌, ℕ, zero, suc, ◌-◌, ◌++◌, ◌<◌, List, [], ◌∷◌, refl, ap, ◌∙◌, arith, append_assoc}
 use Rattle.std.proofs.lemmas.List.{append-nil}
 use Rattle.rio_chars.specs.declared.chars.Char.{Char}
 use Rattle.rio_symbols.specs.Fields.{Fields}
 use Rattle.link_model.specs.declared.event.Event.TheVariants.{Ctl}
 use Rattle.link_model.specs.ReadingSpelt.{symbol_chars_of}
 use Rattle.link_port.specs.Ports.{PortState}
-use Rattle.link_port.specs.Turns.{Burst, turns_to, turn_sends}
+use Rattle.link_port.specs.Turns.{Burst, no_burst, turns_to, turn_sends}
 use Rattle.link_wires.specs.Wires.{WireState, with_sent, both_bursts, turned, bursts, answers}
 
 less_one : (n : ℕ) → suc n - 1 ≡ n
@@ -38,6 +38,9 @@ sent_both wire first next =
 pub sent_none : (wire : WireState) (port : PortState) → with_sent wire (bursts 0 port) ≡ wire
 unfolding bursts
 sent_none wire port = λ i. record { chars = append-nil wire.chars i; kept = append-nil wire.kept i }
+
+pub sent_nothing : (wire : WireState) (burst : Burst) → burst ≡ no_burst → with_sent wire burst ≡ wire
+sent_nothing wire burst none = ap (with_sent wire) none ∙ (λ i. record { chars = append-nil wire.chars i; kept = append-nil wire.kept i })
 
 -- a turn, and then the turns that are left
 pub turn_then : (wire : WireState) (n : ℕ) (port : PortState) → 0 < n

@@ -15,7 +15,8 @@ use std::alloc::Global;
 use std::collections::VecDeque;
 
 impl Wire {
-    /// Has a port take turns, and puts what it sends at the end of its wire. Returns the characters. `NoMemory` is the only
+    /// Has a port take turns, and puts what it sends at the end of its wire. Returns the characters. A turn that sends
+    /// nothing changes nothing, so it is the last. `NoMemory` is the only
     /// other answer, and after it the wire and the port are of no use.
     pub fn pump(
         &mut self,
@@ -31,7 +32,11 @@ impl Wire {
         let mut left = turns;
         while left > 0 {
             left -= 1;
-            self.send(port.turn(), &mut chars)?;
+            let burst = port.turn();
+            if burst.sent.is_empty() {
+                return Ok(chars);
+            }
+            self.send(burst, &mut chars)?;
         }
         Ok(chars)
     }

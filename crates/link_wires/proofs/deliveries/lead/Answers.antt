@@ -1,4 +1,4 @@
-use Rattle.std.proofs.Common.{◌≡◌, ◌+◌, ◌-◌, ◌<◌, ◌≤◌, List, [], ap, ◌∙◌, length, length-drop, drop, Some, None, arith}
+use Rattle.std.proofs.Common.{◌≡◌, ◌-◌, ◌<◌, ◌≤◌, List, [], ap, ◌∙◌, length, length-drop, drop, Some, None, arith}
 use Rattle.rio_chars.specs.declared.chars.Char.{Char}
 use Rattle.link_model.specs.Fronts.{telling_front}
 use Rattle.link_port.specs.Ports.{PortState}
