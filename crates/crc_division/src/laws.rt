@@ -25,7 +25,8 @@ pub fn remainders_are_short()
 /// A division that textbooks work by hand: 1101011011 with four 0 bits behind it, by x^4 + x + 1, leaves 1110.
 pub fn worked_division()
     ensures { remainder
-        (true ∷ true ∷ false ∷ true ∷ false ∷ true ∷ true ∷ false ∷ true ∷ true ∷ false ∷ false ∷ false ∷ false ∷ [])
+        (true ∷ true ∷ false ∷ true ∷ false ∷ true ∷ true ∷ false ∷ true ∷ true ∷ false ∷ false
+        ∷ false ∷ false ∷ [])
         (true ∷ false ∷ false ∷ true ∷ true ∷ [])
         ≡ true ∷ true ∷ true ∷ false ∷ [] }
 {}

@@ -30,7 +30,7 @@ pub kind-data : (byte : ℕ) → kind (Data byte) ≡ Byte byte
 unfolding kind
 kind-data byte = refl
 
-kind-delimiter : (d : Delimiter) → kind (delimiter_char d) ≡ Opens d
+pub kind-delimiter : (d : Delimiter) → kind (delimiter_char d) ≡ Opens d
 unfolding kind
 kind-delimiter Sc = refl
 kind-delimiter Pd = refl

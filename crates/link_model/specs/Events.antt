@@ -16,7 +16,8 @@ packet_or_cause None cause = Bad cause
 
 -- The event of the bytes between the symbols of a packet: the packet that they carry, or why they carry none.
 unfoldable pub packet_event : List ℕ → Event
-packet_event bytes = packet_or_cause (carried bytes) (if nat_lt (length bytes) 8 then General else BadPacket)
+packet_event bytes =
+    packet_or_cause (carried bytes) (if nat_lt (length bytes) 8 then General else BadPacket)
 
 -- the event of what a receiver answers of bytes
 abbrev pub checked_event : Result (ℕ × List ℕ) Cause → Event
@@ -25,7 +26,8 @@ checked_event (Err cause) = Bad cause
 
 -- whether two symbols have the same fields
 abbrev pub same_fields : Fields → Fields → Bool
-same_fields s t = (s.s0 == t.s0) && ((s.p0 == t.p0) && ((s.p1 == t.p1) && ((s.s1 == t.s1) && (s.cmd == t.cmd))))
+same_fields s t =
+    (s.s0 == t.s0) && ((s.p0 == t.p0) && ((s.p1 == t.p1) && ((s.s1 == t.s1) && (s.cmd == t.cmd))))
 
 -- whether two events are equal
 abbrev pub same_event : Event → Event → Bool

@@ -21,4 +21,5 @@ front_by (e ∷ es) first behind = record { count = 1; step = first }
 -- the characters up to and with the first that tells an event, or all where none does
 unfoldable pub telling_front : Place → List Char → Front
 telling_front from [] = no_front from
-telling_front from (c ∷ cs) = front_by (step from c).gives (step from c) (telling_front (step from c).place cs)
+telling_front from (c ∷ cs) =
+    front_by (step from c).gives (step from c) (telling_front (step from c).place cs)

@@ -25,7 +25,9 @@ pub data Arrival : Type 0 where
 
 -- a good packet with an ackID, where another is expected, and whether its priority has room
 abbrev pub packet_arrival : ℕ → ℕ → Bool → Arrival
-packet_arrival expected ack room = if ack == expected then (if room then ExpectedWithRoom else ExpectedWithoutRoom) else UnexpectedAck
+packet_arrival expected ack room =
+    if ack == expected then (if room then ExpectedWithRoom else ExpectedWithoutRoom)
+    else UnexpectedAck
 
 -- a control symbol by its stype1 and cmd; a link-request with another cmd than input-status is ignored (this
 -- project's profile)
@@ -48,7 +50,13 @@ silent state = record { state = state; reply = None; held = false }
 
 -- the packet of the expected ackID is accepted
 abbrev pub accepted : ℕ → Received
-accepted expected = record { state = Ok ((expected + 1) % 32); reply = Some (packet_accepted expected); held = true }
+accepted expected =
+    record {
+      state = Ok ((expected + 1) % 32);
+      reply = Some (packet_accepted expected);
+      held
+          = true;
+    }
 
 -- an error: the far port has to ask which packet is expected
 abbrev pub error : ℕ → ℕ → Received

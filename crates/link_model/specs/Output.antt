@@ -54,7 +54,8 @@ retried w ack = if is_oldest w ack then heard (RetryStopped w) 0 else error w
 abbrev pub responded : Bool → Outstanding → ℕ → Heard
 responded false w ack = ignored (ErrorStopped false w)
 responded true w ack =
-    if nat_le (distance w.oldest ack) (length w.prios) then heard (Ok (from_ack ack)) (distance w.oldest ack) else heard Failed 0
+    if nat_le (distance w.oldest ack) (length w.prios)
+    then heard (Ok (from_ack ack)) (distance w.oldest ack) else heard Failed 0
 
 -- what a symbol with the ackID does: one clause for each entry of the table
 abbrev pub hears : Stype0 → Output → ℕ → Heard

@@ -88,7 +88,8 @@ broken (Byte byte) = fails Skipped Nothing BadChar
 
 -- a symbol that was spelled, where its delimiter allows it and where it does not
 abbrev pub taken : Text → Fields → Bool → Step
-taken text symbol true = record { place = place (text_after text symbol.s1) Nothing; gives = told text symbol }
+taken text symbol true =
+    record { place = place (text_after text symbol.s1) Nothing; gives = told text symbol }
 taken text symbol false = fails Skipped Nothing General
 
 -- the third byte of a symbol, by what the three spell

@@ -61,64 +61,99 @@ pub record IsWhole (d : Delimiter) (c x y z : Char) (i j k : ℕ) : Type 0 where
 -- a delimiter and fewer than three data characters
 pub data IsUnfinished : List Char → Type 0 where
   no_byte : {c : Char} {d : Delimiter} → kind c ≡ Opens d → IsUnfinished (c ∷ [])
-  one_byte : {c x : Char} {d : Delimiter} {i : ℕ} → kind c ≡ Opens d → kind x ≡ Byte i → IsUnfinished (c ∷ x ∷ [])
-  two_bytes : {c x y : Char} {d : Delimiter} {i j : ℕ} → kind c ≡ Opens d → kind x ≡ Byte i → kind y ≡ Byte j → IsUnfinished (c ∷ x ∷ y ∷ [])
+  one_byte : {c x : Char} {d : Delimiter} {i : ℕ} → kind c ≡ Opens d → kind x ≡ Byte i
+      → IsUnfinished (c ∷ x ∷ [])
+  two_bytes : {c x y : Char} {d : Delimiter} {i j : ℕ} → kind c ≡ Opens d → kind x ≡ Byte i
+      → kind y ≡ Byte j → IsUnfinished (c ∷ x ∷ y ∷ [])
 
 -- Characters from a place on, in a text, say these events, each at the place of the character that completes it. The last
 -- word says whether neither a symbol nor a packet is in progress at the end.
 pub data Reads : Text → ℕ → List Char → List (ℕ × Event) → Bool → Type 0 where
   -- a text between packets
   plain_ends : {at : ℕ} → Reads Plain at [] [] true
-  idle_passes : {at : ℕ} {c : Char} {cs : List Char} {es : List (ℕ × Event)} {rest : Bool} → kind c ≡ Idle
+  idle_passes : {at : ℕ} {c : Char} {cs : List Char} {es : List (ℕ × Event)} {rest : Bool}
+      → kind c ≡ Idle
       → Reads Plain (suc at) cs es rest → Reads Plain at (c ∷ cs) es rest
-  data_outside : {at i : ℕ} {c : Char} {cs : List Char} {es : List (ℕ × Event)} {rest : Bool} → kind c ≡ Byte i
+  data_outside : {at i : ℕ} {c : Char} {cs : List Char} {es : List (ℕ × Event)} {rest : Bool}
+      → kind c ≡ Byte i
       → Reads Skipped (suc at) cs es rest → Reads Plain at (c ∷ cs) ((at, Bad BadChar) ∷ es) rest
-  stray_outside : {at : ℕ} {c : Char} {cs : List Char} {es : List (ℕ × Event)} {rest : Bool} → kind c ≡ Stray
+  stray_outside : {at : ℕ} {c : Char} {cs : List Char} {es : List (ℕ × Event)} {rest : Bool}
+      → kind c ≡ Stray
       → Reads Skipped (suc at) cs es rest → Reads Plain at (c ∷ cs) ((at, Bad BadChar) ∷ es) rest
   -- a text of which data is skipped
   skipped_ends : {at : ℕ} → Reads Skipped at [] [] true
-  data_skipped : {at i : ℕ} {c : Char} {cs : List Char} {es : List (ℕ × Event)} {rest : Bool} → kind c ≡ Byte i
+  data_skipped : {at i : ℕ} {c : Char} {cs : List Char} {es : List (ℕ × Event)} {rest : Bool}
+      → kind c ≡ Byte i
       → Reads Skipped (suc at) cs es rest → Reads Skipped at (c ∷ cs) es rest
-  stray_skipped : {at : ℕ} {c : Char} {cs : List Char} {es : List (ℕ × Event)} {rest : Bool} → kind c ≡ Stray
+  stray_skipped : {at : ℕ} {c : Char} {cs : List Char} {es : List (ℕ × Event)} {rest : Bool}
+      → kind c ≡ Stray
       → Reads Skipped (suc at) cs es rest → Reads Skipped at (c ∷ cs) es rest
-  idle_ends_skipping : {at : ℕ} {c : Char} {cs : List Char} {es : List (ℕ × Event)} {rest : Bool} → kind c ≡ Idle
+  idle_ends_skipping : {at : ℕ} {c : Char} {cs : List Char} {es : List (ℕ × Event)} {rest : Bool}
+      → kind c ≡ Idle
       → Reads Plain (suc at) cs es rest → Reads Skipped at (c ∷ cs) es rest
-  delimiter_ends_skipping : {at : ℕ} {c : Char} {cs : List Char} {es : List (ℕ × Event)} {rest : Bool} {d : Delimiter}
+  delimiter_ends_skipping
+      : {at : ℕ} {c : Char} {cs : List Char} {es : List (ℕ × Event)} {rest : Bool} {d : Delimiter}
       → kind c ≡ Opens d → Reads Plain at (c ∷ cs) es rest → Reads Skipped at (c ∷ cs) es rest
   -- a text within a packet
   packet_is_cut : {at : ℕ} {bytes : List ℕ} → Reads (Within bytes) at [] [] false
-  data_is_added : {at i : ℕ} {bytes : List ℕ} {c : Char} {cs : List Char} {es : List (ℕ × Event)} {rest : Bool} → kind c ≡ Byte i
-      → length bytes < 276 → Reads (Within (bytes ++ i ∷ [])) (suc at) cs es rest → Reads (Within bytes) at (c ∷ cs) es rest
-  data_is_too_long : {at i : ℕ} {bytes : List ℕ} {c : Char} {cs : List Char} {es : List (ℕ × Event)} {rest : Bool} → kind c ≡ Byte i
-      → 276 ≤ length bytes → Reads Skipped (suc at) cs es rest → Reads (Within bytes) at (c ∷ cs) ((at, Bad General) ∷ es) rest
-  idle_in_packet : {at : ℕ} {bytes : List ℕ} {c : Char} {cs : List Char} {es : List (ℕ × Event)} {rest : Bool} → kind c ≡ Idle
-      → Reads Plain (suc at) cs es rest → Reads (Within bytes) at (c ∷ cs) ((at, Bad BadChar) ∷ es) rest
-  stray_in_packet : {at : ℕ} {bytes : List ℕ} {c : Char} {cs : List Char} {es : List (ℕ × Event)} {rest : Bool} → kind c ≡ Stray
-      → Reads Skipped (suc at) cs es rest → Reads (Within bytes) at (c ∷ cs) ((at, Bad BadChar) ∷ es) rest
+  data_is_added
+      : {at i : ℕ} {bytes : List ℕ} {c : Char} {cs : List Char} {es : List (ℕ × Event)} {rest :
+      Bool} → kind c ≡ Byte i
+      → length bytes < 276 → Reads (Within (bytes ++ i ∷ [])) (suc at) cs es rest
+      → Reads (Within bytes) at (c ∷ cs) es rest
+  data_is_too_long
+      : {at i : ℕ} {bytes : List ℕ} {c : Char} {cs : List Char} {es : List (ℕ × Event)} {rest :
+      Bool} → kind c ≡ Byte i
+      → 276 ≤ length bytes → Reads Skipped (suc at) cs es rest
+      → Reads (Within bytes) at (c ∷ cs) ((at, Bad General) ∷ es) rest
+  idle_in_packet
+      : {at : ℕ} {bytes : List ℕ} {c : Char} {cs : List Char} {es : List (ℕ × Event)} {rest : Bool}
+      → kind c ≡ Idle
+      → Reads Plain (suc at) cs es rest
+      → Reads (Within bytes) at (c ∷ cs) ((at, Bad BadChar) ∷ es) rest
+  stray_in_packet
+      : {at : ℕ} {bytes : List ℕ} {c : Char} {cs : List Char} {es : List (ℕ × Event)} {rest : Bool}
+      → kind c ≡ Stray
+      → Reads Skipped (suc at) cs es rest
+      → Reads (Within bytes) at (c ∷ cs) ((at, Bad BadChar) ∷ es) rest
   -- a symbol, between packets or in one
-  symbol_is_read : {t : Text} {at i j k : ℕ} {d : Delimiter} {c x y z : Char} {cs : List Char} {es : List (ℕ × Event)} {rest : Bool}
-      (s : Fields) → IsOpen t → IsWhole d c x y z i j k → Spells s (i ∷ j ∷ k ∷ []) → IsTrue (allowed d s)
+  symbol_is_read
+      : {t : Text} {at i j k : ℕ} {d : Delimiter} {c x y z : Char} {cs : List Char} {es : List
+      (ℕ × Event)} {rest : Bool}
+      (s : Fields) → IsOpen t → IsWhole d c x y z i j k → Spells s (i ∷ j ∷ k ∷ [])
+      → IsTrue (allowed d s)
       → Reads (text_after t s.s1) (suc (suc (suc (suc at)))) cs es rest
       → Reads t at (c ∷ x ∷ y ∷ z ∷ cs) (placed (suc (suc (suc at))) (told t s) ++ es) rest
   -- a broken symbol
-  spells_none : {t : Text} {at i j k : ℕ} {d : Delimiter} {c x y z : Char} {cs : List Char} {es : List (ℕ × Event)} {rest : Bool}
+  spells_none : {t : Text} {at i j k : ℕ} {d : Delimiter} {c x y z : Char} {cs : List Char} {es :
+      List (ℕ × Event)} {rest : Bool}
       → IsOpen t → IsWhole d c x y z i j k → ((s : Fields) → Spells s (i ∷ j ∷ k ∷ []) → ⊥)
       → Reads Skipped (suc (suc (suc (suc at)))) cs es rest
       → Reads t at (c ∷ x ∷ y ∷ z ∷ cs) ((suc (suc (suc at)), Bad BadSymbol) ∷ es) rest
-  not_allowed : {t : Text} {at i j k : ℕ} {d : Delimiter} {c x y z : Char} {cs : List Char} {es : List (ℕ × Event)} {rest : Bool}
-      (s : Fields) → IsOpen t → IsWhole d c x y z i j k → Spells s (i ∷ j ∷ k ∷ []) → allowed d s ≡ false
+  not_allowed : {t : Text} {at i j k : ℕ} {d : Delimiter} {c x y z : Char} {cs : List Char} {es :
+      List (ℕ × Event)} {rest : Bool}
+      (s : Fields) → IsOpen t → IsWhole d c x y z i j k → Spells s (i ∷ j ∷ k ∷ [])
+      → allowed d s ≡ false
       → Reads Skipped (suc (suc (suc (suc at)))) cs es rest
       → Reads t at (c ∷ x ∷ y ∷ z ∷ cs) ((suc (suc (suc at)), Bad General) ∷ es) rest
-  cut_by_delimiter : {t : Text} {at n : ℕ} {d : Delimiter} {cs all : List Char} {es : List (ℕ × Event)} {rest : Bool}
-      (front : List Char) (c : Char) → IsOpen t → IsUnfinished front → n ≡ at + length front → all ≡ front ++ c ∷ cs
-      → kind c ≡ Opens d → Reads Plain n (c ∷ cs) es rest → Reads t at all ((n, Bad BadChar) ∷ es) rest
+  cut_by_delimiter
+      : {t : Text} {at n : ℕ} {d : Delimiter} {cs all : List Char} {es : List (ℕ × Event)} {rest :
+      Bool}
+      (front : List Char) (c : Char) → IsOpen t → IsUnfinished front → n ≡ at + length front
+      → all ≡ front ++ c ∷ cs
+      → kind c ≡ Opens d → Reads Plain n (c ∷ cs) es rest
+      → Reads t at all ((n, Bad BadChar) ∷ es) rest
   cut_by_idle : {t : Text} {at n : ℕ} {cs all : List Char} {es : List (ℕ × Event)} {rest : Bool}
-      (front : List Char) (c : Char) → IsOpen t → IsUnfinished front → n ≡ at + length front → all ≡ front ++ c ∷ cs
+      (front : List Char) (c : Char) → IsOpen t → IsUnfinished front → n ≡ at + length front
+      → all ≡ front ++ c ∷ cs
       → kind c ≡ Idle → Reads Plain (suc n) cs es rest → Reads t at all ((n, Bad BadChar) ∷ es) rest
   cut_by_stray : {t : Text} {at n : ℕ} {cs all : List Char} {es : List (ℕ × Event)} {rest : Bool}
-      (front : List Char) (c : Char) → IsOpen t → IsUnfinished front → n ≡ at + length front → all ≡ front ++ c ∷ cs
-      → kind c ≡ Stray → Reads Skipped (suc n) cs es rest → Reads t at all ((n, Bad BadChar) ∷ es) rest
-  cut_by_the_end : {t : Text} {at : ℕ} {front : List Char} → IsOpen t → IsUnfinished front → Reads t at front [] false
+      (front : List Char) (c : Char) → IsOpen t → IsUnfinished front → n ≡ at + length front
+      → all ≡ front ++ c ∷ cs
+      → kind c ≡ Stray → Reads Skipped (suc n) cs es rest
+      → Reads t at all ((n, Bad BadChar) ∷ es) rest
+  cut_by_the_end : {t : Text} {at : ℕ} {front : List Char} → IsOpen t → IsUnfinished front
+      → Reads t at front [] false
 
 -- A list of characters says these events, each at the place of the character that completes it.
 abbrev pub IsReading : List Char → List (ℕ × Event) → Type 0

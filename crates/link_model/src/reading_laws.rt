@@ -45,7 +45,8 @@ pub fn one_character_tells_at_most_two()
 
 /// A packet in progress never has more than 276 bytes.
 pub fn packet_in_progress_is_bounded()
-    ensures step { (from : Place) (c : Char) → IsBounded from.text → IsBounded (step from c).place.text }
+    ensures step { (from : Place) (c : Char) → IsBounded from.text
+        → IsBounded (step from c).place.text }
     ensures all { (chars : List Char) → IsBounded (place_after start chars).text }
 {}
 
@@ -55,14 +56,20 @@ pub fn spelling_is_read()
     ensures symbol { (text : Text) (at : ℕ) (s : Fields) → IsOpen text → InRange s
         → run (place text Pending.Nothing) at (symbol_chars_of s) ≡ placed (at + 3) (told text s) }
     ensures after_symbol { (text : Text) (s : Fields) → IsOpen text → InRange s
-        → place_after (place text Pending.Nothing) (symbol_chars_of s) ≡ place (text_after text s.s1) Pending.Nothing }
+        → place_after (place text Pending.Nothing) (symbol_chars_of s)
+        ≡ place (text_after text s.s1) Pending.Nothing }
 
-    ensures packet { (text : Text) (at n : ℕ) (first : Fields) (ack : ℕ) (packet : List ℕ) (last : Fields) → IsOpen text
-        → InRange first → first.s1 ≡ START_OF_PACKET → ack < 32 → Passes packet → InRange last → last.s1 ≡ END_OF_PACKET → n ≡ at + 7 + length packet
+    ensures packet { (text : Text) (at n : ℕ) (first : Fields) (ack : ℕ) (packet : List ℕ)
+        (last : Fields) → IsOpen text
+        → InRange first → first.s1 ≡ START_OF_PACKET → ack < 32 → Passes packet → InRange last
+        → last.s1 ≡ END_OF_PACKET → n ≡ at + 7 + length packet
         → run (place text Pending.Nothing) at (packet_chars_of first ack packet last)
-        ≡ placed (at + 3) (told text first) ++ (n, Event.Pkt ack packet) ∷ (n, Event.Ctl last) ∷ [] }
-    ensures after_packet { (text : Text) (first : Fields) (ack : ℕ) (packet : List ℕ) (last : Fields) → IsOpen text
-        → InRange first → first.s1 ≡ START_OF_PACKET → ack < 32 → Passes packet → InRange last → last.s1 ≡ 2
+        ≡ placed (at + 3) (told text first) ++ (n, Event.Pkt ack packet) ∷ (n, Event.Ctl last)
+        ∷ [] }
+    ensures after_packet { (text : Text) (first : Fields) (ack : ℕ) (packet : List ℕ)
+        (last : Fields) → IsOpen text
+        → InRange first → first.s1 ≡ START_OF_PACKET → ack < 32 → Passes packet → InRange last
+        → last.s1 ≡ 2
         → place_after (place text Pending.Nothing) (packet_chars_of first ack packet last) ≡ start }
 {}
 
@@ -97,7 +104,8 @@ pub fn event_laws()
 
     ensures carried { (bytes : List ℕ) (ack : ℕ) (packet : List ℕ) → Carries bytes ack packet
         → packet_event bytes ≡ Event.Pkt ack packet }
-    ensures too_short { (bytes : List ℕ) → length bytes < 8 → packet_event bytes ≡ Event.Bad General }
+    ensures too_short { (bytes : List ℕ) → length bytes < 8
+        → packet_event bytes ≡ Event.Bad General }
     ensures no_packet { (bytes : List ℕ) → 8 ≤ length bytes
         → ((ack : ℕ) (packet : List ℕ) → Carries bytes ack packet → ⊥)
         → packet_event bytes ≡ Event.Bad BadPacket }
@@ -108,7 +116,8 @@ pub fn event_laws()
 /// The front of characters up to and with the first that tells: it is as long as there are characters where none tells, and
 /// all events of the characters are its own, at its last character, and those of the characters behind it.
 pub fn events_go_by_fronts()
-    ensures count { (from : Place) (chars : List Char) → (telling_front from chars).count ≤ length chars }
+    ensures count { (from : Place) (chars : List Char)
+        → (telling_front from chars).count ≤ length chars }
     ensures some { (from : Place) (chars : List Char) → 0 < length chars
         → 0 < (telling_front from chars).count }
     ensures all { (from : Place) (chars : List Char) → (telling_front from chars).step.gives ≡ []
@@ -120,5 +129,6 @@ pub fn events_go_by_fronts()
         → run from at chars ≡ placed n (telling_front from chars).step.gives
         ++ run (telling_front from chars).step.place (suc n)
         (drop (telling_front from chars).count chars) }
-    ensures two { (from : Place) (chars : List Char) → AreGiven (telling_front from chars).step.gives }
+    ensures two { (from : Place) (chars : List Char)
+        → AreGiven (telling_front from chars).step.gives }
 {}

@@ -1,3 +1,4 @@
+//! Symbols that are sent, by the fields that the standard gives them.
 use crate::{
     PortStatus, end_of_packet, link_request, link_response, packet_accepted, packet_not_accepted,
     packet_retry, restart_from_retry, start_of_packet,

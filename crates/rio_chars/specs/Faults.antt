@@ -7,4 +7,5 @@ Rose before after = (before < after) ⊎ (2 ^ 64 - 1 ≤ after)
 
 -- a value that has failed had failed before the call, or the count rose in it
 abbrev pub FailedBy : Bool → ℕ → Bool → ℕ → Type 0
-FailedBy failed before failed_after after = failed_after ≡ true → (failed ≡ true) ⊎ Rose before after
+FailedBy failed before failed_after after =
+    failed_after ≡ true → (failed ≡ true) ⊎ Rose before after

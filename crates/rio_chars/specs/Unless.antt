@@ -9,5 +9,7 @@ use Rattle.rio_chars.specs.Fronts.{AppendsFront}
 abbrev pub WritesUnless : Bool → Option (List ℕ) → ℕ → Bool → Option (List ℕ) → ℕ → List ℕ → Type 0
 WritesUnless true old count true new count_after bytes = Keeps old new × (count_after ≡ count)
 WritesUnless true old count false new count_after bytes = ⊥
-WritesUnless false old count true new count_after bytes = AppendsFront old new bytes × Rose count count_after × (count ≤ count_after)
-WritesUnless false old count false new count_after bytes = Appends old new bytes × (count_after ≡ count)
+WritesUnless false old count true new count_after bytes =
+    AppendsFront old new bytes × Rose count count_after × (count ≤ count_after)
+WritesUnless false old count false new count_after bytes =
+    Appends old new bytes × (count_after ≡ count)

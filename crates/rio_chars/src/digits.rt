@@ -5,7 +5,7 @@ ghost use Rattle.rio_chars.specs.HexText.{hex_digit as hex_digit_of, hex_of};
 
 use std::alloc::{AllocError, Global};
 
-// The number of each lower-case hexadecimal digit, and 255 at each byte that is no digit.
+/// The number of each lower-case hexadecimal digit, and 255 at each byte that is no digit.
 const HEX_VALUES: [u8; 256] = [
     255, 255, 255, 255, 255, 255, 255, 255, 255, 255, 255, 255, 255, 255, 255, 255, 255, 255, 255,
     255, 255, 255, 255, 255, 255, 255, 255, 255, 255, 255, 255, 255, 255, 255, 255, 255, 255, 255,

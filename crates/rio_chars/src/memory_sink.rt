@@ -28,7 +28,15 @@ impl Model for MemSink {
 
     ghost Value = { Taking };
 
-    ghost view = { λ sink. record { written = take sink.len sink.buffer.items; room = length sink.buffer.items - sink.len; step = sink.step; fails = sink.plan.fails.items; calls = sink.plan.calls; faults = sink.plan.faults } };
+    ghost view = { λ sink.
+        record {
+          written = take sink.len sink.buffer.items;
+          room = length sink.buffer.items - sink.len;
+          step = sink.step;
+          fails = sink.plan.fails.items;
+          calls = sink.plan.calls;
+          faults = sink.plan.faults;
+        } };
 
     ghost invariant = { λ sink. (sink.len ≤ length sink.buffer.items) × (1 ≤ sink.step) };
 }
@@ -43,7 +51,16 @@ impl MemSink {
         fails: Vec<u32>,
     ) -> Result<MemSink, NoMemory>
         requires { 1 ≤ step }
-        ensures { IfOk result (λ sink. sink ≡ record { written = []; room = room; step = step; fails = fails.items; calls = 0; faults = 0 }) }
+        ensures { IfOk result
+            (λ sink. sink
+            ≡ record {
+              written = [];
+              room = room;
+              step = step;
+              fails = fails.items;
+              calls = 0;
+              faults = 0;
+            }) }
     {
         let Ok(buffer) = zeros(alloc, room) else {
             return Err(NoMemory);
@@ -70,7 +87,11 @@ impl MemSink {
     /// Takes bytes that have room.
     fn keep(&mut self, bytes: &[u8])
         requires { length bytes.now ≤ self.old.room }
-        ensures { self.new ≡ record self.old { written = self.old.written ++ bytes.now; room = self.old.room - length bytes.now } }
+        ensures { self.new
+            ≡ record self.old {
+              written = self.old.written ++ bytes.now;
+              room = self.old.room - length bytes.now;
+            } }
     {
         let end = self.len + bytes.len();
         self.buffer[self.len..end].copy_from_slice(bytes);
@@ -86,11 +107,15 @@ impl Sink for MemSink {
     fn write(&mut self, piece: &[u8]) -> Result<usize, Failed>
         ensures count { IfOk result (λ n. n ≤ length piece.now) }
         ensures progress { IfOk result (λ n. 0 < length piece.now → 0 < n) }
-        ensures bytes { WriteAppends (Some self.old.written) (Some self.new.written) result piece.now }
+        ensures bytes { WriteAppends (Some self.old.written) (Some self.new.written) result
+            piece.now }
         ensures cause { OnErr result (Rose self.old.faults self.new.faults) }
         ensures never_falls { self.old.faults ≤ self.new.faults }
-        ensures listed { IsErr result ↔ (Contains self.old.fails self.old.calls ⊎ ((0 < length piece.now) × (self.old.room ≡ 0))) }
-        ensures amount { IfOk result (λ n. n ≡ min self.old.step (min (length piece.now) self.old.room)) }
+        ensures listed { IsErr result
+            ↔ (Contains self.old.fails self.old.calls
+            ⊎ ((0 < length piece.now) × (self.old.room ≡ 0))) }
+        ensures amount { IfOk result
+            (λ n. n ≡ min self.old.step (min (length piece.now) self.old.room)) }
         ensures room { IfOk result (λ n. self.new.room ≡ self.old.room - n) }
         ensures room_kept { OnErr result (self.new.room ≡ self.old.room) }
         ensures counts { OnOk result (self.new.faults ≡ self.old.faults) }

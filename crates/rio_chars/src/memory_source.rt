@@ -25,7 +25,14 @@ impl Model for MemSource {
 
     ghost Value = { Giving };
 
-    ghost view = { λ source. record { left = drop source.begin source.bytes.items; step = source.step; fails = source.plan.fails.items; calls = source.plan.calls; faults = source.plan.faults } };
+    ghost view = { λ source.
+        record {
+          left = drop source.begin source.bytes.items;
+          step = source.step;
+          fails = source.plan.fails.items;
+          calls = source.plan.calls;
+          faults = source.plan.faults;
+        } };
 
     ghost invariant = { λ source. (source.begin ≤ length source.bytes.items) × (1 ≤ source.step) };
 }
@@ -34,7 +41,14 @@ impl MemSource {
     /// A source of these bytes. `fails` has the numbers of the calls that fail, counted from 0.
     pub fn new(bytes: Vec<u8>, step: usize, fails: Vec<u32>) -> MemSource
         requires { 1 ≤ step }
-        ensures { result ≡ record { left = bytes.items; step = step; fails = fails.items; calls = 0; faults = 0 } }
+        ensures { result
+            ≡ record {
+              left = bytes.items;
+              step = step;
+              fails = fails.items;
+              calls = 0;
+              faults = 0;
+            } }
     {
         MemSource {
             bytes,
@@ -60,7 +74,8 @@ impl Source for MemSource {
         ensures cause { OnErr result (Rose self.old.faults self.new.faults) }
         ensures never_falls { self.old.faults ≤ self.new.faults }
         ensures listed { IsErr result ↔ Contains self.old.fails self.old.calls }
-        ensures amount { IfOk result (λ n. n ≡ min self.old.step (min (length piece.old) (length self.old.left))) }
+        ensures amount { IfOk result
+            (λ n. n ≡ min self.old.step (min (length piece.old) (length self.old.left))) }
         ensures counts { OnOk result (self.new.faults ≡ self.old.faults) }
         ensures counts_failure { OnErr result (self.new.faults ≡ counted self.old.faults) }
         ensures calls { self.new.calls ≡ counted self.old.calls }

@@ -11,7 +11,7 @@ use crate::runs::{data_run, spaced_char};
 use crate::text_buffer::ROOM;
 use crate::{Char, Sink, TextBuffer, write_all};
 
-// The most bytes whose digits have room in an empty buffer.
+/// The most bytes whose digits have room in an empty buffer.
 const HEX_PART: usize = 32768;
 
 /// Text on its way to a sink, which is handed over in pieces of kilobytes. After a write that fails nothing more is

@@ -1,10 +1,11 @@
+//! Which calls of a source or a sink in memory fail.
 ghost use Rattle.std.specs.Prelude.{◌≡◌, ◌↔◌, IsTrue};
 ghost use Rattle.std.specs.List.{Contains};
 ghost use Rattle.rio_chars.specs.Memory.{counted};
 
 use crate::Failed;
 
-// Which calls fail, and how many came and failed so far.
+/// Which calls fail, and how many came and failed so far.
 #[derive(Drop)]
 pub(crate) struct Plan {
     pub(crate) fails: Vec<u32>,
@@ -13,7 +14,7 @@ pub(crate) struct Plan {
 }
 
 impl Plan {
-    // Counts a call, and answers whether it is to fail.
+    /// Counts a call, and answers whether it is to fail.
     pub(crate) fn fails_now(&mut self) -> bool
         ensures listed { IsTrue result ↔ Contains self.old.fails.items self.old.calls }
         ensures calls { self.new.calls ≡ counted self.old.calls }
@@ -25,7 +26,7 @@ impl Plan {
         is_listed(&self.fails, call)
     }
 
-    // Counts a fault.
+    /// Counts a fault.
     pub(crate) fn fail(&mut self) -> Failed
         ensures calls { self.new.calls ≡ self.old.calls }
         ensures fails { self.new.fails ≡ self.old.fails }

@@ -40,19 +40,23 @@ impl From<AllocError> for ReadEnd {
     }
 }
 
-// A piece is a multiple of the pages that systems hand over, and small enough for a near cache.
+/// A piece is a multiple of the pages that systems hand over, and small enough for a near cache.
 const PIECE: usize = 65536;
 
 /// Reads all bytes up to the end of input, at most `limit` of them. TooLong comes if there is one more, which is the last
 /// that it reads; Fault if a read failed, and then the count of faults rose, as at no other answer; NoMemory if memory was
 /// not given, for the piece that it reads into or for the bytes. At each of them the bytes that it has read are lost.
 pub fn read_all<S: Source>(alloc: Global, source: &mut S, limit: usize) -> Result<Vec<u8>, ReadEnd>
-    ensures whole { IfOk result (λ bytes. Consumes (S.left source.old) (S.left source.new) bytes.items) }
+    ensures whole { IfOk result
+        (λ bytes. Consumes (S.left source.old) (S.left source.new) bytes.items) }
     ensures end { OnOk result (IsAtEnd (S.left source.new)) }
     ensures within { IfOk result (λ bytes. length bytes.items ≤ limit) }
-    ensures fault { IsErrOf result ReadEnd.Fault → Rose (S.faults source.old) (S.faults source.new) }
-    ensures too_long { IsErrOf result ReadEnd.TooLong → ConsumesJust (S.left source.old) (S.left source.new) (limit + 1) }
-    ensures fits { IfSome (S.left source.old) (λ left. length left ≤ limit → ¬ IsErrOf result ReadEnd.TooLong) }
+    ensures fault { IsErrOf result ReadEnd.Fault
+        → Rose (S.faults source.old) (S.faults source.new) }
+    ensures too_long { IsErrOf result ReadEnd.TooLong
+        → ConsumesJust (S.left source.old) (S.left source.new) (limit + 1) }
+    ensures fits { IfSome (S.left source.old)
+        (λ left. length left ≤ limit → ¬ IsErrOf result ReadEnd.TooLong) }
     ensures longer { IfSome (S.left source.old) (λ left. limit < length left → ¬ IsOk result) }
     ensures bounded { ConsumesUpTo (S.left source.old) (S.left source.new) (limit + 1) }
     ensures counts { ¬ IsErrOf result ReadEnd.Fault → S.faults source.new ≡ S.faults source.old }
@@ -64,7 +68,7 @@ pub fn read_all<S: Source>(alloc: Global, source: &mut S, limit: usize) -> Resul
     Ok(bytes)
 }
 
-// Reads one piece behind the bytes, and answers whether there was any.
+/// Reads one piece behind the bytes, and answers whether there was any.
 fn take_up<S: Source>(
     source: &mut S,
     piece: &mut [u8],
@@ -73,13 +77,20 @@ fn take_up<S: Source>(
 ) -> Result<bool, ReadEnd>
     requires room { length piece.old ≡ 65536 }
     requires within { length bytes.old.items ≤ limit }
-    ensures more { OnOk result ((taken : List ℕ) × (bytes.new.items ≡ bytes.old.items ++ taken) × Consumes (S.left source.old) (S.left source.new) taken) }
+    ensures more { OnOk result
+        ((taken : List ℕ) × (bytes.new.items ≡ bytes.old.items ++ taken)
+        × Consumes (S.left source.old) (S.left source.new) taken) }
     ensures within { OnOk result (length bytes.new.items ≤ limit) }
     ensures end { IfOk result (λ any. IsFalse any → IsAtEnd (S.left source.new)) }
-    ensures some { IfOk result (λ any. IsTrue any → length bytes.old.items < length bytes.new.items) }
-    ensures fault { IsErrOf result ReadEnd.Fault → Rose (S.faults source.old) (S.faults source.new) }
-    ensures too_long { IsErrOf result ReadEnd.TooLong → (taken : List ℕ) × Consumes (S.left source.old) (S.left source.new) taken × (length bytes.old.items + length taken ≡ limit + 1) }
-    ensures bounded { (taken : List ℕ) × Consumes (S.left source.old) (S.left source.new) taken × (length bytes.old.items + length taken ≤ limit + 1) }
+    ensures some { IfOk result
+        (λ any. IsTrue any → length bytes.old.items < length bytes.new.items) }
+    ensures fault { IsErrOf result ReadEnd.Fault
+        → Rose (S.faults source.old) (S.faults source.new) }
+    ensures too_long { IsErrOf result ReadEnd.TooLong
+        → (taken : List ℕ) × Consumes (S.left source.old) (S.left source.new) taken
+        × (length bytes.old.items + length taken ≡ limit + 1) }
+    ensures bounded { (taken : List ℕ) × Consumes (S.left source.old) (S.left source.new) taken
+        × (length bytes.old.items + length taken ≤ limit + 1) }
     ensures counts { ¬ IsErrOf result ReadEnd.Fault → S.faults source.new ≡ S.faults source.old }
     ensures never_falls { S.faults source.old ≤ S.faults source.new }
 {

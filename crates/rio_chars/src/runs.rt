@@ -8,7 +8,7 @@ use crate::{Char, char_text};
 /// The most characters whose texts have room in an empty buffer.
 pub(crate) const RUN: usize = 16384;
 
-// How many data characters stand at the front, of at most 16,384.
+/// How many data characters stand at the front, of at most 16,384.
 pub(crate) fn data_run(chars: &[Char]) -> usize
     ensures within { result ≤ length chars.now }
     ensures most { result ≤ 16384 }
@@ -30,7 +30,7 @@ fn is_data(c: Char) -> bool
     matches!(c, Char::Data(_))
 }
 
-// Writes the texts of data characters, each behind a space.
+/// Writes the texts of data characters, each behind a space.
 pub(crate) fn write_data(room: &mut [u8], chars: &[Char])
     requires room { length room.old ≡ 4 * length chars.now }
     requires are_data { AreData chars.now }
@@ -54,7 +54,7 @@ fn byte_of(c: Char) -> u8
     }
 }
 
-// The text of a character behind a space, in the first four bytes.
+/// The text of a character behind a space, in the first four bytes.
 pub(crate) fn spaced_char(c: Char) -> [u8; 8]
     ensures { take 4 result ≡ 32 ∷ char_text_of c }
 {

@@ -32,7 +32,8 @@ impl<R: Read> Source for StdSource<R> {
 
     fn read(&mut self, piece: &mut [u8]) -> Result<usize, Failed>
         ensures count { IfOk result (λ n. n ≤ length piece.old) }
-        ensures bytes { ReadConsumes (R.remaining self.old.reader) (R.remaining self.new.reader) result piece.new }
+        ensures bytes { ReadConsumes (R.remaining self.old.reader) (R.remaining self.new.reader)
+            result piece.new }
         ensures cause { OnErr result (Rose self.old.faults self.new.faults) }
         ensures counts { OnOk result (self.new.faults ≡ self.old.faults) }
         ensures counts_failure { OnErr result (self.new.faults ≡ counted self.old.faults) }
@@ -48,7 +49,7 @@ impl<R: Read> Source for StdSource<R> {
     }
 }
 
-// One read, tried again if a signal interrupts it.
+/// One read, tried again if a signal interrupts it.
 fn read_once<R: Read>(reader: &mut R, piece: &mut [u8]) -> Option<usize>
     ensures count { IfSome result (λ n. n ≤ length piece.old) }
     ensures bytes { MatchOption result (Keeps (R.remaining reader.old) (R.remaining reader.new))
@@ -96,7 +97,8 @@ impl<W: Write> Sink for StdSink<W> {
     fn write(&mut self, piece: &[u8]) -> Result<usize, Failed>
         ensures count { IfOk result (λ n. n ≤ length piece.now) }
         ensures progress { IfOk result (λ n. 0 < length piece.now → 0 < n) }
-        ensures bytes { WriteAppends (W.contents self.old.writer) (W.contents self.new.writer) result piece.now }
+        ensures bytes { WriteAppends (W.contents self.old.writer) (W.contents self.new.writer)
+            result piece.now }
         ensures cause { OnErr result (Rose self.old.faults self.new.faults) }
         ensures counts { OnOk result (self.new.faults ≡ self.old.faults) }
         ensures counts_failure { OnErr result (self.new.faults ≡ counted self.old.faults) }
@@ -112,7 +114,7 @@ impl<W: Write> Sink for StdSink<W> {
     }
 }
 
-// One write, tried again if a signal interrupts it. A writer that takes nothing of some bytes has failed.
+/// One write, tried again if a signal interrupts it. A writer that takes nothing of some bytes has failed.
 fn write_once<W: Write>(writer: &mut W, piece: &[u8]) -> Option<usize>
     ensures count { IfSome result (λ n. n ≤ length piece.now) }
     ensures progress { IfSome result (λ n. 0 < length piece.now → 0 < n) }

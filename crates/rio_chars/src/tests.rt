@@ -1,3 +1,4 @@
+//! Characters, sources, sinks and outboxes by known texts, with each call failing in turn.
 use crate::{
     Char, MemSink, MemSource, Outbox, PlainSink, PlainSource, ReadEnd, StdSink, StdSource,
     TextBuffer, char_text, read_all, read_char, read_hex, write_all,

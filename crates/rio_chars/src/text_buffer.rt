@@ -41,28 +41,28 @@ impl TextBuffer {
         })
     }
 
-    // How many more bytes have room.
+    /// How many more bytes have room.
     pub(crate) fn room(&self) -> usize
         ensures { length self.now + result ≡ 65536 }
     {
         ROOM - self.len
     }
 
-    // The text that waits.
+    /// The text that waits.
     pub(crate) fn as_slice(&self) -> &[u8]
         ensures { result.now ≡ self.now }
     {
         &self.bytes[..self.len]
     }
 
-    // Drops the text that waits.
+    /// Drops the text that waits.
     pub(crate) fn clear(&mut self)
         ensures { self.new ≡ [] }
     {
         self.len = 0;
     }
 
-    // Lets bytes wait that have room.
+    /// Lets bytes wait that have room.
     pub(crate) fn append(&mut self, bytes: &[u8])
         requires { length self.old + length bytes.now ≤ 65536 }
         ensures { self.new ≡ self.old ++ bytes.now }
@@ -72,7 +72,7 @@ impl TextBuffer {
         self.len = end;
     }
 
-    // Lets the first bytes of a short text wait, of which the whole has room.
+    /// Lets the first bytes of a short text wait, of which the whole has room.
     #[inline(always)]
     pub(crate) fn append_short(&mut self, text: &[u8; 8], count: usize)
         requires room { length self.old + 8 ≤ 65536 }
@@ -83,7 +83,7 @@ impl TextBuffer {
         self.len += count;
     }
 
-    // Lets the texts of data characters wait that have room, each behind a space.
+    /// Lets the texts of data characters wait that have room, each behind a space.
     pub(crate) fn append_data(&mut self, chars: &[Char])
         requires room { length self.old + 4 * length chars.now ≤ 65536 }
         requires are_data { AreData chars.now }
@@ -94,7 +94,7 @@ impl TextBuffer {
         self.len = end;
     }
 
-    // Lets the digits of bytes wait that have room.
+    /// Lets the digits of bytes wait that have room.
     pub(crate) fn append_hex(&mut self, bytes: &[u8])
         requires { length self.old + 2 * length bytes.now ≤ 65536 }
         ensures { self.new ≡ self.old ++ hex_of bytes.now }

@@ -45,4 +45,5 @@ found_or_bad None = Err BadPacket
 -- what a receiver answers of bytes: the ackID and the packet that they carry, or why they carry none
 unfoldable pub checked : List ℕ → Result (ℕ × List ℕ) Cause
 checked bytes =
-    if nat_lt (length bytes) 8 || nat_lt 276 (length bytes) then Err General else found_or_bad (carried bytes)
+    if nat_lt (length bytes) 8 || nat_lt 276 (length bytes) then Err General
+    else found_or_bad (carried bytes)

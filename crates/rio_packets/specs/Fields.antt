@@ -29,7 +29,8 @@ is_maintenance_length n = (n % 8 == 4) && (nat_le 12 n && nat_le n 76)
 
 -- whether it is a maintenance packet, which has format type 8 and transport type 0
 abbrev pub is_maintenance : List ℕ → Bool
-is_maintenance bytes = (ftype_of bytes == 8) && ((tt_of bytes == 0) && is_maintenance_length (length bytes))
+is_maintenance bytes =
+    (ftype_of bytes == 8) && ((tt_of bytes == 0) && is_maintenance_length (length bytes))
 
 -- the hop count of a maintenance packet
 abbrev pub hop_of : List ℕ → Option ℕ
@@ -54,4 +55,5 @@ pub record Lowered (old new : List ℕ) : Type 0 where
   pub same_length : length new ≡ length old
   pub hop : slice_index new 6 + 1 ≡ slice_index old 6
   pub others : (k : ℕ) → k ≢ 6 → k + 2 < length old → slice_index new k ≡ slice_index old k
-  pub crc : IsCrc (take (length new - 2) new) (slice_index new (length new - 2)) (slice_index new (length new - 1))
+  pub crc : IsCrc (take (length new - 2) new) (slice_index new (length new - 2))
+      (slice_index new (length new - 1))

@@ -3,7 +3,8 @@ use Rattle.std.specs.Prelude.{ℕ, zero, suc, ◌*◌, ◌%◌, List, [], ◌∷
 
 -- The register after one 0 bit: doubled, and the polynomial added where the first bit was 1.
 unfoldable pub shifted : ℕ → ℕ
-shifted register = if nat_lt register 0x8000 then register * 2 else bit_xor (register * 2 % 0x10000) 0x1021
+shifted register =
+    if nat_lt register 0x8000 then register * 2 else bit_xor (register * 2 % 0x10000) 0x1021
 
 -- after so many 0 bits
 unfoldable pub shifted_times : ℕ → ℕ → ℕ

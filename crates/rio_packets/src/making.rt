@@ -57,7 +57,8 @@ fn made_of(header: &Header, rest: &[u8]) -> Packet
     requires even { length rest.now % 2 ≡ 0 }
     requires most { length rest.now ≤ most_rest }
     ensures { LinkForm
-        (body_of header.now.prio header.now.ftype header.now.dest header.now.source rest.now) result }
+        (body_of header.now.prio header.now.ftype header.now.dest header.now.source rest.now)
+        result }
 {
     let (front, back) = rest.split_at(rest.len().min(FIRST_REST));
     let mut draft = Draft::new();
@@ -125,7 +126,8 @@ impl Draft {
     fn push(&mut self, more: &[u8])
         requires { array_vec_len self.old.bytes + length more.now ≤ 276 }
         ensures items { self.new.bytes.items ≡ self.old.bytes.items ++ more.now }
-        ensures len { array_vec_len self.new.bytes ≡ array_vec_len self.old.bytes + length more.now }
+        ensures len { array_vec_len self.new.bytes
+            ≡ array_vec_len self.old.bytes + length more.now }
     {
         append(&mut self.bytes, more);
         self.register = run(self.register, more);
@@ -145,7 +147,8 @@ impl Draft {
     fn push_more(&mut self, more: &[u8])
         requires { array_vec_len self.old.bytes + length more.now ≤ 274 }
         ensures items { self.new.bytes.items ≡ with_more self.old.bytes.items more.now }
-        ensures len { array_vec_len self.new.bytes ≤ array_vec_len self.old.bytes + length more.now + 2 }
+        ensures len { array_vec_len self.new.bytes ≤ array_vec_len self.old.bytes + length more.now
+            + 2 }
         ensures parity { array_vec_len self.new.bytes % 2
             ≡ (array_vec_len self.old.bytes + length more.now) % 2 }
     {

@@ -12,7 +12,8 @@ crc5_divisor = true ∷ true ∷ false ∷ true ∷ false ∷ true ∷ []
 -- the nineteen bits of the fields, in the order in which they are sent
 unfoldable pub field_bits : Fields → List Bool
 field_bits symbol =
-    bits 3 symbol.s0 ++ (bits 5 symbol.p0 ++ (bits 5 symbol.p1 ++ (bits 3 symbol.s1 ++ bits 3 symbol.cmd)))
+    bits 3 symbol.s0
+    ++ (bits 5 symbol.p0 ++ (bits 5 symbol.p1 ++ (bits 3 symbol.s1 ++ bits 3 symbol.cmd)))
 
 -- what is divided: the nineteen bits and a 0, the first five turned over, and then five 0 bits
 unfoldable pub crc5_message : Fields → List Bool

@@ -14,7 +14,8 @@ pub record Spells (symbol : Fields) (bytes : List ℕ) : Type 0 where
 -- the bytes that are sent for a symbol
 unfoldable pub symbol_bytes : Fields → List ℕ
 symbol_bytes symbol =
-    (symbol.s0 * 32 + symbol.p0) ∷ (symbol.p1 * 8 + symbol.s1) ∷ (symbol.cmd * 32 + crc5_value symbol) ∷ []
+    (symbol.s0 * 32 + symbol.p0) ∷ (symbol.p1 * 8 + symbol.s1)
+    ∷ (symbol.cmd * 32 + crc5_value symbol) ∷ []
 
 -- the fields that stand in the first nineteen bits of three bytes
 abbrev pub fields_at : ℕ → ℕ → ℕ → Fields
@@ -25,7 +26,8 @@ abbrev pub found_crc : List ℕ → ℕ
 found_crc bytes = slice_index bytes 2 % 32
 
 abbrev pub computed_crc : List ℕ → ℕ
-computed_crc bytes = crc5_value (fields_at (slice_index bytes 0) (slice_index bytes 1) (slice_index bytes 2))
+computed_crc bytes =
+    crc5_value (fields_at (slice_index bytes 0) (slice_index bytes 1) (slice_index bytes 2))
 
 -- whether three numbers are bytes whose last five bits are the CRC of the first nineteen
 unfoldable pub is_spelling : ℕ → ℕ → ℕ → Bool

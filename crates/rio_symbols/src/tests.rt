@@ -2,8 +2,8 @@
 use super::*;
 use Delimiter::{Pd, Sc};
 
-// The fields, the bytes and the delimiter, as the examples of docs/symbols.md have them; a bit-serial
-// register in another language gives the same CRCs.
+/// The fields, the bytes and the delimiter, as the examples of docs/symbols.md have them; a bit-serial
+/// register in another language gives the same CRCs.
 #[test]
 fn example_symbols_are_read_and_written(rt: HostRuntime) {
     let examples: [([u8; 5], [u8; 3], Delimiter); 20] = [
@@ -33,7 +33,7 @@ fn example_symbols_are_read_and_written(rt: HostRuntime) {
     }
 }
 
-// Fields drawn at random; the bytes come from a bit-serial register in another language.
+/// Fields drawn at random; the bytes come from a bit-serial register in another language.
 #[test]
 fn drawn_symbols_are_read_and_written(rt: HostRuntime) {
     let drawn: [([u8; 5], [u8; 3], Delimiter); 9] = [
@@ -52,7 +52,7 @@ fn drawn_symbols_are_read_and_written(rt: HostRuntime) {
     }
 }
 
-// A NOP with one of its bits changed, in turn in each field.
+/// A NOP with one of its bits changed, in turn in each field.
 #[test]
 fn changed_symbols_are_refused_with_both_crcs(rt: HostRuntime) {
     let changed: [([u8; 3], u8, u8); 5] = [
