@@ -50,7 +50,7 @@ impl Wire {
         if place >= self.chars.len() {
             return Edited::Short;
         }
-        self.chars[place] = ch;
+        self.chars.set(place, ch);
         Edited::Done
     }
 
@@ -64,7 +64,7 @@ impl Wire {
         if end > self.chars.len() {
             return Edited::Short;
         }
-        self.chars.drain(place..end);
+        self.chars.remove(place, end);
         Edited::Done
     }
 
@@ -78,9 +78,7 @@ impl Wire {
         if place > self.chars.len() {
             return Ok(Edited::Short);
         }
-        match self.chars.insert(place, ch) {
-            Ok(()) => Ok(Edited::Done),
-            Err(_) => Err(NoMemory),
-        }
+        self.chars.insert(place, ch)?;
+        Ok(Edited::Done)
     }
 }

@@ -22,6 +22,7 @@ mod edits;
 mod laws;
 mod moves;
 mod pumps;
+mod queue;
 #[cfg(test)]
 mod tests;
 mod wire;

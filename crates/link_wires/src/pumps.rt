@@ -60,7 +60,7 @@ impl Wire {
         ensures sent { OnOk result (chars.new.items ≡ chars.old.items ++ symbol_chars_of symbol.now) }
     {
         let spelled = symbol_chars(symbol);
-        put_chars(&mut self.chars, spelled.as_slice())?;
+        self.chars.put(spelled.as_slice())?;
         let Ok(()) = self.kept.push_back(Event::Ctl(*symbol)) else {
             return Err(NoMemory);
         };
@@ -75,25 +75,13 @@ impl Wire {
         ensures wire { OnOk result (self.new ≡ with_sent self.old (record { chars = burst.chars.items; sent = burst.sent.items })) }
         ensures sent { OnOk result (chars.new.items ≡ chars.old.items ++ burst.chars.items) }
     {
-        put_chars(&mut self.chars, burst.chars.as_slice())?;
+        self.chars.put(burst.chars.as_slice())?;
         put_events(&mut self.kept, burst.sent)?;
         match chars.extend_from_slice(burst.chars.as_slice()) {
             Ok(()) => Ok(()),
             Err(_) => Err(NoMemory),
         }
     }
-}
-
-/// Puts characters at the end.
-fn put_chars(chars: &mut VecDeque<Char>, more: &[Char]) -> Result<(), NoMemory>
-    ensures { OnOk result (chars.new.items ≡ chars.old.items ++ more.now) }
-{
-    for c in more {
-        let Ok(()) = chars.push_back(*c) else {
-            return Err(NoMemory);
-        };
-    }
-    Ok(())
 }
 
 /// Puts events at the end.

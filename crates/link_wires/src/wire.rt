@@ -2,6 +2,7 @@
 ghost use Rattle.std.specs.Prelude.{◌≡◌, ◌≤◌, length, take, drop, IfOk, OnOk};
 ghost use Rattle.link_wires.specs.Wires.{empty_wire, silenced};
 
+use crate::queue::CharQueue;
 use link_model::Event;
 use rio_chars::{Char, NoMemory};
 use std::alloc::Global;
@@ -11,7 +12,7 @@ use std::marker::Model;
 /// One way of a link: the characters on it, and the events that were sent on it and that no acted event has met.
 #[derive(Drop)]
 pub struct Wire {
-    pub(crate) chars: VecDeque<Char>,
+    pub(crate) chars: CharQueue,
     pub(crate) kept: VecDeque<Event>,
 }
 
@@ -20,7 +21,7 @@ impl Model for Wire {
 
     ghost Value = { WireState };
 
-    ghost view = { λ wire. record { chars = wire.chars.items; kept = wire.kept.items } };
+    ghost view = { λ wire. record { chars = wire.chars; kept = wire.kept.items } };
 }
 
 impl Wire {
@@ -29,7 +30,7 @@ impl Wire {
         ensures { result ≡ empty_wire }
     {
         Wire {
-            chars: VecDeque::new(alloc),
+            chars: CharQueue::new(alloc),
             kept: VecDeque::new(alloc),
         }
     }
@@ -54,25 +55,11 @@ impl Wire {
         ensures taken { IfOk result (λ front. front.items ≡ take count self.old.chars) }
         ensures left { OnOk result (self.new ≡ record self.old { chars = drop count self.old.chars }) }
     {
-        let front = self.front(alloc, count)?;
-        self.chars.drain(..count);
-        Ok(front)
-    }
-
-    /// A copy of characters at the front.
-    fn front(&self, alloc: Global, count: usize) -> Result<Vec<Char>, NoMemory>
-        requires { count ≤ length self.now.chars }
-        ensures { IfOk result (λ front. front.items ≡ take count self.now.chars) }
-    {
-        let (first, second) = self.chars.as_slices();
         let mut front = Vec::new(alloc);
-        let split = first.len().min(count);
-        let Ok(()) = front.extend_from_slice(&first[..split]) else {
+        let Ok(()) = front.extend_from_slice(&self.chars.as_slice()[..count]) else {
             return Err(NoMemory);
         };
-        let Ok(()) = front.extend_from_slice(&second[..count - split]) else {
-            return Err(NoMemory);
-        };
+        self.chars.skip(count);
         Ok(front)
     }
 }
