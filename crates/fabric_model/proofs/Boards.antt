@@ -4,7 +4,7 @@ use Rattle.std.proofs.Common.{◌≡◌, ℕ, ◌+◌, Bool, true, false, eqb, L
 use Rattle.std.specs.List.{AllByRecursion}
 use Rattle.std.proofs.lemmas.Bool.{and_parts, eqb-true}
 use Rattle.rio_packets.specs.Fields.{prio_of}
-use Rattle.fabric_model.specs.declared.lines.PortRef.{PortRef}
+use Rattle.fabric_script.specs.declared.ports.PortRef.{PortRef}
 use Rattle.fabric_model.specs.Network.{Item, Network, same_port, port_of, peer_in, first_packet}
 use Rattle.fabric_model.specs.Steps.{Hold, Free, Take, Leave, Step, Linked, AtNode, Needs, only_first, behind_first, after_hold, after}
 use Rattle.fabric_model.specs.Laws.History.{IsEmptyNetwork, taken_by, left_by}

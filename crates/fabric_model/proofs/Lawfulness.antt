@@ -1,6 +1,6 @@
 -- All laws together hold of the steps of a script's trace.
 use Rattle.std.specs.Prelude.{List}
-use Rattle.fabric_model.specs.declared.lines.Numbered.{Numbered}
+use Rattle.fabric_script.specs.declared.lines.Numbered.{Numbered}
 use Rattle.fabric_model.specs.Network.{Network}
 use Rattle.fabric_model.specs.Steps.{Step, LegalFrom}
 use Rattle.fabric_model.specs.Runs.{bare, set_up_all}

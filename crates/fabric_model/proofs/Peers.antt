@@ -1,10 +1,10 @@
 -- In proper links the peer of a port's peer is the port. Links that are set up one by one are proper.
 use Rattle.std.proofs.Common.{◌≡◌, Bool, true, false, eqb, List, [], ◌∷◌, ◌++◌, Option, Some, None, ap, subst, refl, cond}
 use Rattle.std.proofs.lemmas.Bool.{and_parts, eqb-true, eq-eqb, and_from, false_from_ne_true}
-use Rattle.fabric_model.specs.declared.lines.PortRef.{PortRef}
-use Rattle.fabric_model.specs.declared.lines.Line.{Line}
-use Rattle.fabric_model.specs.declared.lines.Line.TheVariants.{Endpoint, Link, Send, Settle, Collect}
-use Rattle.fabric_model.specs.declared.lines.Numbered.{Numbered}
+use Rattle.fabric_script.specs.declared.ports.PortRef.{PortRef}
+use Rattle.fabric_script.specs.declared.lines.Line.{Line}
+use Rattle.fabric_script.specs.declared.lines.Line.TheVariants.{Endpoint, Link}
+use Rattle.fabric_script.specs.declared.lines.Numbered.{Numbered}
 use Rattle.fabric_model.specs.Network.{Network, same_port, peer_in, link_in}
 use Rattle.fabric_model.specs.Runs.{bare, set_up, set_up_all}
 use Rattle.fabric_model.specs.Laws.History.{IsEmptyNetwork}
@@ -100,11 +100,8 @@ AreProper-append (link ∷ links) a b proper apart no_a no_b =
 
 -- one line of set-up keeps the links proper
 pub set_up_proper : (net : Network) (line : Line) → AreProper net.links → JoinsFreePorts net line → AreProper (set_up net line).links
-set_up_proper net (Endpoint name id) proper joins = proper
 set_up_proper net (Link a b) proper joins = AreProper-append net.links a b proper joins.0 joins.1 joins.2
-set_up_proper net (Send node prio ftype dest hex) proper joins = proper
-set_up_proper net (Settle port) proper joins = proper
-set_up_proper net (Collect node) proper joins = proper
+set_up_proper net _ proper joins = proper
 
 pub set_up_all_proper : (net : Network) (script : List Numbered) → AreProper net.links → SetUpIsProper net script → AreProper (set_up_all net script).links
 set_up_all_proper net [] proper joins = proper
@@ -113,9 +110,7 @@ set_up_all_proper net (line ∷ script) proper joins = set_up_all_proper (set_up
 set_up_empty : (net : Network) (line : Line) → IsEmptyNetwork net → IsEmptyNetwork (set_up net line)
 set_up_empty net (Endpoint name id) empty = record { received = empty.received; waiting = empty.waiting; lent = empty.lent; given = empty.given }
 set_up_empty net (Link a b) empty = record { received = empty.received; waiting = empty.waiting; lent = empty.lent; given = empty.given }
-set_up_empty net (Send node prio ftype dest hex) empty = empty
-set_up_empty net (Settle port) empty = empty
-set_up_empty net (Collect node) empty = empty
+set_up_empty net _ empty = empty
 
 set_up_all_empty : (net : Network) (script : List Numbered) → IsEmptyNetwork net → IsEmptyNetwork (set_up_all net script)
 set_up_all_empty net [] empty = empty

@@ -1,7 +1,7 @@
 -- Settling leaves nothing that could pass: the first way leaves nothing, and the way back brings nothing for it.
 use Rattle.std.proofs.Common.{◌≡◌, inl, inr, ℕ, zero, suc, ◌<◌, Bool, false, List, [], ◌∷◌, ◌++◌, Option, Some, None, refl, sym, ap, ◌∙◌, subst, arith}
 use Rattle.rio_packets.specs.Fields.{prio_of}
-use Rattle.fabric_model.specs.declared.lines.PortRef.{PortRef}
+use Rattle.fabric_script.specs.declared.ports.PortRef.{PortRef}
 use Rattle.fabric_model.specs.Network.{Item, Network, same_port, peer_in, link_in, next_packet, first_packet, room_in}
 use Rattle.fabric_model.specs.Steps.{Free, Linked, after_hold, after}
 use Rattle.fabric_model.specs.Lines.{TraceLine, Begun, Stepped, Lacked, Ended}

@@ -2,17 +2,17 @@
 use Rattle.std.proofs.Common.{◌≡◌, ℕ, Bool, true, false, List, [], ◌∷◌, ◌++◌, Option, Some, None, MatchBool, sym, ap, ◌∙◌, subst, append_assoc}
 use Rattle.rio_packets.specs.Fields.{body_of}
 use Rattle.rio_packets.proofs.FormLaws.{LinkForm-one}
-use Rattle.fabric_model.specs.declared.lines.PortRef.{PortRef}
-use Rattle.fabric_model.specs.declared.lines.Line.{Line}
-use Rattle.fabric_model.specs.declared.lines.Line.TheVariants.{Endpoint, Link, Send, Settle, Collect}
-use Rattle.fabric_model.specs.declared.lines.Numbered.{Numbered}
+use Rattle.fabric_script.specs.declared.ports.PortRef.{PortRef}
+use Rattle.fabric_script.specs.declared.lines.Line.{Line}
+use Rattle.fabric_script.specs.declared.lines.Line.TheVariants.{Send, Settle, Collect}
+use Rattle.fabric_script.specs.declared.lines.Numbered.{Numbered}
 use Rattle.fabric_model.specs.Network.{base_of, link_in}
 use Rattle.fabric_model.specs.Lines.{TraceLine, Begun}
 use Rattle.fabric_model.specs.Seen.{Seen, seen_line, seen}
 use Rattle.fabric_model.specs.Schedule.{NextOf, WhileOf, Rests, GoesOn}
 use Rattle.fabric_model.specs.Blocks.Send.{IsSend, sends}
 use Rattle.fabric_model.specs.Blocks.Settle.{can_pass, IsPass, PassesAll, PassesBoth}
-use Rattle.fabric_model.specs.Blocks.Event.{is_event, IsBlock}
+use Rattle.fabric_model.specs.Blocks.Event.{has_block, IsBlock}
 use Rattle.fabric_model.specs.Runs.{start, BlockThen, RunsFrom, Runs, BlocksFrom, Begins}
 use Rattle.fabric_model.specs.Laws.Freeing.{IsFront}
 
@@ -52,11 +52,10 @@ settle_one None s x y f g = f ∙ sym g
 settle_one (Some link) s x y f g = next_one seen (PassesAll link.0 link.1) (PassesAll link.1 link.0) (passes_one link.0 link.1) (passes_one link.1 link.0) s x y f g
 
 pub block_one : (line : Line) (s : Seen) → AtMostOne (IsBlock s line)
-block_one (Endpoint name id) s x y f g = absurd f
-block_one (Link a b) s x y f g = absurd f
 block_one (Send node prio ftype dest hex) s x y f g = send_one s node prio ftype dest hex x y f g
 block_one (Settle port) s x y f g = settle_one (link_in s.network.links port) s x y f g
 block_one (Collect node) s x y f g = f ∙ sym g
+block_one _ s x y f g = absurd f
 
 -- the lines of an event with its block, and then those of the rest of a script
 abbrev EventThen : Seen → Numbered → List Numbered → List TraceLine → Type 0
@@ -72,7 +71,7 @@ event_one s line script one x y p q =
 pub runs_from_one : (script : List Numbered) (s : Seen) → AtMostOne (RunsFrom s script)
 runs_from_one [] s x y f g = f ∙ sym g
 runs_from_one (line ∷ script) s x y f g =
-    match_one (is_event line.line) (EventThen s line script) (RunsFrom s script) (event_one s line script (runs_from_one script)) (runs_from_one script s) x y f g
+    match_one (has_block line.line) (EventThen s line script) (RunsFrom s script) (event_one s line script (runs_from_one script)) (runs_from_one script s) x y f g
 
 pub runs_one : (script : List Numbered) → AtMostOne (Runs script)
 runs_one script = runs_from_one script (start script)
@@ -92,7 +91,7 @@ event_front s line A B x y front p q =
 blocks_front : (done rest : List Numbered) (s : Seen) (x y : List TraceLine) → BlocksFrom s done x → RunsFrom s (done ++ rest) y → IsFront x y
 blocks_front [] rest s x y p q = (y, ap (λ l. l ++ y) (sym p))
 blocks_front (line ∷ done) rest s x y p q =
-    by_test (is_event line.line) (event_front s line.line (λ t a. BlocksFrom t done a) (λ t b. RunsFrom t (done ++ rest) b) x y (blocks_front done rest)) (blocks_front done rest s x y) p q
+    by_test (has_block line.line) (event_front s line.line (λ t a. BlocksFrom t done a) (λ t b. RunsFrom t (done ++ rest) b) x y (blocks_front done rest)) (blocks_front done rest s x y) p q
 
 pub first_blocks_front : (script : List Numbered) (lines all : List TraceLine) → Begins script lines → Runs script all → IsFront lines all
 first_blocks_front script lines all begins runs =

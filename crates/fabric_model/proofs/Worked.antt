@@ -11,7 +11,7 @@ use Rattle.rio_packets.specs.Making.{made, with_crc, with_more}
 use Rattle.rio_packets.specs.Register.{fed, shifted, shifted_times}
 use Rattle.rio_packets.proofs.CarriesLaws.{decides_passes}
 use Rattle.rio_packets.proofs.FormLaws.{LinkForm-made}
-use Rattle.fabric_model.specs.declared.lines.Line.TheVariants.{Settle, Collect}
+use Rattle.fabric_script.specs.declared.lines.Line.TheVariants.{Settle, Collect}
 use Rattle.fabric_model.specs.Network.{Item, port_of, first_packet, room_in}
 use Rattle.fabric_model.specs.Steps.{Hold, Free, Take, Leave, Linked, AtNode, after_all, LegalFrom}
 use Rattle.fabric_model.specs.Lines.{TraceLine, Begun, Stepped, Ended, steps_of}

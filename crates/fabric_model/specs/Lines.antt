@@ -1,6 +1,6 @@
 -- The lines of a trace, and the steps that they say.
 use Rattle.std.specs.Prelude.{List, [], ◌∷◌}
-use Rattle.fabric_model.specs.declared.lines.Line.{Line}
+use Rattle.fabric_script.specs.declared.lines.Line.{Line}
 use Rattle.fabric_model.specs.Steps.{Step}
 
 -- why nothing could be done: no room for a packet to be sent; nothing is held

@@ -1,7 +1,7 @@
 -- The plain network: first-in first-out queues of packets, with no link protocol.
 use Rattle.std.specs.Prelude.{ℕ, ◌+◌, ◌-◌, Bool, ◌&&◌, ◌==◌, nat_lt, IsSome, List, [], ◌∷◌, ◌++◌, length, Option, Some, None, filter, slice_get, option_map, unwrap_or, if◌then◌else◌}
 use Rattle.rio_packets.specs.Fields.{prio_of}
-use Rattle.fabric_model.specs.declared.lines.PortRef.{PortRef}
+use Rattle.fabric_script.specs.declared.ports.PortRef.{PortRef}
 
 -- A packet in the network: the number that it was given, the port where it was taken and what it was then, and what
 -- it is now. A packet is the list of its bytes.

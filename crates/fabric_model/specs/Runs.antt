@@ -1,12 +1,12 @@
 -- What a trace of a script is.
 use Rattle.std.specs.Prelude.{◌≡◌, List, [], ◌∷◌, ◌++◌, MatchBool}
-use Rattle.fabric_model.specs.declared.lines.Line.{Line}
-use Rattle.fabric_model.specs.declared.lines.Line.TheVariants.{Endpoint, Link, Send, Settle, Collect}
-use Rattle.fabric_model.specs.declared.lines.Numbered.{Numbered}
+use Rattle.fabric_script.specs.declared.lines.Line.{Line}
+use Rattle.fabric_script.specs.declared.lines.Line.TheVariants.{Endpoint, Link}
+use Rattle.fabric_script.specs.declared.lines.Numbered.{Numbered}
 use Rattle.fabric_model.specs.Network.{Network}
 use Rattle.fabric_model.specs.Lines.{TraceLine, Begun, Ended}
 use Rattle.fabric_model.specs.Seen.{Seen, seen_line, seen}
-use Rattle.fabric_model.specs.Blocks.Event.{is_event, IsBlock}
+use Rattle.fabric_model.specs.Blocks.Event.{has_block, IsBlock}
 
 -- the network before any line of a script
 abbrev pub bare : Network
@@ -24,9 +24,7 @@ bare = record {
 abbrev pub set_up : Network → Line → Network
 set_up net (Endpoint name id) = record net { registers = net.registers ++ record { base = id } ∷ [] }
 set_up net (Link a b) = record net { links = net.links ++ (a, b) ∷ [] }
-set_up net (Send node prio ftype dest hex) = net
-set_up net (Settle port) = net
-set_up net (Collect node) = net
+set_up net _ = net
 
 abbrev pub set_up_all : Network → List Numbered → Network
 set_up_all net [] = net
@@ -44,7 +42,7 @@ BlockThen Behind s line lines = (block : List TraceLine) × (rest : List TraceLi
 -- For each event in turn, the line that it begins with and its block; then the last line.
 abbrev pub RunsFrom : Seen → List Numbered → List TraceLine → Type 0
 RunsFrom s [] lines = lines ≡ Ended ∷ []
-RunsFrom s (line ∷ script) lines = MatchBool (is_event line.line) (BlockThen (λ t rest. RunsFrom t script rest) s line.line lines) (RunsFrom s script lines)
+RunsFrom s (line ∷ script) lines = MatchBool (has_block line.line) (BlockThen (λ t rest. RunsFrom t script rest) s line.line lines) (RunsFrom s script lines)
 
 -- the lines are a trace of the script
 abbrev pub Runs : List Numbered → List TraceLine → Type 0
@@ -53,7 +51,7 @@ Runs script lines = RunsFrom (start script) script lines
 -- The same with no last line: what a trace begins with.
 abbrev pub BlocksFrom : Seen → List Numbered → List TraceLine → Type 0
 BlocksFrom s [] lines = lines ≡ []
-BlocksFrom s (line ∷ script) lines = MatchBool (is_event line.line) (BlockThen (λ t rest. BlocksFrom t script rest) s line.line lines) (BlocksFrom s script lines)
+BlocksFrom s (line ∷ script) lines = MatchBool (has_block line.line) (BlockThen (λ t rest. BlocksFrom t script rest) s line.line lines) (BlocksFrom s script lines)
 
 -- the lines are the blocks of the first events of the script
 pub record Begins (script : List Numbered) (lines : List TraceLine) : Type 0 where

@@ -3,7 +3,7 @@
 use Rattle.std.specs.Prelude.{◌≡◌, ℕ, ◌+◌, false, IsTrue, List, [], ◌∷◌, ◌++◌, Option, Some, None}
 use Rattle.rio_packets.specs.Fields.{prio_of, is_request}
 use Rattle.rio_packets.specs.LinkForm.{Passes}
-use Rattle.fabric_model.specs.declared.lines.PortRef.{PortRef}
+use Rattle.fabric_script.specs.declared.ports.PortRef.{PortRef}
 use Rattle.fabric_model.specs.Network.{Item, Network, port_of, with_lane, with_lent, peer_in, first_packet, room_in, room_out, IsEndpoint}
 
 -- what happens between two ports of a link: the port holds a packet that its peer sent; the port frees a packet that

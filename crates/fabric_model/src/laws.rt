@@ -4,8 +4,8 @@
 //! settles a link: of any number of nodes, ports and priorities, and of any buffers.
 
 ghost use Rattle.std.specs.Prelude.{List, Some, ◌≡◌, ◌++◌};
-ghost use Rattle.fabric_model.specs.declared.lines.Numbered.{Numbered};
-ghost use Rattle.fabric_model.specs.declared.lines.PortRef.{PortRef as Port};
+ghost use Rattle.fabric_script.specs.declared.lines.Numbered.{Numbered};
+ghost use Rattle.fabric_script.specs.declared.ports.PortRef.{PortRef as Port};
 ghost use Rattle.fabric_model.specs.Network.{Network, link_in};
 ghost use Rattle.fabric_model.specs.Steps.{Step, LegalFrom, after_all};
 ghost use Rattle.fabric_model.specs.Lines.{TraceLine, steps_of};

@@ -1,7 +1,7 @@
 //! What a fabric is and what a trace of it says, apart from any link protocol.
 //!
-//! The crate has the types of a script (`Script`, `Line` and their parts) and, in `specs/`, the definitions that the
-//! contracts above cite:
+//! A script's types are those of `fabric_script`. The crate has, in `specs/`, the definitions that the contracts above
+//! cite:
 //!
 //! - `Network`: plain first-in first-out queues, one for each port and priority on either side of a link;
 //! - `Steps`: what a packet's taking, holding, freeing and leaving need and do, and which lists of steps are legal;
@@ -17,13 +17,12 @@
 //! packets are held exactly, leave once, unchanged and in order, and are freed after the next hop holds them; and
 //! settling leaves no packet that could pass.
 //!
-//! It leaves out how packets cross a link: no ackID, symbol, window or retry stands here.
+//! It leaves out how packets cross a link: no ackID, symbol, window or retry stands here. Of the lines of a script it
+//! says what endpoints, links, `send`, `settle` and `collect` do. A script with another line has no trace here.
 #![tactic(auto)]
 
 mod examples;
 mod laws;
-mod lines;
-mod text;
 
 pub use examples::{laws_can_fail, worked_run};
 pub use laws::{
@@ -31,5 +30,3 @@ pub use laws::{
     in_order_of_priority, joined, once, one_end, one_trace, places_suffice, set_up, settled,
     unchanged,
 };
-pub use lines::{Line, Numbered, PortRef, Script};
-pub use text::{Hex, Name};

@@ -1,7 +1,7 @@
 -- `settle`: a link passes what waits, its first port first.
 use Rattle.std.specs.Prelude.{◌≡◌, ℕ, Bool, false, List, [], ◌∷◌, Option, Some, None}
 use Rattle.rio_packets.specs.Fields.{prio_of}
-use Rattle.fabric_model.specs.declared.lines.PortRef.{PortRef}
+use Rattle.fabric_script.specs.declared.ports.PortRef.{PortRef}
 use Rattle.fabric_model.specs.Network.{Network, link_in, next_packet, room_in}
 use Rattle.fabric_model.specs.Steps.{Hold, Free, Linked}
 use Rattle.fabric_model.specs.Lines.{TraceLine, Stepped}

@@ -1,7 +1,7 @@
 -- Small lists of steps: a worked run over one link, and for laws that can fail a list of which each does not hold.
 use Rattle.std.specs.Prelude.{ℕ, List, [], ◌∷◌}
-use Rattle.fabric_model.specs.declared.lines.Line.TheVariants.{Endpoint, Link, Send, Settle, Collect}
-use Rattle.fabric_model.specs.declared.lines.Numbered.{Numbered}
+use Rattle.fabric_script.specs.declared.lines.Line.TheVariants.{Endpoint, Link, Send, Settle, Collect}
+use Rattle.fabric_script.specs.declared.lines.Numbered.{Numbered}
 use Rattle.fabric_model.specs.Network.{Item, Network, port_of}
 use Rattle.fabric_model.specs.Steps.{Hold, Free, Take, Leave, Step, Linked, AtNode, after_all}
 use Rattle.fabric_model.specs.Lines.{TraceLine, Begun, Stepped, Ended}

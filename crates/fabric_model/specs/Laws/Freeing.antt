@@ -1,6 +1,6 @@
 -- No port frees a packet before the next hop holds it.
 use Rattle.std.specs.Prelude.{◌≡◌, ℕ, Bool, false, if◌then◌else◌, List, [], ◌∷◌, ◌++◌, Option, Some, None}
-use Rattle.fabric_model.specs.declared.lines.PortRef.{PortRef}
+use Rattle.fabric_script.specs.declared.ports.PortRef.{PortRef}
 use Rattle.fabric_model.specs.Network.{Network, same_port, peer_in}
 use Rattle.fabric_model.specs.Steps.{Hold, Free, Step, Linked, AtNode}
 use Rattle.fabric_model.specs.Laws.History.{gathered}

@@ -1,7 +1,7 @@
 -- What a list of steps says of the items: which were taken, and which have left.
 use Rattle.std.specs.Prelude.{◌≡◌, ℕ, List, [], ◌∷◌, ◌++◌, slice_get, Some}
 use Rattle.rio_packets.specs.Fields.{prio_of}
-use Rattle.fabric_model.specs.declared.lines.PortRef.{PortRef}
+use Rattle.fabric_script.specs.declared.ports.PortRef.{PortRef}
 use Rattle.fabric_model.specs.Network.{Item, Network, port_of}
 use Rattle.fabric_model.specs.Steps.{Take, Leave, Step, Linked, AtNode, only_first, after}
 

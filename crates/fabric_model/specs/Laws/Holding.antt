@@ -1,7 +1,7 @@
 -- Holding exactly the packets taken: each number that was given out stands in exactly one place.
 use Rattle.std.specs.Prelude.{◌≡◌, ℕ, ◌+◌, ◌<◌, Bool, true, false, ◌&&◌, ◌==◌, if◌then◌else◌, List, [], ◌∷◌, length}
 use Rattle.std.specs.List.{AllByRecursion}
-use Rattle.fabric_model.specs.declared.lines.PortRef.{PortRef}
+use Rattle.fabric_script.specs.declared.ports.PortRef.{PortRef}
 use Rattle.fabric_model.specs.Network.{Item, Network, same_port}
 use Rattle.fabric_model.specs.Steps.{Step}
 use Rattle.fabric_model.specs.Laws.History.{taken, gone, WasTaken}

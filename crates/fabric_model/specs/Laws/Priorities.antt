@@ -2,7 +2,7 @@
 use Rattle.std.specs.Prelude.{◌≡◌, ℕ}
 use Rattle.std.specs.List.{AllByRecursion}
 use Rattle.rio_packets.specs.Fields.{prio_of}
-use Rattle.fabric_model.specs.declared.lines.PortRef.{PortRef}
+use Rattle.fabric_script.specs.declared.ports.PortRef.{PortRef}
 use Rattle.fabric_model.specs.Network.{Network}
 
 -- The lists of a priority hold packets of that priority alone, so that a step finds its packet by the packet's own.

@@ -1,9 +1,9 @@
 -- Which links can be: the premise of order.
 use Rattle.std.specs.Prelude.{◌≡◌, false, List, [], ◌∷◌, None, ⊤}
-use Rattle.fabric_model.specs.declared.lines.PortRef.{PortRef}
-use Rattle.fabric_model.specs.declared.lines.Line.{Line}
-use Rattle.fabric_model.specs.declared.lines.Line.TheVariants.{Endpoint, Link, Send, Settle, Collect}
-use Rattle.fabric_model.specs.declared.lines.Numbered.{Numbered}
+use Rattle.fabric_script.specs.declared.ports.PortRef.{PortRef}
+use Rattle.fabric_script.specs.declared.lines.Line.{Line}
+use Rattle.fabric_script.specs.declared.lines.Line.TheVariants.{Link}
+use Rattle.fabric_script.specs.declared.lines.Numbered.{Numbered}
 use Rattle.fabric_model.specs.Network.{Network, same_port, peer_in}
 use Rattle.fabric_model.specs.Runs.{set_up}
 
@@ -14,11 +14,8 @@ AreProper (link ∷ links) = (same_port link.0 link.1 ≡ false) × (peer_in lin
 
 -- a line that links joins two ports that have no link yet
 abbrev pub JoinsFreePorts : Network → Line → Type 0
-JoinsFreePorts net (Endpoint name id) = ⊤
 JoinsFreePorts net (Link a b) = (same_port a b ≡ false) × (peer_in net.links a ≡ None) × (peer_in net.links b ≡ None)
-JoinsFreePorts net (Send node prio ftype dest hex) = ⊤
-JoinsFreePorts net (Settle port) = ⊤
-JoinsFreePorts net (Collect node) = ⊤
+JoinsFreePorts net _ = ⊤
 
 -- the same of each line of a script, after the lines before it
 abbrev pub SetUpIsProper : Network → List Numbered → Type 0
