@@ -2,9 +2,7 @@ pub mod ShowingLaws
 pub mod TurnLaws
 pub mod PassLaws
 pub mod PassingLaws
+pub mod BuiltLaws
 pub mod EventLaws
-pub mod ReadingForms
-pub mod ReadingHex
-pub mod ReadingLaws
 pub mod ReplayingLaws
 pub mod PrintingLaws

@@ -5,7 +5,7 @@ use Rattle.std.proofs.lemmas.List.Elements.{All-drop, All-push}
 use Rattle.rio_packets.specs.Fields.{prio_of, is_request}
 use Rattle.link_buffers.specs.Queues.{list_at, appended, popped, packet_count, Buffered, IsInStore, IsOutStore}
 use Rattle.link_buffers.proofs.QueueLemmas.{each-set}
-use Rattle.fabric_model.specs.declared.lines.PortRef.{PortRef}
+use Rattle.fabric_script.specs.declared.ports.PortRef.{PortRef}
 use Rattle.fabric_model.specs.Network.{Item, Registers, Network, with_lane, peer_in, first_packet, in_turn, next_packet, room_in}
 use Rattle.fabric_model.specs.Steps.{Hold, Free, Linked, Needs, behind_first, only_first, after_hold, after, LegalFrom}
 use Rattle.fabric_model.specs.Blocks.Settle.{has_room_at}

@@ -8,7 +8,7 @@ use Rattle.rio_chars.specs.declared.outbox.Outbox.{Outbox}
 use Rattle.rio_chars.proofs.WrittenLaws.{Writes-nil, Writes-then}
 use Rattle.link_buffers.specs.Queues.{list_at, appended, popped, packet_count}
 use Rattle.link_buffers.proofs.QueueLemmas.{packet_count-popped}
-use Rattle.fabric_model.specs.declared.lines.PortRef.{PortRef}
+use Rattle.fabric_script.specs.declared.ports.PortRef.{PortRef}
 use Rattle.fabric_model.specs.Network.{Registers, Network}
 use Rattle.fabric_model.specs.Steps.{Hold, Free, Linked, LegalFrom}
 use Rattle.fabric_model.specs.Lines.{TraceLine, Stepped, steps_of}

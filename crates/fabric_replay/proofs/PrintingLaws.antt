@@ -1,7 +1,12 @@
 -- What two calls print, one after the other.
 use Rattle.std.proofs.Common.{◌≡◌, ℕ, List, ◌++◌, Option, subst, append_assoc}
 use Rattle.std.specs.Prelude.{codes}
+use Rattle.std.specs.Fmt.{decimal}
 use Rattle.rio_chars.specs.HexText.{hex_of}
+use Rattle.fabric_script.specs.declared.lines.Line.TheVariants.{Send}
+use Rattle.fabric_script.specs.Names.{name_of}
+use Rattle.fabric_script.specs.Texts.{hex_text}
+use Rattle.fabric_script.specs.Lines.{line_text}
 use Rattle.rio_chars.specs.Written.{Writes}
 use Rattle.rio_chars.specs.declared.outbox.Outbox.{Outbox}
 use Rattle.rio_chars.proofs.WrittenLaws.{Writes-then}
@@ -14,3 +19,11 @@ pub Writes-packet : {K : Type 0} {written : K → Option (List ℕ)} {faults : K
     → Writes written faults c d (codes " " ++ (hex_of packet ++ codes "\n")) → Writes written faults a d (word ++ name ++ codes " " ++ hex_of packet ++ codes "\n")
 Writes-packet {K} {written} {faults} {a} {b} {c} {d} word name packet first second last =
     subst (Writes written faults a d) (regrouped (word ++ name) (codes " ") (hex_of packet) (codes "\n")) (Writes-then (word ++ name) _ (Writes-then word name first second) last)
+
+flat : (k n a p f d h : List ℕ) → k ++ n ++ a ++ p ++ a ++ f ++ a ++ d ++ a ++ h ≡ k ++ (n ++ (a ++ (p ++ (a ++ (f ++ (a ++ (d ++ (a ++ h))))))))
+flat k n a p f d h = simp append_assoc
+
+-- the words of a `send`, one after the other, are its text
+pub send_text : (names : List (List ℕ)) (node prio ftype dest : ℕ) (hex : List ℕ)
+    → codes "send " ++ name_of names node ++ codes " " ++ decimal prio ++ codes " " ++ decimal ftype ++ codes " " ++ decimal dest ++ codes " " ++ hex_text hex ≡ line_text names (Send node prio ftype dest hex)
+send_text names node prio ftype dest hex = flat (codes "send ") (name_of names node) (codes " ") (decimal prio) (decimal ftype) (decimal dest) (hex_text hex)

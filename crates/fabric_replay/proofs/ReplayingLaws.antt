@@ -1,67 +1,39 @@
 -- How a replay goes from event to event.
-use Rattle.std.proofs.Common.{◌≡◌, ℕ, ◌+◌, ◌<◌, ◌≤◌, zero, suc, true, false, MatchBool, List, [], ◌∷◌, ◌++◌, length, take, get_or, refl, sym, ap, ◌∙◌, subst, arith, Option, inr, append-nil, length-take, drop, take-append-drop, All, inl}
-use Rattle.std.proofs.lemmas.Bool.{false≢true}
+use Rattle.std.proofs.Common.{◌≡◌, ℕ, ◌+◌, ◌<◌, ◌≤◌, zero, suc, true, false, MatchBool, List, [], ◌∷◌, ◌++◌, length, take, get_or, None, ◌⊎◌, refl, sym, ap, ◌∙◌, subst, arith, Option, inr, append-nil, drop, take-append-drop, All, inl}
 use Rattle.std.proofs.lemmas.List.{take_more, take_all}
 use Rattle.rio_chars.specs.Written.{Writes}
 use Rattle.rio_chars.specs.declared.outbox.Outbox.{Outbox}
 use Rattle.rio_chars.proofs.WrittenLaws.{Writes-nil, Writes-then, Writes-whole, Writes-front}
-use Rattle.fabric_model.specs.declared.lines.Line.{Line}
-use Rattle.fabric_model.specs.declared.lines.Line.TheVariants.{Endpoint, Link, Send, Settle, Collect}
-use Rattle.fabric_model.specs.declared.lines.Numbered.{Numbered}
+use Rattle.fabric_script.specs.declared.lines.Line.{Line}
+use Rattle.fabric_script.specs.declared.lines.Line.TheVariants.{Endpoint, Link, Send, Settle, Collect}
+use Rattle.fabric_script.specs.Lines.{is_event}
+use Rattle.fabric_script.specs.Scripts.{Passes}
+use Rattle.fabric_script.specs.declared.lines.Numbered.{Numbered}
 use Rattle.fabric_model.specs.Network.{Network, port_of}
 use Rattle.fabric_model.specs.Steps.{LegalFrom}
 use Rattle.fabric_model.specs.Lines.{TraceLine, Begun, Ended, steps_of}
 use Rattle.fabric_model.specs.Text.{trace_line_text, trace_text}
 use Rattle.fabric_model.specs.Seen.{Seen, seen}
-use Rattle.fabric_model.specs.Blocks.Event.{is_event}
+use Rattle.fabric_model.specs.Blocks.Event.{has_block}
 use Rattle.fabric_model.specs.Runs.{bare, set_up, set_up_all, start, BlockThen, BlocksFrom, Runs, Begins}
-use Rattle.fabric_model.specs.Laws.Proper.{AreProper, JoinsFreePorts, SetUpIsProper}
 use Rattle.fabric_model.proofs.Lawfulness.{lawful}
-use Rattle.fabric_model.proofs.Peers.{set_up_all_proper}
 use Rattle.fabric_model.proofs.Unique.{runs_one, first_blocks_front}
 use Rattle.fabric_model.proofs.Joining.{steps_of-append, legal_joined}
 use Rattle.fabric_model.proofs.Beginning.{seen-append, BlocksFrom-append, BlocksFrom-run}
 use Rattle.fabric_replay.specs.declared.fabric.Fabric.{Fabric}
-use Rattle.fabric_replay.specs.Forms.{two_names, IsFormAt, IsEventForm, HasGoodLength, PassesFrom, Passes}
-use Rattle.fabric_replay.specs.Showing.{ShowsLanes, AsksNothing, ShowsPort}
+use Rattle.fabric_replay.specs.SetUps.{ids_after_all, link_after_all, links_of, registers_of}
+use Rattle.fabric_replay.specs.Unbuilt.{unbuilt_in}
+use Rattle.fabric_replay.specs.Carried.{IsCarried}
+use Rattle.fabric_replay.specs.Printing.{IsTold}
+use Rattle.fabric_replay.specs.Showing.{packets_of, ShowsLanes, AsksNothing, ShowsPort, ShowsEnds}
+use Rattle.fabric_replay.proofs.BuiltLaws.{IsEventIn, event_at, block_event_at, script_end, links_proper}
 use Rattle.link_buffers.specs.Queues.{list_at, no_packets}
 use Rattle.rio_packets.specs.Fields.{is_request}
-use Rattle.fabric_model.specs.declared.lines.PortRef.{PortRef}
-use Rattle.fabric_replay.specs.Events.{IsBare, ShowsFabric, Evented}
+use Rattle.fabric_script.specs.declared.ports.PortRef.{PortRef}
+use Rattle.fabric_replay.specs.Events.{IsSetUpBy, ShowsFabric, Evented}
 use Rattle.fabric_replay.specs.Replaying.{Replayed, ReplayedFront, Going}
 use Rattle.fabric_replay.proofs.EventLaws.{Writes-line}
 use Rattle.fabric_replay.proofs.PassingLaws.{Writes-lines}
-
--- ---- the lines of a script that passes
-
-PassesFrom-at : (place i n : ℕ) (lines : List Numbered) (d : Numbered) → n ≡ place + i → PassesFrom place lines → i < length lines → IsFormAt n (get_or lines i d).line × HasGoodLength (get_or lines i d).line
-PassesFrom-at place i n [] d e p within = absurd (omega arith)
-PassesFrom-at place zero n (line ∷ lines) d e p within = let same : place ≡ n = omega arith in (subst (λ k. IsFormAt k line.line) same p.0, p.1)
-PassesFrom-at place (suc i) n (line ∷ lines) d e p within = PassesFrom-at (suc place) i n lines d (omega arith) p.2 (omega arith)
-
-not_an_event : (line other : Line) → line ≡ other → is_event other ≡ false → is_event line ≡ true → ⊥
-not_an_event line other e f t = false≢true (sym f ∙ sym (ap is_event e) ∙ t)
-
-event_form : (n : ℕ) (line : Line) → IsFormAt n line → is_event line ≡ true → (3 ≤ n) × IsEventForm line
-event_form zero line form t = absurd (not_an_event line _ form refl t)
-event_form (suc zero) line form t = absurd (not_an_event line _ form refl t)
-event_form (suc (suc zero)) line form t = absurd (not_an_event line _ form refl t)
-event_form (suc (suc (suc n))) line form t = (omega arith, form)
-
--- what is known of an event of a script that passes
-pub record IsEventAt (names : List (List ℕ)) (script : List Numbered) (line : Line) : Type 0 where
-  pub form : IsEventForm line
-  pub fits : HasGoodLength line
-  pub late : 3 ≤ length script
-  pub named : 1 < length names
-
-pub event_at : (names : List (List ℕ)) (script : List Numbered) (i : ℕ) (d : Numbered) → Passes names script → i < length script → is_event (get_or script i d).line ≡ true → IsEventAt names script (get_or script i d).line
-event_at names script i d p within t =
-    let at = PassesFrom-at 0 i i script d (omega arith) p.1 within in
-    let form = event_form i (get_or script i d).line at.0 t in
-    let late = form.0 in
-    let named = ap length p.0 ∙ length-take (length script) two_names in
-    record { form = form.1; fits = at.1; late = omega arith; named = omega arith }
 
 -- an item that was read at a place of the script
 pub record IsItem (script : List Numbered) (i : ℕ) (item : Numbered) : Type 0 where
@@ -71,60 +43,27 @@ pub record IsItem (script : List Numbered) (i : ℕ) (item : Numbered) : Type 0 
 pub item_of : (script read : List Numbered) (i : ℕ) (item : Numbered) → read ≡ script → item ≡ get_or read i item → i < length read → IsItem script i item
 item_of script read i item same at within = record { at = subst (λ xs. item ≡ get_or xs i item) same at; within = subst (λ xs. i < length xs) same within }
 
-pub event_item : (names : List (List ℕ)) (script : List Numbered) (i : ℕ) (item : Numbered) → Passes names script → IsItem script i item → is_event item.line ≡ true → IsEventAt names script item.line
-event_item names script i item p is t = subst (λ x. IsEventAt names script x.line) (sym is.at) (event_at names script i item p is.within (subst (λ x. is_event x.line ≡ true) is.at t))
+pub event_item : (names : List (List ℕ)) (script : List Numbered) (i : ℕ) (item : Numbered) → Passes names script → unbuilt_in script ≡ None → IsItem script i item → is_event item.line ≡ true
+    → IsEventIn names (ids_after_all [] script) (link_after_all None script) item.line
+event_item names script i item passes none is t = subst (λ x. IsEventIn names (ids_after_all [] script) (link_after_all None script) x.line) (sym is.at)
+    (event_at names script i item passes none is.within (subst (λ x. is_event x.line ≡ true) is.at t))
+
+-- it needs a block exactly where it is an event
+pub block_item : (script : List Numbered) (i : ℕ) (item : Numbered) → unbuilt_in script ≡ None → IsItem script i item → has_block item.line ≡ is_event item.line
+block_item script i item none is = subst (λ x. has_block x.line ≡ is_event x.line) (sym is.at) (block_event_at [] script i item none is.within)
+
+-- what is carried out can be told
+pub told_of : (names : List (List ℕ)) (link : Option (PortRef × PortRef)) (line : Line) → 1 < length names → IsCarried link line → IsTold names line
+told_of names link (Send node prio ftype dest hex) named carried = let is = carried.0 in omega arith
+told_of names link (Settle port) named carried = by_end carried.1
+  where
+    by_end : (port ≡ port_of 0) ⊎ (port ≡ port_of 1) → port.node < length names
+    by_end (inl e) = let is = ap (λ p. p.node) e in omega arith
+    by_end (inr e) = let is = ap (λ p. p.node) e in omega arith
+told_of names link (Collect node) named carried = let is = carried in omega arith
+told_of names link _ named carried = absurd carried
 
 -- ---- the network that its set-up gives
-
-joins_event : (net : Network) (line : Line) → IsEventForm line → JoinsFreePorts net line
-joins_event net (Endpoint name id) form = absurd form
-joins_event net (Link a b) form = absurd form
-joins_event net (Send node prio ftype dest hex) form = tt
-joins_event net (Settle port) form = tt
-joins_event net (Collect node) form = tt
-
-set_up-event : (net : Network) (line : Line) → IsEventForm line → set_up net line ≡ net
-set_up-event net (Endpoint name id) form = absurd form
-set_up-event net (Link a b) form = absurd form
-set_up-event net (Send node prio ftype dest hex) form = refl
-set_up-event net (Settle port) form = refl
-set_up-event net (Collect node) form = refl
-
-set_up_all-events : (net : Network) (place : ℕ) (lines : List Numbered) → PassesFrom (suc (suc (suc place))) lines → set_up_all net lines ≡ net
-set_up_all-events net place [] p = refl
-set_up_all-events net place (line ∷ lines) p = ap (λ n. set_up_all n lines) (set_up-event net line.line p.0) ∙ set_up_all-events net (suc place) lines p.2
-
-events_proper : (net : Network) (place : ℕ) (lines : List Numbered) → PassesFrom (suc (suc (suc place))) lines → SetUpIsProper net lines
-events_proper net place [] p = tt
-events_proper net place (line ∷ lines) p = (joins_event net line.line p.0, events_proper (set_up net line.line) (suc place) lines p.2)
-
-joins_first : (net : Network) (line : Line) (name id : ℕ) → line ≡ Endpoint name id → JoinsFreePorts net line
-joins_first net line name id e = subst (JoinsFreePorts net) (sym e) tt
-
-script_proper : (script : List Numbered) → PassesFrom 0 script → SetUpIsProper bare script
-script_proper [] p = tt
-script_proper (a ∷ []) p = (joins_first bare a.line _ _ p.0, tt)
-script_proper (a ∷ b ∷ []) p = (joins_first bare a.line _ _ p.0, (joins_first (set_up bare a.line) b.line _ _ p.2.0, tt))
-script_proper (a ∷ b ∷ c ∷ rest) p = (
-  joins_first bare a.line _ _ p.0,
-  (
-    joins_first (set_up bare a.line) b.line _ _ p.2.0,
-    (rw (p.2.2.0, p.2.0, p.0) (refl, refl, refl), events_proper (set_up (set_up (set_up bare a.line) b.line) c.line) 0 rest p.2.2.2),
-  ),
-)
-
-pub links_proper : (script : List Numbered) → PassesFrom 0 script → AreProper (set_up_all bare script).links
-links_proper script p = set_up_all_proper bare script tt (script_proper script p)
-
--- the network of two linked endpoints, without a packet
-abbrev pair : Network
-pair = set_up (set_up (set_up bare (Endpoint 0 1)) (Endpoint 1 2)) (Link (port_of 0) (port_of 1))
-
-start-pair : (script : List Numbered) → PassesFrom 0 script → 3 ≤ length script → (start script).network ≡ pair
-start-pair [] p late = absurd (omega arith)
-start-pair (a ∷ []) p late = absurd (omega arith)
-start-pair (a ∷ b ∷ []) p late = absurd (omega arith)
-start-pair (a ∷ b ∷ c ∷ rest) p late = rw (p.0, p.2.0, p.2.2.0) (set_up_all-events pair 0 rest p.2.2.2)
 
 empty_list : (prio : ℕ) → prio < 4 → list_at no_packets prio ≡ []
 empty_list zero few = refl
@@ -139,11 +78,45 @@ no_lanes prio few = sym (empty_list prio few)
 no_requests : AsksNothing no_packets
 no_requests prio few = subst (All (λ packet. is_request packet ≡ false)) (sym (empty_list prio few)) (λ k d h. absurd (omega arith))
 
-bare_end : (p : PortRef) → ShowsPort no_packets (record { lists = no_packets; buffers = 8 }) pair p
-bare_end p = record { waits = no_lanes; holds = no_lanes; lends = refl; has = refl; waits_for_leave = no_requests; held_for_leave = no_requests }
+-- what no line of set-up changes
+record IsBare (net : Network) : Type 0 where
+  pub received : (p : PortRef) (r : ℕ) → net.received p r ≡ []
+  pub waiting : (p : PortRef) (r : ℕ) → net.waiting p r ≡ []
+  pub lent : (p : PortRef) → net.lent p ≡ []
+  pub buffers : (p : PortRef) → net.buffers p ≡ 8
 
-bare_shows : (fabric : Fabric) → IsBare fabric → ShowsFabric fabric pair
-bare_shows fabric is = rw (is.a.waiting, is.a.received, is.b.waiting, is.b.received) (record { here = bare_end (port_of 0); there = bare_end (port_of 1); linked = refl; known = refl })
+set_up_bare : (net : Network) (line : Line) → IsBare net → IsBare (set_up net line)
+set_up_bare net (Endpoint name id) is = record { received = is.received; waiting = is.waiting; lent = is.lent; buffers = is.buffers }
+set_up_bare net (Link a b) is = record { received = is.received; waiting = is.waiting; lent = is.lent; buffers = is.buffers }
+set_up_bare net _ is = is
+
+set_up_all_bare : (net : Network) (lines : List Numbered) → IsBare net → IsBare (set_up_all net lines)
+set_up_all_bare net [] is = is
+set_up_all_bare net (line ∷ lines) is = set_up_all_bare (set_up net line.line) lines (set_up_bare net line.line is)
+
+bare_end : (net : Network) (p : PortRef) → IsBare net → ShowsPort no_packets (record { lists = no_packets; buffers = 8 }) net p
+bare_end net p is = record {
+  waits = λ prio few. ap packets_of (is.waiting p prio) ∙ no_lanes prio few;
+  holds = λ prio few. ap packets_of (is.received p prio) ∙ no_lanes prio few;
+  lends = is.lent p;
+  has = is.buffers p;
+  waits_for_leave = no_requests;
+  held_for_leave = no_requests;
+}
+
+-- the network before the first event
+pub bare_shows : (names : List (List ℕ)) (script : List Numbered) → Passes names script → unbuilt_in script ≡ None
+    → ShowsEnds no_packets (record { lists = no_packets; buffers = 8 }) (port_of 0) no_packets (record { lists = no_packets; buffers = 8 }) (port_of 1)
+    (links_of (link_after_all None script)) (registers_of (ids_after_all [] script)) (start script).network
+bare_shows names script passes none =
+    let end = script_end names script passes none in
+    let bare_net : IsBare (set_up_all bare script) = set_up_all_bare bare script (record { received = λ p r. refl; waiting = λ p r. refl; lent = λ p. refl; buffers = λ p. refl }) in
+    record {
+      here = bare_end (set_up_all bare script) (port_of 0) bare_net;
+      there = bare_end (set_up_all bare script) (port_of 1) bare_net;
+      linked = end.stage.links;
+      known = end.stage.registers;
+    }
 
 -- ---- from event to event
 
@@ -157,22 +130,24 @@ module _ {K : Type 0} (written : K → Option (List ℕ)) (faults : K → ℕ) (
   abbrev Gone : Outbox K → ℕ → Fabric → Type 0
   Gone out count fabric = Going written faults begun out names script count fabric
 
-  pub Going-begin : (fabric : Fabric) → begun.failed ≡ false → Passes names script → IsBare fabric → Gone begun 0 fabric
-  Going-begin fabric fine p is = record {
+  pub Going-begin : (fabric : Fabric) → begun.failed ≡ false → IsSetUpBy script fabric → ShowsFabric fabric (start script).network → Gone begun 0 fabric
+  Going-begin fabric fine set_up shows = record {
     lines = [];
     told = Writes-nil written faults begun;
     fine = fine;
     blocks = refl;
     legal = refl;
-    shows = λ late. subst (ShowsFabric fabric) (sym (start-pair script p.1 late)) (bare_shows fabric is);
+    set_up = set_up;
+    shows = shows;
   }
 
-  pub Going-skip : (i : ℕ) (d : Numbered) (out : Outbox K) (fabric : Fabric) → IsItem script i d → is_event d.line ≡ false → Gone out i fabric → Gone out (i + 1) fabric
+  pub Going-skip : (i : ℕ) (d : Numbered) (out : Outbox K) (fabric : Fabric) → IsItem script i d → has_block d.line ≡ false → Gone out i fabric → Gone out (i + 1) fabric
   Going-skip i d out fabric within no_event h = record {
     lines = h.lines;
     told = h.told;
     fine = h.fine;
     legal = h.legal;
+    set_up = h.set_up;
     shows = h.shows;
     blocks = subst (BlocksFrom (start script) (take (i + 1) script)) (append-nil h.lines) (one_line script i d h.lines [] within h.blocks
         (subst (λ t. MatchBool t (BlockThen (λ s rest. BlocksFrom s [] rest) (seen (start script) h.lines) d.line []) (BlocksFrom (seen (start script) h.lines) [] [])) (sym no_event) refl));
@@ -184,11 +159,12 @@ module _ {K : Type 0} (written : K → Option (List ℕ)) (faults : K → ℕ) (
     pub told : Writes written faults begun out (trace_text names lines)
     pub blocks : BlocksFrom (start script) (take (i + 1) script) lines
     pub legal : LegalFrom (start script).network (steps_of lines) (seen (start script) lines).network
+    pub set_up : IsSetUpBy script fabric
     pub shows : ShowsFabric fabric (seen (start script) lines).network
 
-  pub Going-event : (i : ℕ) (d : Numbered) (out : Outbox K) (fabric : Fabric) (out2 : Outbox K) (fabric2 : Fabric) → IsItem script i d → is_event d.line ≡ true → (h : Gone out i fabric)
+  pub Going-event : (i : ℕ) (d : Numbered) (out : Outbox K) (fabric : Fabric) (out2 : Outbox K) (fabric2 : Fabric) → IsItem script i d → has_block d.line ≡ true → (h : Gone out i fabric) → fabric2.set_up ≡ fabric.set_up
       → Evented d.line names written faults out out2 (seen (start script) h.lines) fabric2 → Step i out2 fabric2
-  Going-event i d out fabric out2 fabric2 within event h e =
+  Going-event i d out fabric out2 fabric2 within event h same e =
       let line : Line = d.line in
       let more : List TraceLine = Begun line ∷ e.block in
       let now : Seen = seen (start script) h.lines in
@@ -202,6 +178,7 @@ module _ {K : Type 0} (written : K → Option (List ℕ)) (faults : K → ℕ) (
         legal = subst (λ steps. LegalFrom (start script).network steps (seen (start script) (h.lines ++ more)).network) (sym (steps_of-append h.lines more))
             (subst (λ t. LegalFrom (start script).network (steps_of h.lines ++ steps_of e.block) t.network) (sym then_is)
             (legal_joined (start script).network (steps_of h.lines) (steps_of e.block) now.network _ h.legal e.legal));
+        set_up = record { ids = ap (λ s. s.ids.items) same ∙ h.set_up.ids; link = ap (λ s. s.link) same ∙ h.set_up.link };
         shows = subst (λ t. ShowsFabric fabric2 t.network) (sym then_is) e.shows;
       }
 
@@ -212,13 +189,14 @@ module _ {K : Type 0} (written : K → Option (List ℕ)) (faults : K → ℕ) (
     fine = fine;
     blocks = h.blocks;
     legal = h.legal;
-    shows = λ late. h.shows;
+    set_up = h.set_up;
+    shows = h.shows;
   }
 
   -- a write failed in an event
-  pub Step-front : (i : ℕ) (out : Outbox K) (fabric : Fabric) → begun.buffer.now ≡ [] → Passes names script → Step i out fabric
+  pub Step-front : (i : ℕ) (out : Outbox K) (fabric : Fabric) → begun.buffer.now ≡ [] → Passes names script → unbuilt_in script ≡ None → Step i out fabric
       → ReplayedFront names script (written begun.sink.now) (written out.sink.now)
-  Step-front i out fabric empty p h =
+  Step-front i out fabric empty p none h =
       let first : Begins script h.lines = record { done = take (i + 1) script; rest = drop (i + 1) script; whole = sym (take-append-drop (i + 1) script); blocks = h.blocks } in
       record {
         lines = h.lines;
@@ -226,7 +204,7 @@ module _ {K : Type 0} (written : K → Option (List ℕ)) (faults : K → ℕ) (
         told = Writes-front written faults begun out (trace_text names h.lines) empty h.told;
         begins = inl first;
         front = λ all runs. first_blocks_front script h.lines all first runs;
-        lawful = lawful script (steps_of h.lines) _ (links_proper script p.1) h.legal;
+        lawful = lawful script (steps_of h.lines) _ (links_proper names script p none) h.legal;
       }
 
   -- ---- the end
@@ -251,25 +229,25 @@ module _ {K : Type 0} (written : K → Option (List ℕ)) (faults : K → ℕ) (
             (subst (λ t. LegalFrom (start script).network (steps_of h.lines) t.network) (sym (seen-append (start script) h.lines (Ended ∷ []))) h.legal);
       }
 
-  pub Ending-done : (out : Outbox K) → begun.buffer.now ≡ [] → Passes names script → Ending out → out.failed ≡ false → out.buffer.now ≡ []
+  pub Ending-done : (out : Outbox K) → begun.buffer.now ≡ [] → Passes names script → unbuilt_in script ≡ None → Ending out → out.failed ≡ false → out.buffer.now ≡ []
       → Replayed names script (written begun.sink.now) (written out.sink.now)
-  Ending-done out empty p h fine none = record {
+  Ending-done out empty p built h fine none = record {
     lines = h.lines;
     network = (seen (start script) h.lines).network;
     told = Writes-whole written faults begun out (trace_text names h.lines) empty h.told fine none;
     runs = h.runs;
     only = λ other r. runs_one script other h.lines r h.runs;
-    lawful = lawful script (steps_of h.lines) _ (links_proper script p.1) h.legal;
+    lawful = lawful script (steps_of h.lines) _ (links_proper names script p built) h.legal;
   }
 
-  pub Ending-front : (out : Outbox K) → begun.buffer.now ≡ [] → Passes names script → Ending out → ReplayedFront names script (written begun.sink.now) (written out.sink.now)
-  Ending-front out empty p h = record {
+  pub Ending-front : (out : Outbox K) → begun.buffer.now ≡ [] → Passes names script → unbuilt_in script ≡ None → Ending out → ReplayedFront names script (written begun.sink.now) (written out.sink.now)
+  Ending-front out empty p none h = record {
     lines = h.lines;
     network = (seen (start script) h.lines).network;
     told = Writes-front written faults begun out (trace_text names h.lines) empty h.told;
     begins = inr h.runs;
     front = λ all runs. ([], runs_one script all h.lines runs h.runs ∙ sym (append-nil h.lines));
-    lawful = lawful script (steps_of h.lines) _ (links_proper script p.1) h.legal;
+    lawful = lawful script (steps_of h.lines) _ (links_proper names script p none) h.legal;
   }
 
 -- the names were read from where they stand

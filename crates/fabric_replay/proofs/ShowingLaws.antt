@@ -4,7 +4,7 @@ use Rattle.std.proofs.lemmas.Bool.{cases_eq}
 use Rattle.std.proofs.lemmas.List.{map-append}
 use Rattle.link_buffers.specs.Queues.{list_at, appended, popped}
 use Rattle.link_buffers.proofs.QueueLemmas.{list_at-set_same, list_at-set_other}
-use Rattle.fabric_model.specs.declared.lines.PortRef.{PortRef}
+use Rattle.fabric_script.specs.declared.ports.PortRef.{PortRef}
 use Rattle.fabric_model.specs.Network.{Item, Lanes, same_port, with_lane, with_lent}
 use Rattle.fabric_model.specs.Steps.{behind_first}
 use Rattle.fabric_model.proofs.Peers.{same_port-refl}

@@ -1,8 +1,9 @@
-pub mod Forms
-pub mod Spelling
+pub mod SetUps
+pub mod Unbuilt
+pub mod Carried
+pub mod Printing
 pub mod Turns
 pub mod Showing
-pub mod Printing
 pub mod Passing
 pub mod Events
 pub mod Replaying

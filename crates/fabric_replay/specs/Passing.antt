@@ -4,7 +4,7 @@ use Rattle.rio_packets.specs.Fields.{prio_of}
 use Rattle.rio_chars.specs.Written.{Writes}
 use Rattle.rio_chars.specs.declared.outbox.Outbox.{Outbox}
 use Rattle.link_buffers.specs.Queues.{appended, popped}
-use Rattle.fabric_model.specs.declared.lines.PortRef.{PortRef}
+use Rattle.fabric_script.specs.declared.ports.PortRef.{PortRef}
 use Rattle.fabric_model.specs.Network.{Registers}
 use Rattle.fabric_model.specs.Steps.{LegalFrom}
 use Rattle.fabric_model.specs.Lines.{TraceLine, steps_of}

@@ -1,12 +1,11 @@
--- What the printing of a line needs.
+-- What the printing of an event needs.
 use Rattle.std.specs.Prelude.{ℕ, ◌<◌, List, length}
-use Rattle.fabric_model.specs.declared.lines.Line.{Line}
-use Rattle.fabric_model.specs.declared.lines.Line.TheVariants.{Endpoint, Link, Send, Settle, Collect}
+use Rattle.fabric_script.specs.declared.lines.Line.{Line}
+use Rattle.fabric_script.specs.declared.lines.Line.TheVariants.{Send, Settle, Collect}
 
--- the nodes that a line names have a name
-abbrev pub AreNamed : List (List ℕ) → Line → Type 0
-AreNamed names (Endpoint name id) = name < length names
-AreNamed names (Link a b) = (a.node < length names) × (b.node < length names)
-AreNamed names (Send node prio ftype dest hex) = node < length names
-AreNamed names (Settle port) = port.node < length names
-AreNamed names (Collect node) = node < length names
+-- The line is one of the events that are carried out, and its node has a name.
+abbrev pub IsTold : List (List ℕ) → Line → Type 0
+IsTold names (Send node prio ftype dest hex) = node < length names
+IsTold names (Settle port) = port.node < length names
+IsTold names (Collect node) = node < length names
+IsTold names _ = ⊥

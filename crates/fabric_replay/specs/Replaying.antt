@@ -1,10 +1,10 @@
 -- What a replay writes.
-use Rattle.std.specs.Prelude.{◌≡◌, ◌≤◌, ℕ, ◌⊎◌, false, List, length, take, Option}
+use Rattle.std.specs.Prelude.{◌≡◌, ℕ, ◌⊎◌, false, List, take, Option}
 use Rattle.std.specs.Io.KnownBytes.{Appends}
 use Rattle.rio_chars.specs.Fronts.{AppendsFront}
 use Rattle.rio_chars.specs.Written.{Writes}
 use Rattle.rio_chars.specs.declared.outbox.Outbox.{Outbox}
-use Rattle.fabric_model.specs.declared.lines.Numbered.{Numbered}
+use Rattle.fabric_script.specs.declared.lines.Numbered.{Numbered}
 use Rattle.fabric_model.specs.Network.{Network}
 use Rattle.fabric_model.specs.Steps.{LegalFrom}
 use Rattle.fabric_model.specs.Lines.{TraceLine, steps_of}
@@ -14,7 +14,7 @@ use Rattle.fabric_model.specs.Runs.{start, Runs, BlocksFrom, Begins}
 use Rattle.fabric_model.specs.Laws.Freeing.{IsFront}
 use Rattle.fabric_model.specs.Laws.Lawful.{Lawful}
 use Rattle.fabric_replay.specs.declared.fabric.Fabric.{Fabric}
-use Rattle.fabric_replay.specs.Events.{ShowsFabric}
+use Rattle.fabric_replay.specs.Events.{ShowsFabric, IsSetUpBy}
 
 -- The text of the one trace of the script was written, and the steps that it says are lawful.
 pub record Replayed (names : List (List ℕ)) (script : List Numbered) (written written_after : Option (List ℕ)) : Type 0 where
@@ -42,4 +42,5 @@ pub record Going {K : Type 0} (written : K → Option (List ℕ)) (faults : K �
   pub fine : out.failed ≡ false
   pub blocks : BlocksFrom (start script) (take count script) lines
   pub legal : LegalFrom (start script).network (steps_of lines) (seen (start script) lines).network
-  pub shows : 3 ≤ length script → ShowsFabric fabric (seen (start script) lines).network
+  pub set_up : IsSetUpBy script fabric
+  pub shows : ShowsFabric fabric (seen (start script) lines).network

@@ -2,7 +2,7 @@
 use Rattle.std.specs.Prelude.{◌≡◌, ℕ, ◌<◌, false, List, [], All, map, Some}
 use Rattle.rio_packets.specs.Fields.{is_request}
 use Rattle.link_buffers.specs.Queues.{list_at, Buffered}
-use Rattle.fabric_model.specs.declared.lines.PortRef.{PortRef}
+use Rattle.fabric_script.specs.declared.ports.PortRef.{PortRef}
 use Rattle.fabric_model.specs.Network.{Item, Registers, Network, same_port, peer_in}
 
 -- the packets of items

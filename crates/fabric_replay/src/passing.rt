@@ -1,7 +1,7 @@
 //! Packets pass from one end of a link to the other.
 ghost use Rattle.std.specs.Prelude.{◌≡◌, ◌<◌, true, List, length, is_some, IfSome};
 ghost use Rattle.rio_chars.specs.Written.{Writes};
-ghost use Rattle.fabric_model.specs.declared.lines.PortRef.{PortRef as Port};
+ghost use Rattle.fabric_script.specs.declared.ports.PortRef.{PortRef as Port};
 ghost use Rattle.fabric_model.specs.Network.{Registers};
 ghost use Rattle.fabric_model.specs.Text.{trace_text};
 ghost use Rattle.fabric_model.specs.Seen.{Seen};
@@ -12,7 +12,7 @@ ghost use Rattle.fabric_replay.specs.Passing.{PassedOne, Passed};
 
 use crate::printing::{write_free, write_hold};
 use crate::queues::Queues;
-use fabric_model::{Name, PortRef};
+use fabric_script::{Name, PortRef};
 use rio_chars::{Outbox, Sink};
 
 /// The two ports of a link, the one that sends first, and the names of the nodes.
@@ -42,7 +42,7 @@ pub(crate) fn pass_all<K: Sink>(
     }
 }
 
-// The priority of the packet whose turn it is, where it has room there.
+/// The priority of the packet whose turn it is, where it has room there.
 fn next_to_pass(from: &Queues, to: &Queues) -> Option<u8>
     ensures variant { is_some result ≡ admits to.now.received (next_of from.now.waiting) }
     ensures turn { IfSome result (IsTurn from.now.waiting) }
@@ -51,7 +51,7 @@ fn next_to_pass(from: &Queues, to: &Queues) -> Option<u8>
     to.received.has_room(prio).then_some(prio)
 }
 
-// Passes the packet whose turn it is, which is of this priority and has room.
+/// Passes the packet whose turn it is, which is of this priority and has room.
 fn pass<K: Sink>(from: &mut Queues, to: &mut Queues, prio: u8, way: &Way, outbox: &mut Outbox<K>)
     requires from { way.now.from.node < length way.now.names.now }
     requires to { way.now.to.node < length way.now.names.now }

@@ -6,16 +6,19 @@ ghost use Rattle.rio_chars.specs.Written.{Writes};
 ghost use Rattle.rio_packets.specs.LinkForm.{Passes};
 ghost use Rattle.fabric_model.specs.Steps.{Hold, Free, Linked, Take, Leave, AtNode};
 ghost use Rattle.fabric_model.specs.Lines.{Begun, Stepped};
-ghost use Rattle.fabric_model.specs.Text.{name_of, port_text, hex_text, line_text, trace_line_text};
-ghost use Rattle.fabric_replay.specs.Printing.{AreNamed};
+ghost use Rattle.fabric_script.specs.Names.{name_of};
+ghost use Rattle.fabric_script.specs.Texts.{port_text, hex_text};
+ghost use Rattle.fabric_script.specs.Lines.{line_text};
+ghost use Rattle.fabric_model.specs.Text.{trace_line_text};
+ghost use Rattle.fabric_replay.specs.Printing.{IsTold};
 
-use fabric_model::{Line, Name, PortRef};
+use fabric_script::{Line, Name, PortRef};
 use rio_chars::{Outbox, Sink};
 use rio_packets::Packet;
 
 /// Tells the line by which an event begins.
 pub(crate) fn write_begun<K: Sink>(outbox: &mut Outbox<K>, names: &[Name], line: &Line)
-    requires { AreNamed names.now line.now }
+    requires { IsTold names.now line.now }
     ensures { Writes K.written K.faults outbox.old outbox.new (trace_line_text names.now (Begun line.now)) }
 {
     outbox.write(b"> ");
@@ -80,6 +83,7 @@ pub(crate) fn write_leave<K: Sink>(
     write_packet(outbox, packet);
 }
 
+/// Tells a packet, which ends its line.
 fn write_packet<K: Sink>(outbox: &mut Outbox<K>, packet: &Packet)
     ensures { Writes K.written K.faults outbox.old outbox.new (codes " " ++ (hex_of packet.now ++ codes "\n")) }
 {
@@ -88,13 +92,12 @@ fn write_packet<K: Sink>(outbox: &mut Outbox<K>, packet: &Packet)
     outbox.write(b"\n");
 }
 
+/// Tells the text of an event.
 fn write_line<K: Sink>(outbox: &mut Outbox<K>, names: &[Name], line: &Line)
-    requires { AreNamed names.now line.now }
+    requires { IsTold names.now line.now }
     ensures { Writes K.written K.faults outbox.old outbox.new (line_text names.now line.now) }
 {
     match line {
-        Line::Endpoint { name, id } => write_endpoint(outbox, names, *name, *id),
-        Line::Link { a, b } => write_link(outbox, names, *a, *b),
         Line::Send {
             node,
             prio,
@@ -113,31 +116,11 @@ fn write_line<K: Sink>(outbox: &mut Outbox<K>, names: &[Name], line: &Line)
         }
         Line::Settle { port } => write_settle(outbox, names, *port),
         Line::Collect { node } => write_collect(outbox, names, *node),
+        _ => {}
     }
 }
 
-fn write_endpoint<K: Sink>(outbox: &mut Outbox<K>, names: &[Name], name: u8, id: u8)
-    requires { name < length names.now }
-    ensures { Writes K.written K.faults outbox.old outbox.new (codes "endpoint " ++ name_of names.now name ++ codes " " ++ decimal id) }
-{
-    outbox.write(b"endpoint ");
-    write_name(outbox, names, name);
-    outbox.write(b" ");
-    write_number(outbox, id);
-}
-
-fn write_link<K: Sink>(outbox: &mut Outbox<K>, names: &[Name], a: PortRef, b: PortRef)
-    requires a { a.node < length names.now }
-    requires b { b.node < length names.now }
-    ensures { Writes K.written K.faults outbox.old outbox.new (codes "link " ++ port_text names.now a ++ codes " " ++ port_text names.now b) }
-{
-    outbox.write(b"link ");
-    write_port(outbox, names, a);
-    outbox.write(b" ");
-    write_port(outbox, names, b);
-}
-
-// What a `send` line says.
+/// What a `send` line says.
 #[derive(Drop)]
 struct Sending<'a> {
     node: u8,
@@ -147,6 +130,7 @@ struct Sending<'a> {
     bytes: &'a [u8],
 }
 
+/// Tells the text of a `send`.
 fn write_send<K: Sink>(outbox: &mut Outbox<K>, names: &[Name], sending: &Sending)
     requires { sending.now.node < length names.now }
     ensures { Writes K.written K.faults outbox.old outbox.new (codes "send " ++ name_of names.now sending.now.node ++ codes " " ++ decimal sending.now.prio ++ codes " " ++ decimal sending.now.ftype ++ codes " " ++ decimal sending.now.dest ++ codes " " ++ hex_text sending.now.bytes.now) }
@@ -159,7 +143,7 @@ fn write_send<K: Sink>(outbox: &mut Outbox<K>, names: &[Name], sending: &Sending
     write_bytes(outbox, sending.bytes);
 }
 
-// Priority, packet type and destination ID.
+/// Priority, format type and destination ID.
 fn write_header<K: Sink>(outbox: &mut Outbox<K>, prio: u8, ftype: u8, dest: u8)
     ensures { Writes K.written K.faults outbox.old outbox.new (decimal prio ++ codes " " ++ decimal ftype ++ codes " " ++ decimal dest) }
 {
@@ -170,6 +154,7 @@ fn write_header<K: Sink>(outbox: &mut Outbox<K>, prio: u8, ftype: u8, dest: u8)
     write_number(outbox, dest);
 }
 
+/// Tells the text of a `settle`.
 fn write_settle<K: Sink>(outbox: &mut Outbox<K>, names: &[Name], port: PortRef)
     requires { port.node < length names.now }
     ensures { Writes K.written K.faults outbox.old outbox.new (codes "settle " ++ port_text names.now port) }
@@ -178,6 +163,7 @@ fn write_settle<K: Sink>(outbox: &mut Outbox<K>, names: &[Name], port: PortRef)
     write_port(outbox, names, port);
 }
 
+/// Tells the text of a `collect`.
 fn write_collect<K: Sink>(outbox: &mut Outbox<K>, names: &[Name], node: u8)
     requires { node < length names.now }
     ensures { Writes K.written K.faults outbox.old outbox.new (codes "collect " ++ name_of names.now node) }
@@ -186,7 +172,7 @@ fn write_collect<K: Sink>(outbox: &mut Outbox<K>, names: &[Name], node: u8)
     write_name(outbox, names, node);
 }
 
-// Bytes in hexadecimal, and a hyphen for no bytes.
+/// Bytes in hexadecimal, and a hyphen for no bytes.
 fn write_bytes<K: Sink>(outbox: &mut Outbox<K>, bytes: &[u8])
     ensures { Writes K.written K.faults outbox.old outbox.new (hex_text bytes.now) }
 {
@@ -197,12 +183,14 @@ fn write_bytes<K: Sink>(outbox: &mut Outbox<K>, bytes: &[u8])
     }
 }
 
+/// Tells a number.
 fn write_number<K: Sink>(outbox: &mut Outbox<K>, number: u8)
     ensures { Writes K.written K.faults outbox.old outbox.new (decimal number) }
 {
     outbox.write_decimal(u32::from(number));
 }
 
+/// Tells the name of a node.
 fn write_name<K: Sink>(outbox: &mut Outbox<K>, names: &[Name], node: u8)
     requires { node < length names.now }
     ensures { Writes K.written K.faults outbox.old outbox.new (name_of names.now node) }
@@ -210,6 +198,7 @@ fn write_name<K: Sink>(outbox: &mut Outbox<K>, names: &[Name], node: u8)
     outbox.write(names[usize::from(node)].as_slice());
 }
 
+/// Tells a port.
 fn write_port<K: Sink>(outbox: &mut Outbox<K>, names: &[Name], port: PortRef)
     requires { port.node < length names.now }
     ensures { Writes K.written K.faults outbox.old outbox.new (port_text names.now port) }

@@ -1,15 +1,16 @@
 -- What is known with one more line.
-use Rattle.std.proofs.Common.{◌≡◌, ℕ, ◌+◌, ◌<◌, ◌≤◌, nat_le, nat_lt, Bool, true, false, ◌&&◌, ◌||◌, List, [], ◌∷◌, ◌++◌, Contains, length, length-append, refl, sym, ap, ◌∙◌, ◌⊎◌, inl, inr, arith}
+use Rattle.std.proofs.Common.{◌≡◌, ℕ, zero, suc, ◌+◌, ◌<◌, ◌≤◌, nat_le, nat_lt, Bool, true, false, ◌&&◌, ◌||◌, List, [], ◌∷◌, ◌++◌, Contains, length, length-append, refl, sym, ap, ◌∙◌, ◌⊎◌, inl, inr, arith}
 use Rattle.std.proofs.lemmas.Bool.{cases_lt}
 use Rattle.std.proofs.lemmas.Bool.Decides.{nat_tests}
 use Rattle.std.proofs.lemmas.List.{get_or_append_left}
 use Rattle.std.proofs.Math.Seq.{get_or-append_seam}
 use Rattle.fabric_script.specs.declared.ports.PortRef.{PortRef}
+use Rattle.fabric_script.specs.declared.known.Node.{Node}
 use Rattle.fabric_script.specs.declared.reasons.Reason.TheVariants.{TooMuchWork}
 use Rattle.fabric_script.specs.declared.lines.Line.{Line}
 use Rattle.fabric_script.specs.declared.lines.Line.TheVariants.{Endpoint, Switch, Link}
 use Rattle.fabric_script.specs.Names.{is_name, name_of}
-use Rattle.fabric_script.specs.Known.{Known, IsOrderly, known_after, links_after, cost_of, nothing}
+use Rattle.fabric_script.specs.Known.{Known, IsOrderly, known_after, nodes_after, links_after, ports_of, cost_of, nothing}
 use Rattle.fabric_script.specs.Refusals.{makes_node}
 use Rattle.fabric_script.specs.Reading.{MayBe, IsFree}
 use Rattle.fabric_script.proofs.Exclusion.{named_is_there}
@@ -79,3 +80,10 @@ orderly-after known new _ orderly may = record { named = orderly.named; apart = 
 pub links-after : (links : List (PortRef × PortRef)) (line : Line) → length (links_after links line) ≤ length links + 1
 links-after links (Link a b) = omega (arith, length-append links ((a, b) ∷ []))
 links-after links _ = omega arith
+
+-- where no node has a second port, none has one behind another endpoint
+pub one_port-after : (nodes : List Node) (name id : ℕ) → ((n : ℕ) → ports_of nodes n ≤ 1) → (n : ℕ) → ports_of (nodes_after nodes (Endpoint name id)) n ≤ 1
+one_port-after [] name id few zero = omega arith
+one_port-after [] name id few (suc n) = omega arith
+one_port-after (node ∷ nodes) name id few zero = few 0
+one_port-after (node ∷ nodes) name id few (suc n) = one_port-after nodes name id (λ m. few (suc m)) n

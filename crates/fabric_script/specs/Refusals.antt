@@ -1,5 +1,6 @@
 -- The reasons that look at a whole line, whose words all say something.
 use Rattle.std.specs.Prelude.{ℕ, ◌+◌, ◌%◌, Bool, true, false, ◌==◌, ◌&&◌, ◌||◌, not, nat_le, nat_lt, length}
+use Rattle.rio_packets.specs.Making.{most_rest}
 use Rattle.fabric_script.specs.declared.reasons.Reason.{Reason}
 use Rattle.fabric_script.specs.declared.reasons.Reason.TheVariants.{PortOutside, PortTaken, IdTaken, BadLength, WrongKind, OutOfPlace, NotLinked, TooMuchWork}
 use Rattle.fabric_script.specs.declared.lines.Line.{Line}
@@ -11,9 +12,9 @@ use Rattle.fabric_script.specs.Known.{Known, ports_of, is_switch, has_id, same_p
 abbrev pub is_outside : Known → ℕ → ℕ → Bool
 is_outside known node p = not (p == 255) && nat_le (ports_of known.nodes node) p
 
--- the lengths that data may have: an even number of bytes, at most 268; of a maintenance packet, those of its forms
+-- the lengths that data may have: an even number of bytes, not more than a packet takes; of a maintenance packet, those of its forms
 abbrev pub is_bad_length : ℕ → ℕ → Bool
-is_bad_length ftype count = not (count % 2 == 0) || nat_lt 268 count || ((ftype == 8) && not (nat_le 6 count && nat_le count 70 && (count % 8 == 6)))
+is_bad_length ftype count = not (count % 2 == 0) || nat_lt most_rest count || ((ftype == 8) && not (nat_le 6 count && nat_le count 70 && (count % 8 == 6)))
 
 -- 6: a port of a table is neither 255 nor one of the node's
 abbrev pub entry_is_outside : Known → Line → Bool

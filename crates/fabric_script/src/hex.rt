@@ -76,7 +76,7 @@ pub(crate) fn read_digits(word: &[u8], count: usize) -> Option<u32>
     Some(value)
 }
 
-// The value of one digit, which is that of the byte with a 0 before it.
+/// The value of one digit, which is that of the byte with a 0 before it.
 fn digit_value(digit: u8) -> Option<u8>
     ensures { MatchOption result
         ((value : ℕ) → value < 16 → digit ≢ hex_digit value)
@@ -112,7 +112,7 @@ pub(crate) fn push_digits(text: &mut Vec<u8>, count: u8, n: u32) -> Result<(), A
     Ok(())
 }
 
-// The lower-case digit of a number below 16.
+/// The lower-case digit of a number below 16.
 fn digit_of(number: u8) -> u8
     requires { number < 16 }
     ensures { result ≡ hex_digit number }

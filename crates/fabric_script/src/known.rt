@@ -90,7 +90,7 @@ impl Known {
         }
     }
 
-    // Adds a node, of which the second word of a text is the name.
+    /// Adds a node, of which the second word of a text is the name.
     fn add_node(&mut self, text: &[u8], node: Node) -> Result<(), AllocError>
         requires named { is_name (second_word (words_of text.now)) ≡ true }
         requires room { length self.old.names < 64 }
@@ -242,6 +242,7 @@ impl Known {
     }
 }
 
+/// Whether a node is an endpoint of this device ID.
 fn has_this_id(id: u8, node: Node) -> bool
     ensures { result ≡ has_this_id id node }
 {

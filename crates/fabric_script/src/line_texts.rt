@@ -45,6 +45,7 @@ pub fn print(alloc: Global, script: &Script) -> Result<Vec<u8>, NoMemory>
     }
 }
 
+/// Adds the lines of a script that passes, each with its line feed.
 fn put_lines(text: &mut Vec<u8>, script: &Script) -> Result<(), AllocError>
     requires { Passes script.now.names.items script.now.lines.items }
     ensures { IfOk result (λ _. text.new.items
@@ -57,6 +58,7 @@ fn put_lines(text: &mut Vec<u8>, script: &Script) -> Result<(), AllocError>
     Ok(())
 }
 
+/// Adds the text of a line, without its line feed.
 fn put_line(text: &mut Vec<u8>, names: &[Name], line: &Line) -> Result<(), AllocError>
     requires { AreNamed names.now line.now }
     ensures { IfOk result (λ _. text.new.items ≡ text.old.items ++ line_text names.now line.now) }
@@ -65,7 +67,7 @@ fn put_line(text: &mut Vec<u8>, names: &[Name], line: &Line) -> Result<(), Alloc
     put_words(text, names, line)
 }
 
-// The words behind the keyword, a space before each.
+/// The words behind the keyword, a space before each.
 fn put_words(text: &mut Vec<u8>, names: &[Name], line: &Line) -> Result<(), AllocError>
     requires { AreNamed names.now line.now }
     ensures { IfOk result (λ _. text.new.items ≡ after_words text.old.items
@@ -93,7 +95,7 @@ fn put_words(text: &mut Vec<u8>, names: &[Name], line: &Line) -> Result<(), Allo
     }
 }
 
-// The words of a packet that is given to an endpoint.
+/// The words of a packet that is given to an endpoint.
 fn put_packet(text: &mut Vec<u8>, names: &[Name], line: &Line) -> Result<(), AllocError>
     requires named { AreNamed names.now line.now }
     requires packet { gives_packet line.now ≡ true }
@@ -140,6 +142,7 @@ fn put_packet(text: &mut Vec<u8>, names: &[Name], line: &Line) -> Result<(), All
     }
 }
 
+/// Adds the words behind `route`.
 fn put_route(text: &mut Vec<u8>, names: &[Name], node: u8, id: u8, p: u8) -> Result<(), AllocError>
     requires { node < length names.now }
     ensures { IfOk result (λ _. text.new.items ≡ after_words text.old.items
@@ -149,6 +152,7 @@ fn put_route(text: &mut Vec<u8>, names: &[Name], node: u8, id: u8, p: u8) -> Res
     put_numbers(text, id, p)
 }
 
+/// Adds a node and a number.
 fn put_node_number(text: &mut Vec<u8>, names: &[Name], node: u8, n: u32) -> Result<(), AllocError>
     requires { node < length names.now }
     ensures { IfOk result (λ _. text.new.items ≡ after_words text.old.items
@@ -158,6 +162,7 @@ fn put_node_number(text: &mut Vec<u8>, names: &[Name], node: u8, n: u32) -> Resu
     put_number(text, n)
 }
 
+/// Adds two ports.
 fn put_ports(text: &mut Vec<u8>, names: &[Name], a: PortRef, b: PortRef) -> Result<(), AllocError>
     requires a { a.node < length names.now }
     requires b { b.node < length names.now }
@@ -168,6 +173,7 @@ fn put_ports(text: &mut Vec<u8>, names: &[Name], a: PortRef, b: PortRef) -> Resu
     put_port(text, names, b)
 }
 
+/// Adds a port and a number.
 fn put_port_number(
     text: &mut Vec<u8>,
     names: &[Name],
@@ -182,6 +188,7 @@ fn put_port_number(
     put_number(text, n)
 }
 
+/// Adds where a character is edited, and the character.
 fn put_edit(
     text: &mut Vec<u8>,
     names: &[Name],
@@ -197,6 +204,7 @@ fn put_edit(
     put(text, &char_text(ch))
 }
 
+/// Adds where characters are lost, and how many.
 fn put_erase(
     text: &mut Vec<u8>,
     names: &[Name],
@@ -212,7 +220,7 @@ fn put_erase(
     put_number(text, n)
 }
 
-// Where a maintenance request goes, its number, and the register that it asks for.
+/// Where a maintenance request goes, its number, and the register that it asks for.
 fn put_access(text: &mut Vec<u8>, dest: u8, hop: u8, tid: u8, offset: u32) -> Result<(), AllocError>
     ensures { IfOk result (λ _. text.new.items ≡ after_words text.old.items
         (decimal dest ∷ decimal hop ∷ decimal tid ∷ digits_text 6 offset ∷ [])) }
@@ -222,6 +230,7 @@ fn put_access(text: &mut Vec<u8>, dest: u8, hop: u8, tid: u8, offset: u32) -> Re
     put_digits(text, 6, offset)
 }
 
+/// Adds two numbers.
 fn put_numbers(text: &mut Vec<u8>, a: u8, b: u8) -> Result<(), AllocError>
     ensures { IfOk result (λ _. text.new.items ≡ after_words text.old.items
         (decimal a ∷ decimal b ∷ [])) }
@@ -230,6 +239,7 @@ fn put_numbers(text: &mut Vec<u8>, a: u8, b: u8) -> Result<(), AllocError>
     put_number(text, u32::from(b))
 }
 
+/// Adds the name of a node.
 fn put_node(text: &mut Vec<u8>, names: &[Name], node: u8) -> Result<(), AllocError>
     requires { node < length names.now }
     ensures { IfOk result (λ _. text.new.items ≡ text.old.items ++ 32 ∷ name_of names.now node) }
@@ -237,6 +247,7 @@ fn put_node(text: &mut Vec<u8>, names: &[Name], node: u8) -> Result<(), AllocErr
     put(text, names[usize::from(node)].as_slice())
 }
 
+/// Adds the text of a port.
 fn put_port(text: &mut Vec<u8>, names: &[Name], port: PortRef) -> Result<(), AllocError>
     requires { port.node < length names.now }
     ensures { IfOk result (λ _. text.new.items ≡ text.old.items ++ 32 ∷ port_text names.now port) }
@@ -246,6 +257,7 @@ fn put_port(text: &mut Vec<u8>, names: &[Name], port: PortRef) -> Result<(), All
     push_decimal(text, u32::from(port.port))
 }
 
+/// Adds a number.
 fn put_number(text: &mut Vec<u8>, n: u32) -> Result<(), AllocError>
     ensures { IfOk result (λ _. text.new.items ≡ text.old.items ++ 32 ∷ decimal n) }
 {
@@ -253,6 +265,7 @@ fn put_number(text: &mut Vec<u8>, n: u32) -> Result<(), AllocError>
     push_decimal(text, n)
 }
 
+/// Adds bytes in hexadecimal digits.
 fn put_bytes(text: &mut Vec<u8>, bytes: &[u8]) -> Result<(), AllocError>
     ensures { IfOk result (λ _. text.new.items ≡ text.old.items ++ 32 ∷ hex_text bytes.now) }
 {
@@ -260,6 +273,7 @@ fn put_bytes(text: &mut Vec<u8>, bytes: &[u8]) -> Result<(), AllocError>
     push_hex(text, bytes)
 }
 
+/// Adds a number in so many hexadecimal digits.
 fn put_digits(text: &mut Vec<u8>, count: u8, n: u32) -> Result<(), AllocError>
     ensures { IfOk result (λ _. text.new.items ≡ text.old.items ++ 32 ∷ digits_text count n) }
 {
@@ -267,7 +281,7 @@ fn put_digits(text: &mut Vec<u8>, count: u8, n: u32) -> Result<(), AllocError>
     push_digits(text, count, n)
 }
 
-// A space and a word.
+/// A space and a word.
 fn put(text: &mut Vec<u8>, word: &[u8]) -> Result<(), AllocError>
     ensures { IfOk result (λ _. text.new.items ≡ text.old.items ++ 32 ∷ word.now) }
 {
@@ -275,6 +289,7 @@ fn put(text: &mut Vec<u8>, word: &[u8]) -> Result<(), AllocError>
     push_all(text, word)
 }
 
+/// Adds bytes as they are.
 fn push_all(text: &mut Vec<u8>, bytes: &[u8]) -> Result<(), AllocError>
     ensures { IfOk result (λ _. text.new.items ≡ text.old.items ++ bytes.now) }
 {

@@ -47,6 +47,7 @@ pub(crate) fn take_line(
     }
 }
 
+/// Takes the words of an `endpoint` line.
 fn endpoint(words: &mut Words, known: &Known) -> Line
     ensures { TakesLine known.now AForm.Endpoint words.old result words.new }
 {
@@ -56,6 +57,7 @@ fn endpoint(words: &mut Words, known: &Known) -> Line
     Line::Endpoint { name, id }
 }
 
+/// Takes the words of a `switch` line.
 fn switch(words: &mut Words, known: &Known) -> Line
     ensures { TakesLine known.now AForm.Switch words.old result words.new }
 {
@@ -65,6 +67,7 @@ fn switch(words: &mut Words, known: &Known) -> Line
     Line::Switch { name, ports }
 }
 
+/// Takes the words of a `link` line.
 fn link(words: &mut Words, known: &Known) -> Line
     ensures { TakesLine known.now AForm.Link words.old result words.new }
 {
@@ -73,6 +76,7 @@ fn link(words: &mut Words, known: &Known) -> Line
     Line::Link { a, b }
 }
 
+/// Takes the words of a `buffers` line.
 fn buffers(words: &mut Words, known: &Known) -> Line
     ensures { TakesLine known.now AForm.Buffers words.old result words.new }
 {
@@ -81,6 +85,7 @@ fn buffers(words: &mut Words, known: &Known) -> Line
     Line::Buffers { port, n }
 }
 
+/// Takes the words of a `route` line.
 fn route(words: &mut Words, known: &Known) -> Line
     ensures { TakesLine known.now AForm.Route words.old result words.new }
 {
@@ -90,6 +95,7 @@ fn route(words: &mut Words, known: &Known) -> Line
     Line::Route { node, id, p }
 }
 
+/// Takes the words of a `default` line.
 fn default(words: &mut Words, known: &Known) -> Line
     ensures { TakesLine known.now AForm.Default words.old result words.new }
 {
@@ -98,6 +104,7 @@ fn default(words: &mut Words, known: &Known) -> Line
     Line::Default { node, p }
 }
 
+/// Takes the words of a `lock` line.
 fn lock(words: &mut Words, known: &Known) -> Line
     ensures { TakesLine known.now AForm.Lock words.old result words.new }
 {
@@ -106,6 +113,7 @@ fn lock(words: &mut Words, known: &Known) -> Line
     Line::Lock { node, id }
 }
 
+/// Takes the words of a `send` line.
 fn send(alloc: Global, words: &mut Words, known: &Known) -> Result<Line, AllocError>
     ensures { IfOk result (λ line. TakesLine known.now AForm.Send words.old line words.new) }
 {
@@ -123,6 +131,7 @@ fn send(alloc: Global, words: &mut Words, known: &Known) -> Result<Line, AllocEr
     })
 }
 
+/// Takes the words of a `read` line.
 fn read(words: &mut Words, known: &Known) -> Line
     ensures { TakesLine known.now AForm.Read words.old result words.new }
 {
@@ -142,6 +151,7 @@ fn read(words: &mut Words, known: &Known) -> Line
     }
 }
 
+/// Takes the words of a `write` line.
 fn write(words: &mut Words, known: &Known) -> Line
     ensures { TakesLine known.now AForm.Write words.old result words.new }
 {
@@ -163,6 +173,7 @@ fn write(words: &mut Words, known: &Known) -> Line
     }
 }
 
+/// Takes the words of a `pump` line.
 fn pump(words: &mut Words, known: &Known) -> Line
     ensures { TakesLine known.now AForm.Pump words.old result words.new }
 {
@@ -171,6 +182,7 @@ fn pump(words: &mut Words, known: &Known) -> Line
     Line::Pump { port, n }
 }
 
+/// Takes the words of a `deliver` line.
 fn deliver(words: &mut Words, known: &Known) -> Line
     ensures { TakesLine known.now AForm.Deliver words.old result words.new }
 {
@@ -179,6 +191,7 @@ fn deliver(words: &mut Words, known: &Known) -> Line
     Line::Deliver { port, n }
 }
 
+/// Takes the words of an `alter` line.
 fn alter(words: &mut Words, known: &Known) -> Line
     ensures { TakesLine known.now AForm.Alter words.old result words.new }
 {
@@ -188,6 +201,7 @@ fn alter(words: &mut Words, known: &Known) -> Line
     Line::Alter { port, place, ch }
 }
 
+/// Takes the words of an `insert` line.
 fn insert(words: &mut Words, known: &Known) -> Line
     ensures { TakesLine known.now AForm.Insert words.old result words.new }
 {
@@ -197,6 +211,7 @@ fn insert(words: &mut Words, known: &Known) -> Line
     Line::Insert { port, place, ch }
 }
 
+/// Takes the words of an `erase` line.
 fn erase(words: &mut Words, known: &Known) -> Line
     ensures { TakesLine known.now AForm.Erase words.old result words.new }
 {
@@ -206,6 +221,7 @@ fn erase(words: &mut Words, known: &Known) -> Line
     Line::Erase { port, place, n }
 }
 
+/// Takes the words of a `timeout` line.
 fn timeout(words: &mut Words, known: &Known) -> Line
     ensures { TakesLine known.now AForm.Timeout words.old result words.new }
 {
@@ -213,6 +229,7 @@ fn timeout(words: &mut Words, known: &Known) -> Line
     Line::Timeout { port }
 }
 
+/// Takes the words of a `settle` line.
 fn settle(words: &mut Words, known: &Known) -> Line
     ensures { TakesLine known.now AForm.Settle words.old result words.new }
 {
@@ -220,6 +237,7 @@ fn settle(words: &mut Words, known: &Known) -> Line
     Line::Settle { port }
 }
 
+/// Takes the words of a `move` line.
 fn move_step(words: &mut Words, known: &Known) -> Line
     ensures { TakesLine known.now AForm.Move words.old result words.new }
 {
@@ -227,6 +245,7 @@ fn move_step(words: &mut Words, known: &Known) -> Line
     Line::Move { node }
 }
 
+/// Takes the words of a `collect` line.
 fn collect(words: &mut Words, known: &Known) -> Line
     ensures { TakesLine known.now AForm.Collect words.old result words.new }
 {
@@ -234,6 +253,7 @@ fn collect(words: &mut Words, known: &Known) -> Line
     Line::Collect { node }
 }
 
+/// Takes the words of a `run` line.
 fn run(words: &mut Words) -> Line
     ensures { (known : AKnown) → TakesLine known AForm.Run words.old result words.new }
 {

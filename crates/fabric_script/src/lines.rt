@@ -148,7 +148,7 @@ impl Line {
     ghost use Rattle.std.specs.Prelude.{◌≡◌};
     ghost use Rattle.fabric_script.specs.Lines.{form_of};
 
-    // The form of the line.
+    /// The form of the line.
     pub(crate) fn form(&self) -> Form
         ensures { result ≡ form_of self.now }
     {

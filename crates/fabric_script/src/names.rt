@@ -29,7 +29,7 @@ impl Name {
         Name { items }
     }
 
-    // The name of these bytes, of which there are at most eight.
+    /// The name of these bytes, of which there are at most eight.
     pub(crate) fn of_word(word: &[u8]) -> Name
         requires { length word.now ≤ 8 }
         ensures { result ≡ word.now }
@@ -75,18 +75,21 @@ pub(crate) fn is_name(word: &[u8]) -> bool
     are_letters_or_digits(rest)
 }
 
+/// Whether each byte is a letter or a digit.
 fn are_letters_or_digits(bytes: &[u8]) -> bool
     ensures { result ≡ are_letters_or_digits bytes.now }
 {
     bytes.iter().all(|c| is_letter(*c) || is_digit(*c))
 }
 
+/// Whether a byte is a letter, in ASCII.
 fn is_letter(c: u8) -> bool
     ensures { result ≡ is_letter c }
 {
     matches!(c, b'A'..=b'Z' | b'a'..=b'z')
 }
 
+/// Whether a byte is a digit, in ASCII.
 fn is_digit(c: u8) -> bool
     ensures { result ≡ is_digit c }
 {

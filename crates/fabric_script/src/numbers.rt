@@ -29,7 +29,7 @@ pub fn read_number(word: &[u8]) -> Option<u32>
     read_digits(word)
 }
 
-// The number of digits of which the first is not 0.
+/// The number of digits of which the first is not 0.
 fn read_digits(word: &[u8]) -> Option<u32>
     requires some { 0 < length word.now }
     requires few { length word.now ≤ 10 }

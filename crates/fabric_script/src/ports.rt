@@ -43,7 +43,7 @@ pub(crate) fn split_port(word: &[u8]) -> Option<(&[u8], u8)>
     Some((name, port as u8))
 }
 
-// What stands before the first point of a word, and what behind it.
+/// What stands before the first point of a word, and what behind it.
 fn split_point(word: &[u8]) -> Option<(&[u8], &[u8])>
     ensures { MatchOption result
         (All (λ byte. (byte == 46) ≡ false) word.now)

@@ -9,15 +9,13 @@ use crate::known::{Known, MOST_NODES};
 use crate::lines::Line;
 use crate::ports::same_port;
 use crate::reasons::Reason;
+use rio_packets::MAX_REST;
 
 /// The most that the events of a script may cost.
 const MOST_COST: u64 = 100_000;
 
 /// A port of a table, or a device ID, that is none.
 const NONE: u8 = 255;
-
-/// The most bytes that a packet may have behind its IDs.
-const MOST_REST: usize = 268;
 
 /// The format type of maintenance packets.
 const MAINTENANCE: u8 = 8;
@@ -58,6 +56,7 @@ pub(crate) fn refusal(known: &Known, line: &Line) -> Option<Reason>
     None
 }
 
+/// Whether the port of a table is none of the switch.
 fn entry_is_outside(known: &Known, line: &Line) -> bool
     ensures { result ≡ entry_is_outside known.now line.now }
 {
@@ -67,12 +66,14 @@ fn entry_is_outside(known: &Known, line: &Line) -> bool
     }
 }
 
+/// Whether a port is neither 255 nor one of the node.
 fn is_outside(known: &Known, node: u8, p: u8) -> bool
     ensures { result ≡ is_outside known.now node p }
 {
     p != NONE && known.ports_of(node) <= p
 }
 
+/// Whether a port has a link already, or both are one.
 fn port_is_taken(known: &Known, line: &Line) -> bool
     ensures { result ≡ port_is_taken known.now line.now }
 {
@@ -82,6 +83,7 @@ fn port_is_taken(known: &Known, line: &Line) -> bool
     }
 }
 
+/// Whether an endpoint has the device ID already.
 fn id_is_taken(known: &Known, line: &Line) -> bool
     ensures { result ≡ id_is_taken known.now line.now }
 {
@@ -91,6 +93,7 @@ fn id_is_taken(known: &Known, line: &Line) -> bool
     }
 }
 
+/// Whether data has a length that it may not have.
 fn length_is_bad(line: &Line) -> bool
     ensures { result ≡ length_is_bad line.now }
 {
@@ -100,14 +103,16 @@ fn length_is_bad(line: &Line) -> bool
     }
 }
 
+/// Whether data of a format type may not have so many bytes.
 fn is_bad_length(ftype: u8, count: usize) -> bool
     ensures { result ≡ is_bad_length ftype count }
 {
     count % 2 != 0
-        || count > MOST_REST
+        || count > MAX_REST
         || ftype == MAINTENANCE && !(6 <= count && count <= 70 && count % 8 == 6)
 }
 
+/// Whether the node is not of the kind that the line wants.
 fn kind_is_wrong(known: &Known, line: &Line) -> bool
     ensures { result ≡ kind_is_wrong known.now line.now }
 {
@@ -123,6 +128,7 @@ fn kind_is_wrong(known: &Known, line: &Line) -> bool
     }
 }
 
+/// Whether the port has no link where one is wanted.
 fn not_linked(known: &Known, line: &Line) -> bool
     ensures { result ≡ not_linked known.now line.now }
 {
@@ -138,6 +144,7 @@ fn not_linked(known: &Known, line: &Line) -> bool
     }
 }
 
+/// Whether there are too many nodes, or the events cost too much.
 fn too_much_work(known: &Known, line: &Line) -> bool
     requires { length known.now.links ≤ 16777216 }
     ensures { result ≡ too_much_work known.now line.now }
@@ -146,6 +153,7 @@ fn too_much_work(known: &Known, line: &Line) -> bool
         || u64::from(known.cost()) + known.cost_of(line) > MOST_COST
 }
 
+/// Whether the line makes a node.
 fn makes_node(line: &Line) -> bool
     ensures { result ≡ makes_node line.now }
 {

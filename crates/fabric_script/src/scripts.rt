@@ -74,7 +74,7 @@ pub fn parse(alloc: Global, bytes: &[u8]) -> Result<Script, ScriptEnd>
     Ok(Script { names, lines })
 }
 
-// The kept lines, each with its number, and what is known at their end.
+/// The kept lines, each with its number, and what is known at their end.
 fn read_lines(alloc: Global, bytes: &[u8], known: &mut Known) -> Result<Vec<Numbered>, ScriptEnd>
     requires few { length bytes.now ≤ 16777216 }
     requires nothing { known.old ≡ nothing }

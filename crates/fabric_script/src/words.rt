@@ -160,6 +160,7 @@ impl<'a> Words<'a> {
     }
 }
 
+/// The lesser of the reason so far and one more.
 fn lesser(hit: Option<Reason>, reason: Reason) -> Reason
     ensures { Some result ≡ with_reason hit reason }
 {
@@ -169,7 +170,7 @@ fn lesser(hit: Option<Reason>, reason: Reason) -> Reason
     }
 }
 
-// The first word of a line, and what stands behind its space.
+/// The first word of a line, and what stands behind its space.
 fn split_word(text: &[u8]) -> (&[u8], Option<&[u8]>)
     ensures { words_of text.now ≡ result.0.now ∷ words_left result.1 }
 {

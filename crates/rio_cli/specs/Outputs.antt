@@ -1,10 +1,11 @@
 -- What the program writes.
-use Rattle.std.specs.Prelude.{◌≡◌, ◌≤◌, ℕ, ◌⊎◌, List, ◌++◌, Option, codes, length}
+use Rattle.std.specs.Prelude.{◌≡◌, ◌≤◌, ℕ, ◌⊎◌, List, ◌++◌, Option, Some, None, codes, length}
 use Rattle.std.specs.Fmt.{decimal}
 use Rattle.std.specs.Io.KnownBytes.{Appends, Consumes, IsAtEnd}
 use Rattle.rio_chars.specs.Fronts.{AppendsFront}
-use Rattle.fabric_model.specs.declared.lines.Numbered.{Numbered}
-use Rattle.fabric_replay.specs.Spelling.{IsScript, RefusedAt}
+use Rattle.fabric_script.specs.declared.lines.Numbered.{Numbered}
+use Rattle.fabric_script.specs.Scripts.{IsScript, RefusedAt}
+use Rattle.fabric_replay.specs.Unbuilt.{unbuilt_in}
 use Rattle.fabric_replay.specs.Replaying.{Replayed, ReplayedFront}
 use Rattle.rio_chars.specs.declared.chars.Char.{Char}
 use Rattle.rio_cli.specs.Decoding.{SpellsChars, BadWordAt, Decodes, DecodesFront}
@@ -23,34 +24,45 @@ refused_words = codes "refused words\n"
 abbrev pub refused_length : List ℕ
 refused_length = codes "refused length\n"
 
--- The bytes spell a script, and the text of its trace was written.
+-- The bytes spell a script of which all is built, and the text of its trace was written.
 pub record Traces (bytes : List ℕ) (written written_after : Option (List ℕ)) : Type 0 where
   pub names : List (List ℕ)
   pub script : List Numbered
   pub spells : IsScript bytes names script
+  pub built : unbuilt_in script ≡ None
   pub replayed : Replayed names script written written_after
 
--- The bytes spell a script, and a front of its trace was written.
+-- The bytes spell a script of which all is built, and a front of its trace was written.
 pub record TracesFront (bytes : List ℕ) (written written_after : Option (List ℕ)) : Type 0 where
   pub names : List (List ℕ)
   pub script : List Numbered
   pub spells : IsScript bytes names script
+  pub built : unbuilt_in script ≡ None
   pub front : ReplayedFront names script written written_after
 
--- the bytes spell a script
-abbrev pub SpellsScript : List ℕ → Type 0
-SpellsScript bytes = (names : List (List ℕ)) × (script : List Numbered) × IsScript bytes names script
+-- the bytes spell a script of which all is built
+abbrev pub SpellsBuilt : List ℕ → Type 0
+SpellsBuilt bytes = (names : List (List ℕ)) × (script : List Numbered) × IsScript bytes names script × (unbuilt_in script ≡ None)
+
+-- the bytes spell a script, of which this line is the first that is not built
+abbrev pub SpellsUnbuilt : List ℕ → ℕ → Type 0
+SpellsUnbuilt bytes line = (names : List (List ℕ)) × (script : List Numbered) × IsScript bytes names script × (unbuilt_in script ≡ Some line)
+
+-- A script is refused in two ways: the bytes spell none, and this is their first bad line and the least reason that hits
+-- it; or they spell one with a line that is not built, and then that is reason 1.
+abbrev pub RefusesScript : List ℕ → ℕ → ℕ → Type 0
+RefusesScript bytes line reason = RefusedAt bytes line reason ⊎ (SpellsUnbuilt bytes line × (reason ≡ 1))
 
 -- ---- what each command makes of an input that was read whole: in each table a row for each command
 
 -- the input is carried out
 abbrev pub IsAccepted : Command → List ℕ → Type 0
-IsAccepted Replay = SpellsScript
+IsAccepted Replay = SpellsBuilt
 IsAccepted Decode = λ bytes. (chars : List Char) × SpellsChars bytes chars
 
 -- the input is refused, at this line and for this reason
 abbrev pub IsRefused : Command → List ℕ → ℕ → ℕ → Type 0
-IsRefused Replay = RefusedAt
+IsRefused Replay = RefusesScript
 IsRefused Decode = λ bytes line reason. BadWordAt bytes line × (reason ≡ 1)
 
 -- the input is carried out, and all was written that the command writes of it

@@ -20,7 +20,7 @@ pub struct Refusal {
 }
 
 impl Answer {
-    // The answer of a call that ended so and refused no line.
+    /// The answer of a call that ended so and refused no line.
     pub(crate) fn ended(status: Status) -> Answer
         ensures { result ≡ record { status = status; refusal = None } }
     {

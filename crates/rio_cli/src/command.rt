@@ -26,7 +26,7 @@ pub(crate) fn command_of(words: &[String]) -> Option<Command>
     }
 }
 
-// Whether the words are this one.
+/// Whether the words are this one.
 fn is_one(words: &[String], wanted: &str) -> bool
     ensures { IsTrue result ↔ (map string_bytes words.now ≡ wanted.now ∷ []) }
 {

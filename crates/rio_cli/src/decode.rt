@@ -59,7 +59,7 @@ pub(crate) fn decode_chars<K: Sink>(
     Ok(())
 }
 
-// Writes the lines of the reading, up to the character at which a write failed.
+/// Writes the lines of the reading, up to the character at which a write failed.
 fn write_reading<K: Sink>(chars: &[Char], outbox: &mut Outbox<K>)
     requires length { length chars.now ≤ most_input }
     requires fine { outbox.old.failed ≡ false }

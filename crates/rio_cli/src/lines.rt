@@ -33,7 +33,7 @@ pub(crate) fn write_told<K: Sink>(outbox: &mut Outbox<K>, place: u32, told: Told
     }
 }
 
-// The line of the packet that ended.
+/// The line of the packet that ended.
 fn write_ended<K: Sink>(outbox: &mut Outbox<K>, place: u32, framer: &Framer)
     requires { IsSome framer.now.ended }
     ensures { Writes K.written K.faults outbox.old outbox.new
@@ -45,6 +45,7 @@ fn write_ended<K: Sink>(outbox: &mut Outbox<K>, place: u32, framer: &Framer)
     }
 }
 
+/// Tells the line of a symbol.
 fn write_symbol<K: Sink>(outbox: &mut Outbox<K>, place: u32, symbol: &Symbol)
     ensures { Writes K.written K.faults outbox.old outbox.new
         (decimal place ++ symbol_text symbol.now) }
@@ -53,6 +54,7 @@ fn write_symbol<K: Sink>(outbox: &mut Outbox<K>, place: u32, symbol: &Symbol)
     write_fields(outbox, symbol);
 }
 
+/// Tells what stands behind the place: the word and the five fields.
 fn write_fields<K: Sink>(outbox: &mut Outbox<K>, symbol: &Symbol)
     ensures { Writes K.written K.faults outbox.old outbox.new (symbol_text symbol.now) }
 {
@@ -65,6 +67,7 @@ fn write_fields<K: Sink>(outbox: &mut Outbox<K>, symbol: &Symbol)
     outbox.write(b"\n");
 }
 
+/// Tells the line of a packet.
 fn write_packet<K: Sink>(outbox: &mut Outbox<K>, place: u32, ack: u8, packet: &[u8])
     ensures { Writes K.written K.faults outbox.old outbox.new
         (decimal place ++ packet_text ack packet.now) }
@@ -73,6 +76,7 @@ fn write_packet<K: Sink>(outbox: &mut Outbox<K>, place: u32, ack: u8, packet: &[
     write_form(outbox, ack, packet);
 }
 
+/// Tells what stands behind the place: the word, the ackID and the bytes.
 fn write_form<K: Sink>(outbox: &mut Outbox<K>, ack: u8, packet: &[u8])
     ensures { Writes K.written K.faults outbox.old outbox.new (packet_text ack packet.now) }
 {
@@ -83,6 +87,7 @@ fn write_form<K: Sink>(outbox: &mut Outbox<K>, ack: u8, packet: &[u8])
     outbox.write(b"\n");
 }
 
+/// Tells the line of what is neither.
 fn write_bad<K: Sink>(outbox: &mut Outbox<K>, place: u32, cause: Cause)
     ensures { Writes K.written K.faults outbox.old outbox.new
         (decimal place ++ bad_text cause) }
@@ -91,6 +96,7 @@ fn write_bad<K: Sink>(outbox: &mut Outbox<K>, place: u32, cause: Cause)
     write_cause(outbox, cause);
 }
 
+/// Tells what stands behind the place: the word and the number of the cause.
 fn write_cause<K: Sink>(outbox: &mut Outbox<K>, cause: Cause)
     ensures { Writes K.written K.faults outbox.old outbox.new (bad_text cause) }
 {
@@ -110,7 +116,7 @@ pub(crate) fn write_end<K: Sink>(outbox: &mut Outbox<K>, at_rest: bool)
     }
 }
 
-// Tells a number behind a space.
+/// Tells a number behind a space.
 fn write_number<K: Sink>(outbox: &mut Outbox<K>, number: u8)
     ensures { Writes K.written K.faults outbox.old outbox.new (spaced number) }
 {
@@ -118,7 +124,7 @@ fn write_number<K: Sink>(outbox: &mut Outbox<K>, number: u8)
     outbox.write_short(&text, count);
 }
 
-// A number behind a space, and how many bytes that are.
+/// A number behind a space, and how many bytes that are.
 fn spaced_number(number: u8) -> ([u8; 8], usize)
     ensures count { result.1 ≤ 8 }
     ensures text { take result.1 result.0 ≡ spaced number }

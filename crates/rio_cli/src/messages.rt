@@ -20,6 +20,7 @@ pub(crate) fn write_message<M: Sink>(messages: &mut M, answer: &Answer) -> bool
     }
 }
 
+/// Says which line is refused, and why.
 fn write_refusal<M: Sink>(messages: &mut M, refusal: &Refusal) -> bool
     ensures { WritesUnless false (M.written messages.old) (M.faults messages.old)
         result (M.written messages.new) (M.faults messages.new)
@@ -37,6 +38,7 @@ fn write_refusal<M: Sink>(messages: &mut M, refusal: &Refusal) -> bool
     write_unless(failed, messages, b"\n")
 }
 
+/// Says a number.
 fn write_number<M: Sink>(failed: bool, messages: &mut M, number: u32) -> bool
     ensures { WritesUnless failed (M.written messages.old) (M.faults messages.old)
         result (M.written messages.new) (M.faults messages.new) (decimal number) }
@@ -46,7 +48,7 @@ fn write_number<M: Sink>(failed: bool, messages: &mut M, number: u32) -> bool
     write_unless(failed, messages, &digits[begin..])
 }
 
-// Why a line is refused.
+/// Why a line is refused.
 fn reason_text(command: Command, reason: u8) -> &'static [u8]
     ensures { result.now ≡ reason_text_of command reason }
 {
@@ -56,6 +58,7 @@ fn reason_text(command: Command, reason: u8) -> &'static [u8]
     }
 }
 
+/// Why a line of a script is refused.
 fn script_reason(reason: u8) -> &'static [u8]
     ensures { result.now ≡ reason_text_of Command.Replay reason }
 {
@@ -78,6 +81,7 @@ fn script_reason(reason: u8) -> &'static [u8]
     }
 }
 
+/// What is said of a status.
 fn status_text(status: Status) -> &'static [u8]
     ensures { result.now ≡ status_text_of status }
 {

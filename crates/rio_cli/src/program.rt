@@ -31,7 +31,7 @@ pub fn run<S: Source, K: Sink, M: Sink>(
     status_number(answer.status)
 }
 
-// The words that follow the program's name.
+/// The words that follow the program's name.
 fn after_name(arguments: &[String]) -> &[String]
     ensures { map string_bytes result.now ≡ after_name_of (map string_bytes arguments.now) }
 {

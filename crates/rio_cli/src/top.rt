@@ -13,7 +13,8 @@ use crate::command::{Command, command_of};
 use crate::decode::{DecodeEnd, decode_chars};
 use crate::status::Status;
 use crate::words::{CharsEnd, read_chars};
-use fabric_replay::{ReplayEnd, ScriptEnd, parse, replay};
+use fabric_replay::{ReplayEnd, replay, unbuilt};
+use fabric_script::{ScriptEnd, parse};
 use rio_chars::{ReadEnd, Sink, Source, read_all, write_all};
 use std::alloc::Global;
 
@@ -26,7 +27,7 @@ const MOST_INPUT: usize = 4_194_304;
 /// words that spaces and line feeds part, and writes the lines of their reading, each event at the place of the character
 /// that completes it, and then `end`, or `end cut` if a symbol or a packet is in progress. Other words are answered
 /// Words, and nothing is read. A refusal is one line, and the whole output: `refused words`, `refused length` for more
-/// than 4,194,304 bytes of input, `refused LINE REASON` for a script, and `refused LINE 1` for the first line that has a
+/// than 4,194,304 bytes of input, `refused LINE REASON` for a script or what is none, and `refused LINE 1` for the first line that has a
 /// word which is no character. The tests come in this order, and ReadFault between the first two.
 pub fn rio<S: Source, K: Sink>(
     alloc: Global,
@@ -58,7 +59,7 @@ pub fn answer<S: Source, K: Sink>(
     }
 }
 
-// Reads the input and does with it what is asked.
+/// Reads the input and does with it what is asked.
 fn run_input<S: Source, K: Sink>(
     alloc: Global,
     command: Command,
@@ -86,7 +87,7 @@ fn run_input<S: Source, K: Sink>(
     }
 }
 
-// Does with the bytes what is asked.
+/// Does with the bytes what is asked.
 fn run_bytes<K: Sink>(alloc: Global, command: Command, bytes: &[u8], sink: &mut K) -> Answer
     requires { length bytes.now ≤ most_input }
     ensures says { SaysOfBytes command result.status bytes.now
@@ -102,7 +103,7 @@ fn run_bytes<K: Sink>(alloc: Global, command: Command, bytes: &[u8], sink: &mut 
     }
 }
 
-// Replays the script that the bytes spell.
+/// Replays the script that the bytes spell, if all of it is built.
 fn replay_bytes<K: Sink>(alloc: Global, bytes: &[u8], sink: &mut K) -> Answer
     requires { length bytes.now ≤ most_input }
     ensures says { SaysOfBytes Replay result.status bytes.now
@@ -112,30 +113,34 @@ fn replay_bytes<K: Sink>(alloc: Global, bytes: &[u8], sink: &mut K) -> Answer
     ensures sink { K.faults sink.old ≤ K.faults sink.new }
     ensures writes { result.status ≢ Status.WriteFault → K.faults sink.new ≡ K.faults sink.old }
 {
-    match parse(alloc, bytes) {
-        Ok(script) => match replay(alloc, &script, sink) {
-            Ok(()) => Answer::ended(Status::Done),
-            Err(ReplayEnd::WriteFault) => Answer::ended(Status::WriteFault),
-            Err(ReplayEnd::NoMemory) => Answer::ended(Status::NoMemory),
-        },
+    let script = match parse(alloc, bytes) {
+        Ok(script) => script,
         Err(ScriptEnd::Refused(refusal)) => {
-            let command = Command::Replay;
-            let fabric_replay::Refusal { line, reason } = refusal;
-            refuse_line(
-                alloc,
-                Refusal {
-                    command,
-                    line,
-                    reason,
-                },
-                sink,
-            )
+            let refusal = Refusal {
+                command: Command::Replay,
+                line: refusal.line,
+                reason: refusal.reason,
+            };
+            return refuse_line(alloc, refusal, sink);
         }
-        Err(ScriptEnd::NoMemory) => Answer::ended(Status::NoMemory),
+        Err(ScriptEnd::NoMemory) => return Answer::ended(Status::NoMemory),
+    };
+    if let Some(line) = unbuilt(&script) {
+        let refusal = Refusal {
+            command: Command::Replay,
+            line,
+            reason: 1,
+        };
+        return refuse_line(alloc, refusal, sink);
+    }
+    match replay(alloc, &script, sink) {
+        Ok(()) => Answer::ended(Status::Done),
+        Err(ReplayEnd::WriteFault) => Answer::ended(Status::WriteFault),
+        Err(ReplayEnd::NoMemory) => Answer::ended(Status::NoMemory),
     }
 }
 
-// Reads the characters that the words of the bytes are, and writes the lines of their reading.
+/// Reads the characters that the words of the bytes are, and writes the lines of their reading.
 fn decode_bytes<K: Sink>(alloc: Global, bytes: &[u8], sink: &mut K) -> Answer
     requires { length bytes.now ≤ most_input }
     ensures says { SaysOfBytes Decode result.status bytes.now
@@ -167,7 +172,7 @@ fn decode_bytes<K: Sink>(alloc: Global, bytes: &[u8], sink: &mut K) -> Answer
     }
 }
 
-// Writes the line of a refusal and answers it.
+/// Writes the line of a refusal and answers it.
 fn refuse_line<K: Sink>(alloc: Global, refusal: Refusal, sink: &mut K) -> Answer
     ensures refused { Answers result.status Status.Script (refusal_text refusal.line refusal.reason)
         (K.written sink.old) (K.faults sink.old) (K.written sink.new) (K.faults sink.new)
@@ -191,7 +196,7 @@ fn refuse_line<K: Sink>(alloc: Global, refusal: Refusal, sink: &mut K) -> Answer
     }
 }
 
-// Writes the line of a refusal and answers its status, or WriteFault if it cannot be written.
+/// Writes the line of a refusal and answers its status, or WriteFault if it cannot be written.
 fn refuse<K: Sink>(sink: &mut K, text: &[u8], status: Status) -> Status
     ensures answers { Answers result status text.now
         (K.written sink.old) (K.faults sink.old) (K.written sink.new) (K.faults sink.new) }

@@ -1,6 +1,6 @@
 use Rattle.std.proofs.Common.{List}
 use Rattle.link_buffers.specs.Queues.{packet_count}
-use Rattle.fabric_model.specs.declared.lines.PortRef.{PortRef}
+use Rattle.fabric_script.specs.declared.ports.PortRef.{PortRef}
 use Rattle.fabric_model.specs.Network.{Registers}
 use Rattle.fabric_model.specs.Seen.{Seen}
 use Rattle.fabric_replay.specs.Showing.{ShowsEnds, AreEnds}

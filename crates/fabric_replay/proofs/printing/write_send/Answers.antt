@@ -2,7 +2,7 @@ use Rattle.std.proofs.Common.{◌≡◌, ℕ, List, ◌++◌, append_assoc}
 use Rattle.std.specs.Prelude.{codes}
 use Rattle.std.specs.Fmt.{decimal}
 use Rattle.rio_chars.proofs.WrittenLaws.{Writes-then}
-use Rattle.fabric_model.specs.Text.{name_of}
+use Rattle.fabric_script.specs.Names.{name_of}
 use Rattle.fabric_replay.proofs.printing.write_send.Goals as goal
 
 regrouped : (x p a t d : List ℕ) → x ++ (p ++ a ++ t ++ a ++ d) ≡ x ++ p ++ a ++ t ++ a ++ d
