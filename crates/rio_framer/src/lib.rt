@@ -13,7 +13,9 @@
 mod events;
 mod feeding;
 mod framer;
+mod runs;
 mod sending;
+mod steps;
 #[cfg(test)]
 mod tests;
 

@@ -1,0 +1,214 @@
+//! The step of a framer: what a character of each kind does.
+ghost use Rattle.std.specs.Prelude.{◌≡◌, ℕ, None, true};
+
+use crate::events::Told;
+use crate::framer::{Framer, Mode};
+use link_model::{Kind, Pending};
+use rio_packets::Cause;
+use rio_symbols::{Delimiter, Symbol, from_bytes, stype1};
+
+impl Framer {
+    ghost use Rattle.rio_symbols.specs.Spelling.{spelled_in};
+    ghost use Rattle.link_model.specs.Reading.{Plain, Skipped, told};
+    ghost use Rattle.link_model.specs.Places.{place as place_of, taken, step_by, outside as outside_step, broken as broken_step, finished};
+    ghost use Rattle.rio_framer.specs.Framing.{framing_at, framing_after, IsWithin};
+    ghost use Rattle.rio_framer.specs.Giving.{told_of};
+
+    /// Takes a character of this kind.
+    pub(crate) fn take(&mut self, kind: Kind) -> Told
+        requires { self.old.ended ≡ None }
+        ensures state { self.new
+            ≡ framing_after (step_by self.old.place.text self.old.place.pending kind) }
+        ensures told { result ≡ told_of (step_by self.old.place.text self.old.place.pending kind).gives }
+    {
+        match self.pending {
+            Pending::Nothing => self.outside(kind),
+            Pending::Opened(delimiter) => match kind {
+                Kind::Byte(x) => self.wait(Pending::One(delimiter, x)),
+                _ => self.broken(kind),
+            },
+            Pending::One(delimiter, x) => match kind {
+                Kind::Byte(y) => self.wait(Pending::Two(delimiter, x, y)),
+                _ => self.broken(kind),
+            },
+            Pending::Two(delimiter, x, y) => match kind {
+                Kind::Byte(z) => self.finish(delimiter, [x, y, z]),
+                _ => self.broken(kind),
+            },
+        }
+    }
+
+    /// A character while no symbol is in progress.
+    fn outside(&mut self, kind: Kind) -> Told
+        requires nothing { self.old.place.pending ≡ Pending.Nothing }
+        requires ended { self.old.ended ≡ None }
+        ensures state { self.new ≡ framing_after (outside_step self.old.place.text kind) }
+        ensures told { result ≡ told_of (outside_step self.old.place.text kind).gives }
+    {
+        match kind {
+            Kind::Opens(delimiter) => self.open(delimiter),
+            Kind::Byte(byte) => self.data(byte),
+            Kind::Idle => self.idle(),
+            Kind::Stray => self.stray(),
+        }
+    }
+
+    /// A delimiter while no symbol is in progress.
+    pub(crate) fn open(&mut self, delimiter: Delimiter) -> Told
+        requires { self.old.ended ≡ None }
+        ensures state { self.new ≡ framing_after (outside_step self.old.place.text (Kind.Opens delimiter)) }
+        ensures told { result ≡ Told.Nothing }
+    {
+        if let Mode::Skipping = self.mode {
+            self.mode = Mode::Outside;
+        }
+        self.pending = Pending::Opened(delimiter);
+        Told::Nothing
+    }
+
+    /// A data character while no symbol is in progress.
+    fn data(&mut self, byte: u8) -> Told
+        requires nothing { self.old.place.pending ≡ Pending.Nothing }
+        requires ended { self.old.ended ≡ None }
+        ensures state { self.new ≡ framing_after (outside_step self.old.place.text (Kind.Byte byte)) }
+        ensures told { result ≡ told_of (outside_step self.old.place.text (Kind.Byte byte)).gives }
+    {
+        match self.mode {
+            Mode::Outside => self.skip(Cause::BadChar),
+            Mode::Skipping => Told::Nothing,
+            Mode::InPacket => self.add(byte),
+        }
+    }
+
+    /// A data character of a packet.
+    fn add(&mut self, byte: u8) -> Told
+        requires nothing { self.old.place.pending ≡ Pending.Nothing }
+        requires ended { self.old.ended ≡ None }
+        requires within { IsWithin self.old.place.text }
+        ensures state { self.new ≡ framing_after (outside_step self.old.place.text (Kind.Byte byte)) }
+        ensures told { result ≡ told_of (outside_step self.old.place.text (Kind.Byte byte)).gives }
+    {
+        if self.building.is_full() {
+            return self.skip(Cause::General);
+        }
+        self.building.push(byte);
+        Told::Nothing
+    }
+
+    /// An idle character while no symbol is in progress.
+    fn idle(&mut self) -> Told
+        requires nothing { self.old.place.pending ≡ Pending.Nothing }
+        requires ended { self.old.ended ≡ None }
+        ensures state { self.new ≡ framing_after (outside_step self.old.place.text Kind.Idle) }
+        ensures told { result ≡ told_of (outside_step self.old.place.text Kind.Idle).gives }
+    {
+        match self.mode {
+            Mode::InPacket => self.restart(Pending::Nothing),
+            Mode::Skipping | Mode::Outside => {
+                self.mode = Mode::Outside;
+                Told::Nothing
+            }
+        }
+    }
+
+    /// A stray character while no symbol is in progress.
+    fn stray(&mut self) -> Told
+        requires nothing { self.old.place.pending ≡ Pending.Nothing }
+        requires ended { self.old.ended ≡ None }
+        ensures state { self.new ≡ framing_after (outside_step self.old.place.text Kind.Stray) }
+        ensures told { result ≡ told_of (outside_step self.old.place.text Kind.Stray).gives }
+    {
+        if let Mode::Skipping = self.mode {
+            return Told::Nothing;
+        }
+        self.skip(Cause::BadChar)
+    }
+
+    /// A byte of a symbol, which is not whole yet.
+    fn wait(&mut self, pending: Pending) -> Told
+        requires { self.old.ended ≡ None }
+        ensures state { self.new ≡ framing_at (place_of self.old.place.text pending) }
+        ensures told { result ≡ Told.Nothing }
+    {
+        self.pending = pending;
+        Told::Nothing
+    }
+
+    /// A character, no data, while a symbol is in progress.
+    fn broken(&mut self, kind: Kind) -> Told
+        requires { self.old.ended ≡ None }
+        ensures state { self.new ≡ framing_after (broken_step kind) }
+        ensures told { result ≡ told_of (broken_step kind).gives }
+    {
+        match kind {
+            Kind::Opens(delimiter) => self.restart(Pending::Opened(delimiter)),
+            Kind::Idle => self.restart(Pending::Nothing),
+            Kind::Byte(_) | Kind::Stray => self.skip(Cause::BadChar),
+        }
+    }
+
+    /// Drops the symbol and the packet in progress, since a character broke one of them off.
+    fn restart(&mut self, pending: Pending) -> Told
+        requires { self.old.ended ≡ None }
+        ensures state { self.new ≡ framing_at (place_of Plain pending) }
+        ensures told { result ≡ Told.Bad Cause.BadChar }
+    {
+        self.mode = Mode::Outside;
+        self.pending = pending;
+        Told::Bad(Cause::BadChar)
+    }
+
+    /// Drops what is in progress, and skips data from now on.
+    fn skip(&mut self, cause: Cause) -> Told
+        requires { self.old.ended ≡ None }
+        ensures state { self.new ≡ framing_at (place_of Skipped Pending.Nothing) }
+        ensures told { result ≡ Told.Bad cause }
+    {
+        self.mode = Mode::Skipping;
+        self.pending = Pending::Nothing;
+        Told::Bad(cause)
+    }
+
+    /// The delimiter and the three bytes of a symbol.
+    pub(crate) fn finish(&mut self, delimiter: Delimiter, bytes: [u8; 3]) -> Told
+        requires { self.old.ended ≡ None }
+        ensures state { self.new ≡ framing_after (finished self.old.place.text delimiter (spelled_in bytes)) }
+        ensures told { result ≡ told_of (finished self.old.place.text delimiter (spelled_in bytes)).gives }
+    {
+        match from_bytes(&bytes) {
+            Ok(symbol) if symbol.may_follow(delimiter) => self.meet(symbol),
+            Ok(_) => self.skip(Cause::General),
+            Err(_) => self.skip(Cause::BadSymbol),
+        }
+    }
+
+    /// A symbol that may follow its delimiter, by its stype1.
+    fn meet(&mut self, symbol: Symbol) -> Told
+        requires { self.old.ended ≡ None }
+        ensures state { self.new ≡ framing_after (taken self.old.place.text symbol true) }
+        ensures told { result ≡ told_of (told self.old.place.text symbol) }
+    {
+        self.pending = Pending::Nothing;
+        match (self.mode, symbol.s1) {
+            (Mode::InPacket, stype1::START_OF_PACKET) => {
+                self.ended = true;
+                Told::Ends(symbol)
+            }
+            (Mode::InPacket, stype1::END_OF_PACKET) => {
+                self.ended = true;
+                self.mode = Mode::Outside;
+                Told::Ends(symbol)
+            }
+            (_, stype1::START_OF_PACKET) => {
+                self.building.clear();
+                self.mode = Mode::InPacket;
+                Told::Ctl(symbol)
+            }
+            (_, stype1::STOMP..=stype1::LINK_REQUEST) => {
+                self.mode = Mode::Outside;
+                Told::Ctl(symbol)
+            }
+            _ => Told::Ctl(symbol),
+        }
+    }
+}
