@@ -2,7 +2,5 @@ pub mod FirstPackets
 pub mod TurnLaws
 pub mod ActLaws
 pub mod ReplyLaws
-pub mod CarryLaws
-pub mod ArrivalLaws
 pub mod SentReads
 pub mod RunLaws

@@ -9,4 +9,3 @@ pub mod Runs
 pub mod Turns
 pub mod Bursts
 pub mod Acts
-pub mod Carrying

@@ -159,6 +159,7 @@ impl Port {
         ensures state { self.new ≡ after_hearing self.old symbol }
         ensures freed { freed.new.items ≡ packets_of (acknowledged self.old symbol) self.old.queued }
     {
+        // The half is moved out and led on; the placeholder is never read.
         let output = mem::replace(&mut self.output, Output::Failed(OutFailed));
         self.output = output.hear(symbol.s0, symbol.p0, &mut self.queued, freed);
     }
@@ -168,6 +169,7 @@ impl Port {
         ensures state { self.new ≡ record self.old { input = (obeyed self.old symbol).state } }
         ensures reply { result ≡ (obeyed self.old symbol).reply }
     {
+        // The half is moved out and led on; the placeholder is never read.
         let input = mem::replace(&mut self.input, Input::Ok(InOk::new()));
         let (next, reply) = input.obey(symbol.s1, symbol.cmd);
         self.input = next;
@@ -180,6 +182,7 @@ impl Port {
         ensures held { held_of (Pkt ack packet.now) result.held ≡ (acts_packet self.old ack packet.now).held }
         ensures reply { result.reply ≡ (acts_packet self.old ack packet.now).reply }
     {
+        // The half is moved out and led on; the placeholder is never read.
         let input = mem::replace(&mut self.input, Input::Ok(InOk::new()));
         let Arrived { input, reply, held } = input.packet(ack, packet, &mut self.received);
         self.input = input;
@@ -191,6 +194,7 @@ impl Port {
         ensures state { self.new ≡ (acts_bad self.old cause).port }
         ensures reply { result ≡ (acts_bad self.old cause).reply }
     {
+        // The half is moved out and led on; the placeholder is never read.
         let input = mem::replace(&mut self.input, Input::Ok(InOk::new()));
         let (next, reply) = input.bad(cause);
         self.input = next;

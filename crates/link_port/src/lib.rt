@@ -13,14 +13,12 @@
 //! - [`Taken`] and [`Burst`]: what a character did, and what a turn sends
 //! - [`PortFace`]: the eight lists of packets that the layer above sees
 //! - [`PlainPort`] and [`pass`]: a port with no protocol, whose packets pass at once
-//! - [`carry`]: an example, a packet from one port to another and its acknowledgement back
 //! - [`one_character_has_one_reply`]: a law; the call does nothing
 #![tactic(auto)]
 
 mod acts;
 mod bursts;
 mod completed;
-mod example;
 mod face;
 mod input_half;
 mod kinds;
@@ -28,6 +26,8 @@ mod laws;
 mod output_half;
 mod plain;
 mod port;
+#[cfg(test)]
+mod scenario_tests;
 mod taken;
 #[cfg(test)]
 mod tests;
@@ -37,7 +37,6 @@ mod turn_tests;
 pub use acts::Done;
 pub use bursts::Burst;
 pub use completed::Completed;
-pub use example::carry;
 pub use face::PortFace;
 pub use kinds::{InKind, OutKind};
 pub use laws::one_character_has_one_reply;

@@ -13,7 +13,7 @@ use rio_symbols::Symbol;
 use std::test::*;
 
 /// Lets characters come, and returns the last reply.
-fn meet(port: &mut Port, chars: &[Char]) -> Option<Symbol> {
+pub(crate) fn meet(port: &mut Port, chars: &[Char]) -> Option<Symbol> {
     let mut freed = ArrayVec::new();
     let mut reply = None;
     for c in chars {

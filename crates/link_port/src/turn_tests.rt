@@ -1,32 +1,14 @@
-//! What ports send, and a packet on its way between two of them. The expected symbols are those of this project's tables
+//! What ports send. The expected symbols are those of this project's tables
 //! (`docs/link.md`).
 ghost use Rattle.std.specs.Prelude.{◌<◌};
 
 use crate::tests::{meet_packet, meet_symbol, put};
-use crate::{PlainPort, Port, PortFace, carry, pass};
+use crate::{PlainPort, Port, PortFace, pass};
 use arrayvec::ArrayVec;
 use link_model::Event;
 use rio_packets::Packet;
 use rio_symbols::Symbol;
 use std::test::*;
-
-#[test]
-fn one_packet_goes_from_end_to_end(rt: HostRuntime) {
-    let (Ok(mut near), Ok(mut far)) = (Port::new(rt.alloc(), 4), Port::new(rt.alloc(), 4)) else {
-        panic!(rt; "no memory");
-    };
-    put(&mut near);
-    assert!(rt; near.waiting());
-    let mut freed = ArrayVec::new();
-    assert!(rt; carry(&mut near, &mut far, &mut freed).is_some());
-    assert_eq!(rt; freed.len(), 1);
-    assert_eq!(rt;
-        (near.outstanding(), near.waiting(), far.at_rest()),
-        (0, false, true)
-    );
-    assert!(rt; far.in_head(0).is_some());
-    assert!(rt; far.in_pop(0).is_some());
-}
 
 /// The status symbol of a port that expects ackID 1.
 fn status(s1: u8, cmd: u8) -> Event
