@@ -27,7 +27,10 @@ taken_by to (Unsent told e) = Err (Undetected to e)
 
 -- of a delivery from this end, unless memory or the watch ended it
 abbrev pub delivery_answer : Side → ℕ → LinkState → Result Edited LinkEnd
-delivery_answer from count s = if has_chars from count s then taken_by (other_side from) (delivery_from from count s) else Ok Short
+delivery_answer from count s =
+    if has_chars from count s
+    then taken_by (other_side from) (delivery_from from count s)
+    else Ok Short
 
 -- memory or the watch ended a call, or a fact holds
 abbrev pub UnlessGivenUp : {T : Type 0} → Result T LinkEnd → Type 0 → Type 0

@@ -6,9 +6,10 @@ use Rattle.link_wires.specs.Deliveries.{Delivered, told_of, undetected}
 use Rattle.link_wires.specs.Wires.{answers as answered_by}
 use Rattle.link_wires.specs.declared.moves.Move.{Move}
 
--- The characters that a port got of those that were to be taken, its moves, the characters of its answers, and the event
--- that was not sent are those of a delivery.
-pub record AreCarried (d : Delivered) (chars got : List Char) (moves : List Move) (answers : List Char) (found : Option Event) : Type 0 where
+-- The characters that a port got of those that were to be taken, its moves, the characters of its
+-- answers, and the event that was not sent are those of a delivery.
+pub record AreCarried (d : Delivered) (chars got : List Char) (moves : List Move)
+    (answers : List Char) (found : Option Event) : Type 0 where
   pub got_is : got ≡ take (told_of d).count chars
   pub moves_are : moves ≡ (told_of d).moves
   pub answers_are : answers ≡ (answered_by (told_of d).replies).chars

@@ -28,8 +28,8 @@ pub record Stops {W : Type 0} (grew : W → List Note → W → Type 0) (cut : W
   pub part : P (At before) acts
   pub stopped : Stopped grew cut old (acts_notes (At before) acts) new
 
--- A call that does a part ended early: the part was done up to an event that was not sent, or memory
--- or the watch ended it.
+-- A call that does a part ended early: the part was done up to an event that was not sent, or
+-- memory or the watch ended it.
 abbrev pub Ends : {W : Type 0} → (W → List Note → W → Type 0) → (W → Note → W → Type 0)
     → Part → LinkState → W → LinkEnd → W → Type 0
 Ends grew cut P before old (Undetected side e) new = Comes grew P before old (Found side e) new

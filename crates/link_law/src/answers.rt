@@ -1,10 +1,12 @@
+//! What the calls of a link answer.
 use link_model::Event;
 use link_watch::Side;
 
 /// Why a delivery ended.
 #[derive(Debug, Drop)]
 pub enum LinkEnd {
-    /// The port at this end acted on an event that was not sent: a corruption that no check has found.
+    /// The port at this end acted on an event that was not sent: a corruption that no check has
+    /// found.
     Undetected(Side, Event),
     /// The watch failed, and its count of faults rose.
     Failed,

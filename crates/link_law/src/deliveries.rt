@@ -33,10 +33,11 @@ pub(crate) struct Carried {
 }
 
 impl Link {
-    /// Has the port at the other end take characters from the front of a wire. Short exactly where the wire has fewer; then
-    /// nothing changes. Undetected exactly where the port acts on an event that equals none of those that were sent and
-    /// that no acted event has met; it names that port and the first such event. After it, and after `Failed` and
-    /// `NoMemory`, the link and its ports are of no use.
+    /// Has the port at the other end take characters from the front of a wire. Short exactly where
+    /// the wire has fewer; then nothing changes. Undetected exactly where the port acts on an event
+    /// that equals none of those that were sent and that no acted event has met; it names that port
+    /// and the first such event. After it, and after `Failed` and `NoMemory`, the link and its
+    /// ports are of no use.
     pub fn deliver<W: Watch>(
         &mut self,
         alloc: Global,
@@ -47,14 +48,22 @@ impl Link {
         watch: &mut W,
     ) -> Result<Edited, LinkEnd>
         requires some { 1 ≤ count }
-        ensures answer { UnlessGivenUp result (result ≡ delivery_answer from count (link self.old a.old b.old)) }
-        ensures link { OnOk result (link self.new a.new b.new ≡ delivered_from from count (link self.old a.old b.old)) }
-        ensures sound { OnOk result (IsSoundLink (link self.old a.old b.old) → IsSoundLink (link self.new a.new b.new)) }
+        ensures answer { UnlessGivenUp result (result
+            ≡ delivery_answer from count (link self.old a.old b.old)) }
+        ensures link { OnOk result (link self.new a.new b.new
+            ≡ delivered_from from count (link self.old a.old b.old)) }
+        ensures sound { OnOk result (IsSoundLink (link self.old a.old b.old)
+            → IsSoundLink (link self.new a.new b.new)) }
         ensures steps { OnOk result (IsSoundLink (link self.old a.old b.old)
-            → Walks (queues_of (link self.old a.old b.old)) (steps_of (delivery_notes from count (link self.old a.old b.old))) (queues_of (link self.new a.new b.new))) }
-        ensures noted { UnlessGivenUp result (W.grew watch.old (delivery_notes from count (link self.old a.old b.old)) watch.new) }
-        ensures stopped { OnGivenUp result (Stopped W.grew W.cut watch.old (delivery_notes from count (link self.old a.old b.old)) watch.new) }
-        ensures cause { IsErrOf result LinkEnd.Failed → Rose (W.faults watch.old) (W.faults watch.new) }
+            → Walks (queues_of (link self.old a.old b.old))
+            (steps_of (delivery_notes from count (link self.old a.old b.old)))
+            (queues_of (link self.new a.new b.new))) }
+        ensures noted { UnlessGivenUp result (W.grew watch.old
+            (delivery_notes from count (link self.old a.old b.old)) watch.new) }
+        ensures stopped { OnGivenUp result (Stopped W.grew W.cut watch.old
+            (delivery_notes from count (link self.old a.old b.old)) watch.new) }
+        ensures cause { IsErrOf result LinkEnd.Failed
+            → Rose (W.faults watch.old) (W.faults watch.new) }
         ensures never_falls { W.faults watch.old ≤ W.faults watch.new }
     {
         let count = count as usize;
@@ -88,8 +97,13 @@ impl Link {
         b: &mut Port,
     ) -> Result<Carried, NoMemory>
         requires { has_chars from count (link self.old a.old b.old) ≡ true }
-        ensures told { IfOk result (λ carried. AreCarried (delivery_from from count (link self.old a.old b.old)) (take count (from_end from (link self.old a.old b.old)).wire_a.chars) carried.got.items carried.moves.items carried.answers.items carried.undetected) }
-        ensures link { IfOk result (λ carried. carried.undetected ≡ None → link self.new a.new b.new ≡ at_end (other_side from) (first_takes count) (link self.old a.old b.old)) }
+        ensures told { IfOk result (λ carried. AreCarried
+            (delivery_from from count (link self.old a.old b.old))
+            (take count (from_end from (link self.old a.old b.old)).wire_a.chars) carried.got.items
+            carried.moves.items carried.answers.items carried.undetected) }
+        ensures link { IfOk result (λ carried. carried.undetected ≡ None
+            → link self.new a.new b.new ≡ at_end (other_side from) (first_takes count)
+            (link self.old a.old b.old)) }
     {
         match from {
             Side::A => carry(alloc, count, &mut self.a, &mut self.b, b),
@@ -121,9 +135,14 @@ fn carry(
     port: &mut Port,
 ) -> Result<Carried, NoMemory>
     requires { count ≤ length wire.old.chars }
-    ensures told { IfOk result (λ carried. AreCarried (delivered port.old wire.old.kept (take count wire.old.chars)) (take count wire.old.chars) carried.got.items carried.moves.items carried.answers.items carried.undetected) }
-    ensures left { OnOk result (IsLeft (delivered port.old wire.old.kept (take count wire.old.chars)) count wire.old port.new wire.new) }
-    ensures back { OnOk result (back.new ≡ with_sent back.old (answers (told_of (delivered port.old wire.old.kept (take count wire.old.chars))).replies)) }
+    ensures told { IfOk result (λ carried. AreCarried
+        (delivered port.old wire.old.kept (take count wire.old.chars)) (take count wire.old.chars)
+        carried.got.items carried.moves.items carried.answers.items carried.undetected) }
+    ensures left { OnOk result (IsLeft (delivered port.old wire.old.kept
+        (take count wire.old.chars)) count wire.old port.new wire.new) }
+    ensures back { OnOk result (back.new ≡ with_sent back.old
+        (answers (told_of (delivered port.old wire.old.kept
+        (take count wire.old.chars))).replies)) }
 {
     let delivery = wire.deliver(alloc, count, port)?;
     let answers = back.reply(alloc, delivery.replies.as_slice())?;
@@ -136,7 +155,8 @@ fn carry(
 }
 
 impl Carried {
-    /// Notes what the port at this end got, did with packets, and answered. Returns the event that was not sent, too.
+    /// Notes what the port at this end got, did with packets, and answered. Returns the event that
+    /// was not sent, too.
     fn note<W: Watch>(
         self,
         watch: &mut W,
@@ -144,9 +164,14 @@ impl Carried {
         to: Side,
     ) -> (Result<(), NoteEnd>, Option<Event>)
         ensures undetected { result.1 ≡ self.undetected }
-        ensures noted { OnOk result.0 (W.grew watch.old (Got to self.got.items ∷ (map (move_note to) self.moves.items ++ sent_notes to self.answers.items)) watch.new) }
-        ensures stopped { OnErr result.0 (Stopped W.grew W.cut watch.old (Got to self.got.items ∷ (map (move_note to) self.moves.items ++ sent_notes to self.answers.items)) watch.new) }
-        ensures cause { IsErrOf result.0 NoteEnd.Failed → Rose (W.faults watch.old) (W.faults watch.new) }
+        ensures noted { OnOk result.0 (W.grew watch.old
+            (Got to self.got.items ∷ (map (move_note to) self.moves.items
+            ++ sent_notes to self.answers.items)) watch.new) }
+        ensures stopped { OnErr result.0 (Stopped W.grew W.cut watch.old
+            (Got to self.got.items ∷ (map (move_note to) self.moves.items
+            ++ sent_notes to self.answers.items)) watch.new) }
+        ensures cause { IsErrOf result.0 NoteEnd.Failed
+            → Rose (W.faults watch.old) (W.faults watch.new) }
         ensures never_falls { W.faults watch.old ≤ W.faults watch.new }
     {
         let Carried {
@@ -170,7 +195,8 @@ fn notes(
     moves: Vec<Move>,
     answers: Vec<Char>,
 ) -> Result<Vec<Note>, NoMemory>
-    ensures { IfOk result (λ notes. notes.items ≡ Got to got.items ∷ (map (move_note to) moves.items ++ sent_notes to answers.items)) }
+    ensures { IfOk result (λ notes. notes.items ≡ Got to got.items
+        ∷ (map (move_note to) moves.items ++ sent_notes to answers.items)) }
 {
     let mut notes = Vec::new(alloc);
     put(&mut notes, Note::Got(to, Chars::new(got)))?;

@@ -17,7 +17,8 @@ use rio_chars::{Char, Chars, NoMemory};
 use std::alloc::Global;
 use std::marker::Model;
 
-/// Two wires between two ports, which the caller owns. Each wire is named by the port that sends on it.
+/// Two wires between two ports, which the caller owns. Each wire is named by the port that sends on
+/// it.
 #[derive(Drop)]
 pub struct Link {
     pub(crate) a: Wire,
@@ -63,11 +64,16 @@ impl Link {
         b: &mut Port,
         watch: &mut W,
     ) -> Result<(), NoteEnd>
-        ensures link { OnOk result (link self.new a.new b.new ≡ pumped from turns (link self.old a.old b.old)) }
-        ensures sound { OnOk result (IsSoundLink (link self.old a.old b.old) → IsSoundLink (link self.new a.new b.new)) }
-        ensures noted { OnOk result (W.grew watch.old (pump_notes from turns (link self.old a.old b.old)) watch.new) }
-        ensures stopped { OnErr result (Stopped W.grew W.cut watch.old (pump_notes from turns (link self.old a.old b.old)) watch.new) }
-        ensures cause { IsErrOf result NoteEnd.Failed → Rose (W.faults watch.old) (W.faults watch.new) }
+        ensures link { OnOk result (link self.new a.new b.new
+            ≡ pumped from turns (link self.old a.old b.old)) }
+        ensures sound { OnOk result (IsSoundLink (link self.old a.old b.old)
+            → IsSoundLink (link self.new a.new b.new)) }
+        ensures noted { OnOk result (W.grew watch.old
+            (pump_notes from turns (link self.old a.old b.old)) watch.new) }
+        ensures stopped { OnErr result (Stopped W.grew W.cut watch.old
+            (pump_notes from turns (link self.old a.old b.old)) watch.new) }
+        ensures cause { IsErrOf result NoteEnd.Failed
+            → Rose (W.faults watch.old) (W.faults watch.new) }
         ensures never_falls { W.faults watch.old ≤ W.faults watch.new }
     {
         let Ok(chars) = self.turn(alloc, from, turns, a, b) else {
@@ -85,8 +91,10 @@ impl Link {
         a: &mut Port,
         b: &mut Port,
     ) -> Result<Vec<Char>, NoMemory>
-        ensures link { OnOk result (link self.new a.new b.new ≡ pumped from turns (link self.old a.old b.old)) }
-        ensures sent { IfOk result (λ chars. chars.items ≡ (bursts turns (from_end from (link self.old a.old b.old)).a).chars) }
+        ensures link { OnOk result (link self.new a.new b.new
+            ≡ pumped from turns (link self.old a.old b.old)) }
+        ensures sent { IfOk result (λ chars. chars.items
+            ≡ (bursts turns (from_end from (link self.old a.old b.old)).a).chars) }
     {
         match from {
             Side::A => self.a.pump(alloc, turns, a),
@@ -94,12 +102,14 @@ impl Link {
         }
     }
 
-    /// Changes the characters of a wire, and leaves what was sent as it is. Short exactly where the place of an alteration
-    /// is not below the length, an erasure goes past the end, or the place of an insertion lies past the end. Then, and
-    /// where memory is not given, nothing changes.
+    /// Changes the characters of a wire, and leaves what was sent as it is. Short exactly where the
+    /// place of an alteration is not below the length, an erasure goes past the end, or the place
+    /// of an insertion lies past the end. Then, and where memory is not given, nothing changes.
     pub fn edit(&mut self, _alloc: Global, from: Side, edit: &Edit) -> Result<Edited, NoMemory>
-        ensures short { IfOk result (λ answer. answer ≡ answered (fits edit.now (wire_at from self.old).chars)) }
-        ensures changed { OnOk result ((a b : PortState) → link self.new a b ≡ edited_from from edit.now (link self.old a b)) }
+        ensures short { IfOk result (λ answer. answer
+            ≡ answered (fits edit.now (wire_at from self.old).chars)) }
+        ensures changed { OnOk result ((a b : PortState)
+            → link self.new a b ≡ edited_from from edit.now (link self.old a b)) }
         ensures unchanged { OnErr result (self.new ≡ self.old) }
     {
         match from {
@@ -108,8 +118,8 @@ impl Link {
         }
     }
 
-    /// Fires the time-out of a port, and forgets what was sent both ways. Early exactly where a wire is not empty; then
-    /// nothing changes.
+    /// Fires the time-out of a port, and forgets what was sent both ways. Early exactly where a
+    /// wire is not empty; then nothing changes.
     pub fn time_out<W: Watch>(
         &mut self,
         alloc: Global,
@@ -118,12 +128,18 @@ impl Link {
         b: &mut Port,
         watch: &mut W,
     ) -> Result<Fired, NoteEnd>
-        ensures early { IfOk result (λ answer. answer ≡ fired (is_silent (link self.old a.old b.old))) }
-        ensures link { OnOk result (link self.new a.new b.new ≡ timed_out_at side (link self.old a.old b.old)) }
-        ensures sound { OnOk result (IsSoundLink (link self.old a.old b.old) → IsSoundLink (link self.new a.new b.new)) }
-        ensures noted { OnOk result (W.grew watch.old (time_out_notes side (link self.old a.old b.old)) watch.new) }
-        ensures stopped { OnErr result (Stopped W.grew W.cut watch.old (time_out_notes side (link self.old a.old b.old)) watch.new) }
-        ensures cause { IsErrOf result NoteEnd.Failed → Rose (W.faults watch.old) (W.faults watch.new) }
+        ensures early { IfOk result (λ answer. answer
+            ≡ fired (is_silent (link self.old a.old b.old))) }
+        ensures link { OnOk result (link self.new a.new b.new
+            ≡ timed_out_at side (link self.old a.old b.old)) }
+        ensures sound { OnOk result (IsSoundLink (link self.old a.old b.old)
+            → IsSoundLink (link self.new a.new b.new)) }
+        ensures noted { OnOk result (W.grew watch.old
+            (time_out_notes side (link self.old a.old b.old)) watch.new) }
+        ensures stopped { OnErr result (Stopped W.grew W.cut watch.old
+            (time_out_notes side (link self.old a.old b.old)) watch.new) }
+        ensures cause { IsErrOf result NoteEnd.Failed
+            → Rose (W.faults watch.old) (W.faults watch.new) }
         ensures never_falls { W.faults watch.old ≤ W.faults watch.new }
     {
         if !self.fire(side, a, b) {
@@ -161,7 +177,8 @@ pub(crate) fn note_sent<W: Watch>(
     chars: Vec<Char>,
 ) -> Result<(), NoteEnd>
     ensures noted { OnOk result (W.grew watch.old (sent_notes from chars.items) watch.new) }
-    ensures stopped { OnErr result (Stopped W.grew W.cut watch.old (sent_notes from chars.items) watch.new) }
+    ensures stopped { OnErr result (Stopped W.grew W.cut watch.old (sent_notes from chars.items)
+        watch.new) }
     ensures cause { IsErrOf result NoteEnd.Failed → Rose (W.faults watch.old) (W.faults watch.new) }
     ensures never_falls { W.faults watch.old ≤ W.faults watch.new }
 {

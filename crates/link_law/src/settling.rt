@@ -17,10 +17,11 @@ use link_watch::{Side, Watch};
 use std::alloc::Global;
 
 impl Link {
-    /// Brings a sound link to rest. Both wires are drained; each side recovers, with a restart-from-retry if one is owed,
-    /// and a time-out and a link-request if its direction is not at rest then; and what waits is sent, as far as it
-    /// has room. Each turn is noted as `pump` of one, each delivery as `deliver`. Undetected comes as for `deliver`.
-    /// A wire of more than `u32::MAX` characters ends it with `NoMemory`.
+    /// Brings a sound link to rest. Both wires are drained; each side recovers, with a
+    /// restart-from-retry if one is owed, and a time-out and a link-request if its direction is not
+    /// at rest then; and what waits is sent, as far as it has room. Each turn is noted as `pump` of
+    /// one, each delivery as `deliver`. Undetected comes as for `deliver`. A wire of more than
+    /// `u32::MAX` characters ends it with `NoMemory`.
     pub fn settle<W: Watch>(
         &mut self,
         alloc: Global,
@@ -35,7 +36,8 @@ impl Link {
             × IsSettled (link self.new a.new b.new)) }
         ensures ended { IfErr result (λ end. Ends W.grew W.cut Settles (link self.old a.old b.old)
             watch.old end watch.new) }
-        ensures cause { IsErrOf result LinkEnd.Failed → Rose (W.faults watch.old) (W.faults watch.new) }
+        ensures cause { IsErrOf result LinkEnd.Failed
+            → Rose (W.faults watch.old) (W.faults watch.new) }
         ensures never_falls { W.faults watch.old ≤ W.faults watch.new }
     {
         if let Err(end) = self.drain(alloc, a, b, watch) {
@@ -88,7 +90,6 @@ impl Link {
         b: &mut Port,
         watch: &mut W,
     ) -> Result<(), LinkEnd>
-        requires { IsSoundLink (link self.old a.old b.old) }
         ensures does { Did W.grew W.cut (TimesOut side) (link self.old a.old b.old) watch.old
             result (link self.new a.new b.new) watch.new }
         ensures counts { Counted result (W.faults watch.old) (W.faults watch.new) }
@@ -154,8 +155,8 @@ impl Link {
         Ok(())
     }
 
-    /// Sends what waits at a side, packet by packet, of a link at rest. If one has no room, the port restarts and sends no
-    /// more.
+    /// Sends what waits at a side, packet by packet, of a link at rest. If one has no room, the
+    /// port restarts and sends no more.
     fn send_all<W: Watch>(
         &mut self,
         alloc: Global,

@@ -1,6 +1,7 @@
-//! Two ports and a link, with the notes as lines: the side, and characters or a packet in hexadecimal. The expected lines
-//! are worked by hand from the layouts of control symbols and packets and from the step tables (RapidIO Interconnect
-//! Specification 1.3, Part 6; `docs/link.md`).
+//! Two ports and a link, with the notes as lines: the side, and characters or a packet in
+//! hexadecimal. The expected lines are worked by hand from the layouts of control symbols and
+//! packets and from the step tables (RapidIO Interconnect Specification 1.3, Part 6;
+//! `docs/link.md`).
 ghost use Rattle.std.specs.Prelude.{◌≤◌, ◌<◌, OnOk};
 ghost use Rattle.link_machine.specs.Sound.{IsSoundLink};
 ghost use Rattle.link_machine.specs.States.{link};
@@ -155,6 +156,7 @@ pub(crate) fn text(alloc: Global, notes: &[Note]) -> Result<Vec<u8>, Fail> {
     Ok(text)
 }
 
+/// One note as a line.
 fn put_note(text: &mut Vec<u8>, note: &Note) -> Result<(), Fail> {
     match note {
         Note::Sent(side, chars) => {
@@ -179,6 +181,7 @@ fn put_note(text: &mut Vec<u8>, note: &Note) -> Result<(), Fail> {
     Ok(())
 }
 
+/// What happened, and at which end.
 fn put_word(text: &mut Vec<u8>, word: &[u8], side: Side) -> Result<(), Fail> {
     text.extend_from_slice(word)?;
     text.push(b' ')?;
@@ -189,6 +192,7 @@ fn put_word(text: &mut Vec<u8>, word: &[u8], side: Side) -> Result<(), Fail> {
     Ok(())
 }
 
+/// Characters, each behind a space.
 fn put_chars(text: &mut Vec<u8>, chars: &[Char]) -> Result<(), Fail> {
     for c in chars {
         text.push(b' ')?;
@@ -197,6 +201,7 @@ fn put_chars(text: &mut Vec<u8>, chars: &[Char]) -> Result<(), Fail> {
     Ok(())
 }
 
+/// A packet in hexadecimal.
 fn put_packet(text: &mut Vec<u8>, packet: &Packet) -> Result<(), Fail> {
     text.push(b' ')?;
     for byte in packet.bytes() {

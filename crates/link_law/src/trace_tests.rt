@@ -27,7 +27,8 @@ fn packet_goes_across_and_is_freed(rt: HostRuntime) -> Result<(), Fail> {
     pair.expect(&rt, alloc, ACROSS)
 }
 
-/// Sent again after an error: the receiver tells the cause, is asked for the ackID that it expects, and gets the packet.
+/// Sent again after an error: the receiver tells the cause, is asked for the ackID that it expects,
+/// and gets the packet.
 const RECOVERED: &str = "got A k1c d40 d27 d12
 sent A k1c d80 dfc d87
 got B k1c d80 dfc d87

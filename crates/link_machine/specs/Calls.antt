@@ -36,8 +36,8 @@ pump_notes from n s = sent_notes from (bursts n (from_end from s).a).chars
 abbrev pub delivery : ℕ → LinkState → Delivered
 delivery count s = delivered s.a s.wire_b.kept (take count s.wire_b.chars)
 
--- The first port took characters, and its answers go on its own wire. Nothing is said of the link after an event that was
--- not sent.
+-- The first port took characters, and its answers go on its own wire. Nothing is said of the link
+-- after an event that was not sent.
 abbrev pub after_delivery : ℕ → Delivered → LinkState → LinkState
 after_delivery count (Through flow) s = record {
   a = flow.port;
@@ -59,21 +59,26 @@ abbrev pub delivery_from : Side → ℕ → LinkState → Delivered
 delivery_from from count s = delivery count (from_end (other_side from) s)
 
 abbrev pub delivered_from : Side → ℕ → LinkState → LinkState
-delivered_from from count s = if has_chars from count s then at_end (other_side from) (first_takes count) s else s
+delivered_from from count s =
+    if has_chars from count s then at_end (other_side from) (first_takes count) s else s
 
 abbrev pub move_note : Side → Move → Note
 move_note side (Held packet) = Hold side packet
 move_note side (Freed packet) = Free side packet
 
--- The characters that the port at this end got, up to an event that was not sent; then what it held and freed, in order;
--- then its answers, joined.
+-- The characters that the port at this end got, up to an event that was not sent; then what it held
+-- and freed, in order; then its answers, joined.
 abbrev pub told_notes : Side → List Char → Told → List Note
 told_notes to chars told =
-    Got to (take told.count chars) ∷ (map (move_note to) told.moves ++ sent_notes to (answers told.replies).chars)
+    Got to (take told.count chars)
+    ∷ (map (move_note to) told.moves ++ sent_notes to (answers told.replies).chars)
 
 abbrev pub delivery_notes : Side → ℕ → LinkState → List Note
 delivery_notes from count s =
-    if has_chars from count s then told_notes (other_side from) (take count (from_end from s).wire_a.chars) (told_of (delivery_from from count s)) else []
+    if has_chars from count s
+    then told_notes (other_side from) (take count (from_end from s).wire_a.chars)
+    (told_of (delivery_from from count s))
+    else []
 
 -- ---- edits
 
@@ -93,9 +98,11 @@ has_none (c ∷ chars) = false
 abbrev pub is_silent : LinkState → Bool
 is_silent s = has_none s.wire_a.chars && has_none s.wire_b.chars
 
--- the time-out of the first port fires, and what was sent before, both ways, is not spoken of any more
+-- the time-out of the first port fires, and what was sent before, both ways, is not spoken of any
+-- more
 abbrev pub first_fires : LinkState → LinkState
-first_fires s = record { a = timed_out s.a; b = s.b; wire_a = silenced s.wire_a; wire_b = silenced s.wire_b }
+first_fires s =
+    record { a = timed_out s.a; b = s.b; wire_a = silenced s.wire_a; wire_b = silenced s.wire_b }
 
 abbrev pub timed_out_at : Side → LinkState → LinkState
 timed_out_at side s = if is_silent s then at_end side first_fires s else s

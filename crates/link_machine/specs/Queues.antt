@@ -12,8 +12,8 @@ use Rattle.link_wires.specs.declared.moves.Move.{Move}
 use Rattle.link_wires.specs.declared.moves.Move.TheVariants.{Held, Freed}
 use Rattle.link_machine.specs.States.{LinkState}
 
--- of each port: the packets that the far port holds and this one has not freed, those that wait, by priority, and those
--- that it received
+-- of each port: the packets that the far port holds and this one has not freed, those that wait, by
+-- priority, and those that it received
 pub record Queues : Type 0 where
   pub lent_a : List (List ℕ)
   pub waiting_a : List (List (List ℕ))
@@ -47,10 +47,12 @@ queues_round q = record {
   received_b = q.received_a;
 }
 
--- What a step of the first port needs: a packet that it holds is the first of its priority that waits at the far port, and
--- has room; one that it frees is the first that the far port holds of it.
+-- What a step of the first port needs: a packet that it holds is the first of its priority that
+-- waits at the far port, and has room; one that it frees is the first that the far port holds of
+-- it.
 abbrev pub NeedsFirst : Move → Queues → Type 0
-NeedsFirst (Held packet) q = (slice_get (list_at q.waiting_b (prio_of packet)) 0 ≡ Some packet) × (room_for q.received_a (prio_of packet) ≡ true)
+NeedsFirst (Held packet) q = (slice_get (list_at q.waiting_b (prio_of packet)) 0 ≡ Some packet)
+    × (room_for q.received_a (prio_of packet) ≡ true)
 NeedsFirst (Freed packet) q = slice_get q.lent_a 0 ≡ Some packet
 
 -- what it does; nothing else moves
@@ -82,7 +84,8 @@ steps_at side moves = map (λ move. record { side = side; move = move }) moves
 -- steps, one after another, lead from the first queues to the last
 pub data Walks : Queues → List Step → Queues → Type 0 where
   Ends : {q : Queues} → Walks q [] q
-  Goes : {q end : Queues} {steps : List Step} (side : Side) (move : Move) → NeedsAt side move q → Walks (moved_at side move q) steps end
+  Goes : {q end : Queues} {steps : List Step} (side : Side) (move : Move) → NeedsAt side move q
+      → Walks (moved_at side move q) steps end
       → Walks q (record { side = side; move = move } ∷ steps) end
 
 -- the steps that notes name, in order

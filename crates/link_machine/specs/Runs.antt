@@ -9,13 +9,20 @@ use Rattle.link_machine.specs.States.{LinkState, from_end}
 use Rattle.link_machine.specs.Calls.{pumped, pump_notes, delivery_from, delivered_from, delivery_notes, edited_from, timed_out_at, time_out_notes}
 use Rattle.link_machine.specs.Layer.{IsServed, with_port}
 
--- From a link on, with the notes of the calls in order. Nothing follows a delivery with an event that was not sent.
+-- From a link on, with the notes of the calls in order. Nothing follows a delivery with an event
+-- that was not sent.
 pub data IsRun : LinkState → List Note → LinkState → Type 0 where
   Rests : {s : LinkState} → IsRun s [] s
-  Pumps : {s end : LinkState} {notes : List Note} (from : Side) (turns : ℕ) → IsRun (pumped from turns s) notes end → IsRun s (pump_notes from turns s ++ notes) end
-  Delivers : {s end : LinkState} {notes : List Note} (from : Side) (count : ℕ) → undetected (delivery_from from count s) ≡ None
-      → IsRun (delivered_from from count s) notes end → IsRun s (delivery_notes from count s ++ notes) end
-  Edits : {s end : LinkState} {notes : List Note} (from : Side) (edit : Edit) → IsRun (edited_from from edit s) notes end → IsRun s notes end
-  TimesOut : {s end : LinkState} {notes : List Note} (side : Side) → IsRun (timed_out_at side s) notes end → IsRun s (time_out_notes side s ++ notes) end
-  Serves : {s end : LinkState} {notes : List Note} (side : Side) (next : PortState) → IsPort next → IsServed (from_end side s).a next
+  Pumps : {s end : LinkState} {notes : List Note} (from : Side) (turns : ℕ)
+      → IsRun (pumped from turns s) notes end → IsRun s (pump_notes from turns s ++ notes) end
+  Delivers : {s end : LinkState} {notes : List Note} (from : Side) (count : ℕ)
+      → undetected (delivery_from from count s) ≡ None
+      → IsRun (delivered_from from count s) notes end
+      → IsRun s (delivery_notes from count s ++ notes) end
+  Edits : {s end : LinkState} {notes : List Note} (from : Side) (edit : Edit)
+      → IsRun (edited_from from edit s) notes end → IsRun s notes end
+  TimesOut : {s end : LinkState} {notes : List Note} (side : Side)
+      → IsRun (timed_out_at side s) notes end → IsRun s (time_out_notes side s ++ notes) end
+  Serves : {s end : LinkState} {notes : List Note} (side : Side) (next : PortState) → IsPort next
+      → IsServed (from_end side s).a next
       → IsRun (with_port side next s) notes end → IsRun s notes end

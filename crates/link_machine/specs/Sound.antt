@@ -3,8 +3,8 @@ use Rattle.link_port.specs.Ports.{IsPort}
 use Rattle.link_sound.specs.Sound.{IsSound}
 use Rattle.link_machine.specs.States.{LinkState}
 
--- Both ports are as every port is, and they and what each has sent and the other has not acted on are sound. Nothing is
--- said of the characters on the wires.
+-- Both ports are as every port is, and they and what each has sent and the other has not acted on
+-- are sound. Nothing is said of the characters on the wires.
 pub record IsSoundLink (s : LinkState) : Type 0 where
   pub port_a : IsPort s.a
   pub port_b : IsPort s.b

@@ -17,31 +17,38 @@ ghost use Rattle.link_machine.specs.States.{LinkState, link, empty_wires, from_e
 
 /// A new link with two new ports is sound.
 pub fn links_begin_sound()
-    ensures { (m n : ℕ) → AreBuffers m → AreBuffers n → IsSoundLink (link empty_wires (new_port m) (new_port n)) }
+    ensures { (m n : ℕ) → AreBuffers m → AreBuffers n
+        → IsSoundLink (link empty_wires (new_port m) (new_port n)) }
 {}
 
 /// Each call keeps a link sound, whatever is lost, altered, inserted or late.
 pub fn calls_keep_it()
-    ensures pump { (from : Side) (turns : ℕ) (s : LinkState) → IsSoundLink s → IsSoundLink (pumped from turns s) }
-    ensures deliver { (from : Side) (count : ℕ) (s : LinkState) → IsSoundLink s → IsSoundLink (delivered_from from count s) }
-    ensures edit { (from : Side) (edit : Edit) (s : LinkState) → IsSoundLink s → IsSoundLink (edited_from from edit s) }
-    ensures time_out { (side : Side) (s : LinkState) → IsSoundLink s → IsSoundLink (timed_out_at side s) }
+    ensures pump { (from : Side) (turns : ℕ) (s : LinkState) → IsSoundLink s
+        → IsSoundLink (pumped from turns s) }
+    ensures deliver { (from : Side) (count : ℕ) (s : LinkState) → IsSoundLink s
+        → IsSoundLink (delivered_from from count s) }
+    ensures edit { (from : Side) (edit : Edit) (s : LinkState) → IsSoundLink s
+        → IsSoundLink (edited_from from edit s) }
+    ensures time_out { (side : Side) (s : LinkState) → IsSoundLink s
+        → IsSoundLink (timed_out_at side s) }
 {}
 
-/// So does the layer above, which takes received packets from the fronts of a port's lists and puts packets at the ends of
-/// those to be sent.
+/// So does the layer above, which takes received packets from the fronts of a port's lists and puts
+/// packets at the ends of those to be sent.
 pub fn the_layer_above_keeps_it()
-    ensures { (side : Side) (next : PortState) (s : LinkState) → IsPort next → IsServed (from_end side s).a next
+    ensures { (side : Side) (next : PortState) (s : LinkState) → IsPort next
+        → IsServed (from_end side s).a next
         → IsSoundLink s → IsSoundLink (with_port side next s) }
 {}
 
 /// So does every run of calls and of the layer above, up to the first event that was not sent.
 pub fn runs_keep_it()
-    ensures { (s end : LinkState) (notes : List Note) → IsRun s notes end → IsSoundLink s → IsSoundLink end }
+    ensures { (s end : LinkState) (notes : List Note) → IsRun s notes end → IsSoundLink s
+        → IsSoundLink end }
 {}
 
-/// What `out_put` and `in_pop` of a port do is of the layer above: a packet at the end of a list to be sent, or one
-/// less at the front of a received list.
+/// What `out_put` and `in_pop` of a port do is of the layer above: a packet at the end of a list to
+/// be sent, or one less at the front of a received list.
 pub fn puts_and_takes_serve()
     ensures put { (port next : PortState) (prio : ℕ) (packet : List ℕ) → IsPort port → prio < 4
         → AreAlike port next → next.queued ≡ appended port.queued prio packet
@@ -51,24 +58,31 @@ pub fn puts_and_takes_serve()
         → IsServed port next }
 {}
 
-/// Every packet that a delivery notes as held is the first of its priority that waits at the far port, and has room; every
-/// packet noted as freed is the first that the far port holds; in the order of the notes, and nothing else moves. The
-/// same is true of what was noted before an event that was not sent.
+/// Every packet that a delivery notes as held is the first of its priority that waits at the far
+/// port, and has room; every packet noted as freed is the first that the far port holds; in the
+/// order of the notes, and nothing else moves. The same is true of what was noted before an event
+/// that was not sent.
 pub fn deliveries_hold_and_free_in_order()
-    ensures all { (from : Side) (count : ℕ) (s : LinkState) → undetected (delivery_from from count s) ≡ None → IsSoundLink s
-        → Walks (queues_of s) (steps_of (delivery_notes from count s)) (queues_of (delivered_from from count s)) }
+    ensures all { (from : Side) (count : ℕ) (s : LinkState)
+        → undetected (delivery_from from count s) ≡ None → IsSoundLink s
+        → Walks (queues_of s) (steps_of (delivery_notes from count s))
+        (queues_of (delivered_from from count s)) }
     ensures some { (from : Side) (count : ℕ) (s : LinkState) → IsSoundLink s
         → (end : Queues) × Walks (queues_of s) (steps_of (delivery_notes from count s)) end }
 {}
 
 /// Turns, edits and time-outs move no packet: what is to be sent again has waited all the time.
 pub fn nothing_else_moves()
-    ensures pump { (from : Side) (turns : ℕ) (s : LinkState) → IsSoundLink s → queues_of (pumped from turns s) ≡ queues_of s }
-    ensures edit { (from : Side) (edit : Edit) (s : LinkState) → queues_of (edited_from from edit s) ≡ queues_of s }
-    ensures time_out { (side : Side) (s : LinkState) → queues_of (timed_out_at side s) ≡ queues_of s }
+    ensures pump { (from : Side) (turns : ℕ) (s : LinkState) → IsSoundLink s
+        → queues_of (pumped from turns s) ≡ queues_of s }
+    ensures edit { (from : Side) (edit : Edit) (s : LinkState)
+        → queues_of (edited_from from edit s) ≡ queues_of s }
+    ensures time_out { (side : Side) (s : LinkState)
+        → queues_of (timed_out_at side s) ≡ queues_of s }
 {}
 
 /// No sender of a sound link has failed.
 pub fn no_sender_fails()
-    ensures { (s : LinkState) → IsSoundLink s → (s.a.output ≢ out.Output.Failed) × (s.b.output ≢ out.Output.Failed) }
+    ensures { (s : LinkState) → IsSoundLink s → (s.a.output ≢ out.Output.Failed)
+        × (s.b.output ≢ out.Output.Failed) }
 {}

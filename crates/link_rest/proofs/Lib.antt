@@ -5,7 +5,9 @@ pub mod Signals
 pub mod Packets
 pub mod Lines
 pub mod Drains
+pub mod TurnLaws
 pub mod Recovery
+pub mod Waiting
 pub mod Sending
 pub mod Settled
 pub mod Counts

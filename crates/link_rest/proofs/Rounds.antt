@@ -12,7 +12,7 @@ use Rattle.link_rest.specs.Acts.{Act, At, goes, OnState}
 use Rattle.link_rest.specs.Settling.{is_retry_stopped, waits, of_end, TakesTurn}
 use Rattle.link_rest.specs.Rest.{IsBlocked, IsQuiet, HasPassed, IsRound}
 use Rattle.link_rest.proofs.Drains.{on_state}
-use Rattle.link_rest.proofs.Recovery.{end_sound}
+use Rattle.link_rest.proofs.TurnLaws.{end_sound}
 use Rattle.link_rest.proofs.Sending.{Round, Quiet, AfterRound, round_goes}
 
 pub quiet_at : (near : Side) (s : LinkState) → IsSoundLink s → IsQuiet s → Quiet near s

@@ -1,24 +1,21 @@
 -- What waits is sent: each round is a packet that is held and freed, or the last.
-use Rattle.std.proofs.Common.{◌≡◌, inl, inr, ℕ, ◌+◌, ◌%◌, ◌<◌, ◌∷◌, [], Bool, true, false, MatchBool, List, slice_get, All, Option, Some, None, refl, sym, ap, ◌∙◌, subst, arith}
-use Rattle.std.proofs.lemmas.Option.{slice_get_cases}
+use Rattle.std.proofs.Common.{◌≡◌, inl, inr, ℕ, ◌+◌, ◌%◌, ◌<◌, ◌∷◌, [], Bool, true, false, MatchBool, List, slice_get, Option, Some, None, refl, sym, ap, ◌∙◌, subst, arith}
 use Rattle.rio_chars.specs.declared.chars.Char.{Char}
 use Rattle.rio_symbols.specs.Fields.{Fields}
 use Rattle.rio_packets.specs.Fields.{prio_of}
 use Rattle.rio_packets.specs.LinkForm.{Passes}
 use Rattle.link_buffers.specs.Queues.{Buffered, list_at, room_for}
-use Rattle.link_buffers.specs.Priorities.{lists_without, highest}
-use Rattle.link_buffers.proofs.PriorityLaws.{highest_below-some}
+use Rattle.link_buffers.specs.Priorities.{highest}
 use Rattle.link_model.specs.declared.reading_kinds.Pending.TheVariants.{Nothing}
 use Rattle.link_model.specs.Input.{Input, Arrival}
 use Rattle.link_model.specs.Output.{Output}
-use Rattle.link_model.specs.Outstanding.{from_ack}
 use Rattle.link_model.specs.Places.{Place, place, start, opened, at_rest}
 use Rattle.link_model.specs.Reading.{Text, Plain, Skipped, Within}
 use Rattle.link_model.specs.ReadingSpelt.{symbol_chars_of, packet_chars_of}
 use Rattle.link_model.specs.Symbols.{start_of_packet, end_of_packet, restart_from_retry}
 use Rattle.link_port.specs.Ports.{PortState}
-use Rattle.link_port.specs.States.{prios_of, expected_of}
-use Rattle.link_port.specs.Turns.{turn_sends, turns_to, waiting_in}
+use Rattle.link_port.specs.States.{expected_of}
+use Rattle.link_port.specs.Turns.{turn_sends, turns_to}
 use Rattle.link_watch.specs.declared.side.Side.{Side}
 use Rattle.link_machine.specs.States.{LinkState, from_end}
 use Rattle.link_machine.specs.Sound.{IsSoundLink}
@@ -31,37 +28,9 @@ use Rattle.link_rest.specs.Rest.{IsAtRest, IsDone}
 use Rattle.link_rest.proofs.Signals.{input_signalled, replies_signalled, fed_none, answered_none, signal_fed, signal_answered, unbroken_leaves}
 use Rattle.link_rest.proofs.Packets.{answer_by, held_by, replied_by, one_out, packet_fed, answer_fed, turn_starts, turn_sends_packet}
 use Rattle.link_rest.proofs.Drains.{goes_none, goes_found, goes-append, on_state, AreEmpty, answers_are, Exchanged}
-use Rattle.link_rest.proofs.Recovery.{rest_place, end_sound, third_answers, turn_goes, restart_chars, restart_state, restart_is, signal_silent, unended, rests_test}
-
--- ---- a packet that waits
-
--- the first packet of the highest priority that has one
-pub record First (queued : List (List (List ℕ))) : Type 0 where
-  pub prio : ℕ
-  pub packet : List ℕ
-  pub highest_is : highest queued ≡ Some prio
-  pub first : slice_get (list_at queued prio) 0 ≡ Some packet
-  pub few : prio < 4
-
-first_packet : (queued : List (List (List ℕ))) (prio : ℕ) → highest queued ≡ Some prio → First queued
-first_packet queued prio is =
-    let found = highest_below-some 4 prio queued is in
-    elim (slice_get_cases (list_at queued prio) 0).1 [
-      | inl there ↦ record { prio = prio; packet = there.0; highest_is = is; first = there.2; few = found.0 }
-      | inr none ↦ absurd (omega (arith, none.0, found.1))
-    ]
-
-first_waiting : (queued : List (List (List ℕ))) (o : Option ℕ) → highest queued ≡ o → is_some o ≡ true → First queued
-first_waiting queued None is some = absurd cc
-first_waiting queued (Some prio) is some = first_packet queued prio is
-
--- what a port with nothing outstanding has waiting is all that it has to send
-waiting_all : (p : PortState) (ack : ℕ) → p.output ≡ Output.Ok (from_ack ack) → waiting_in p ≡ p.queued
-waiting_all p ack is = ap (λ (o : Output). lists_without (prios_of o) p.queued) is
-
-All-first : (packets : List (List ℕ)) (packet : List ℕ) → All (λ p. Passes p) packets → slice_get packets 0 ≡ Some packet → Passes packet
-All-first [] packet all is = absurd cc
-All-first (x ∷ xs) packet all is = let same : x ≡ packet = cc in subst (λ (p : List ℕ). Passes p) same (all 0 [] (omega arith))
+use Rattle.link_rest.proofs.Recovery.{rest_place, restart_chars, restart_state, restart_is, signal_silent, unended, rests_test}
+use Rattle.link_rest.proofs.TurnLaws.{end_sound, third_answers, turn_goes}
+use Rattle.link_rest.proofs.Waiting.{First, first_waiting, waiting_all, All-first}
 
 -- ---- a round
 

@@ -30,7 +30,8 @@ abbrev pub after : Act → LinkState → Reached
 after (Pump from turns) link = At (pumped from turns link)
 after (Deliver from count) link =
     if has_chars from count link
-    then reached_by (other_side from) (delivered_from from count link) (delivery_from from count link)
+    then reached_by (other_side from) (delivered_from from count link)
+    (delivery_from from count link)
     else At link
 after (Fire side) link = At (timed_out_at side link)
 

@@ -1,4 +1,5 @@
--- What a port becomes of events, of characters and of symbols, by the tables alone, and what it answers.
+-- What a port becomes of events, of characters and of symbols, by the tables alone, and what it
+-- answers.
 use Rattle.std.specs.Prelude.{◌≡◌, List, [], ◌∷◌, map}
 use Rattle.std.specs.List.{flat_map}
 use Rattle.rio_chars.specs.declared.chars.Char.{Char}

@@ -12,8 +12,8 @@ use Rattle.link_sound.specs.Lent.{lent}
 use Rattle.link_machine.specs.States.{LinkState}
 use Rattle.link_rest.specs.Settling.{is_retry_stopped}
 
--- The sender is OK with nothing outstanding. The receiver is OK with nothing in progress, and expects
--- the next ackID.
+-- The sender is OK with nothing outstanding. The receiver is OK with nothing in progress, and
+-- expects the next ackID.
 pub record IsAtRest (sender receiver : PortState) : Type 0 where
   pub ack : ℕ
   pub sender_ok : sender.output ≡ out.Output.Ok (from_ack ack)
@@ -39,8 +39,8 @@ pub record IsQuiet (link : LinkState) : Type 0 where
   pub a_to_b : IsAtRest link.a link.b
   pub b_to_a : IsAtRest link.b link.a
 
--- Besides, no port holds what the other has not freed, and at each end nothing waits that has room at
--- the other.
+-- Besides, no port holds what the other has not freed, and at each end nothing waits that has room
+-- at the other.
 pub record IsSettled (link : LinkState) : Type 0 where
   pub quiet : IsQuiet link
   pub lent_a : lent link.a link.b ≡ []
@@ -48,8 +48,8 @@ pub record IsSettled (link : LinkState) : Type 0 where
   pub done_a : IsDone link.a link.b
   pub done_b : IsDone link.b link.a
 
--- A packet went from the first port to the second: the first one of the highest priority that has one,
--- which had room. The second port holds it, and the first has freed it.
+-- A packet went from the first port to the second: the first one of the highest priority that has
+-- one, which had room. The second port holds it, and the first has freed it.
 pub record HasPassed (before after : LinkState) : Type 0 where
   pub prio : ℕ
   pub packet : List ℕ
@@ -60,7 +60,8 @@ pub record HasPassed (before after : LinkState) : Type 0 where
   pub freed : after.a.queued ≡ popped before.a.queued prio
   pub less : packet_count after.a.queued + 1 ≡ packet_count before.a.queued
 
--- One turn with what comes of it: a packet passed, or none had room and the first port is to restart.
+-- One turn with what comes of it: a packet passed, or none had room and the first port is to
+-- restart.
 abbrev pub IsRound : LinkState → LinkState → Type 0
 IsRound before after =
     (HasPassed before after × (is_retry_stopped after.a.output ≡ false))

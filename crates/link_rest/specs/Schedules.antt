@@ -18,8 +18,8 @@ WhereOf test Part state all = MatchBool (test state) (Part state all) (all ≡ [
 abbrev pub Is : {S T : Type 0} → (S → List T) → S → List T → Type 0
 Is things state all = all ≡ things state
 
--- A part again and again, as long as a test holds. Where another test holds after it, a last part is
--- done instead of more.
+-- A part again and again, as long as a test holds. Where another test holds after it, a last part
+-- is done instead of more.
 pub data LoopOf {S T : Type 0} (go : S → List T → S) (test : S → Bool) (Part : S → List T → Type 0)
     (leaves : S → Bool) (Last : S → List T → Type 0) : S → List T → Type 0 where
   Rests : {s : S} {all : List T} → test s ≡ false → all ≡ [] → LoopOf go test Part leaves Last s all

@@ -1,6 +1,6 @@
--- How a link settles: a schedule of turns, deliveries and time-outs. The schedule is this project's own.
--- What each port does in it is of RapidIO Interconnect Specification 1.3, Part 6, packet retry and
--- error recovery.
+-- How a link settles: a schedule of turns, deliveries and time-outs. The schedule is this project's
+-- own. What each port does in it is of RapidIO Interconnect Specification 1.3, Part 6, packet retry
+-- and error recovery.
 use Rattle.std.specs.Prelude.{ℕ, ◌&&◌, ◌||◌, not, Bool, true, false, List, [], ◌∷◌, length, Option, Some, None}
 use Rattle.link_buffers.specs.Priorities.{highest}
 use Rattle.link_model.specs.Input as in_half
@@ -64,7 +64,8 @@ is_some (Some prio) = true
 abbrev pub waits : PortState → Bool
 waits port = is_some (highest (waiting_in port))
 
--- A direction is at rest: the sender is OK with nothing outstanding, the receiver is OK with nothing in progress.
+-- A direction is at rest: the sender is OK with nothing outstanding, the receiver is OK with
+-- nothing in progress.
 abbrev pub rests_to : PortState → PortState → Bool
 rests_to sender receiver =
     is_done sender.output && (is_ok receiver.input && at_rest receiver.place)
@@ -132,8 +133,8 @@ Recovers side =
 
 -- ---- what waits is sent
 
--- If the direction is at rest, packet by packet. One that has no room is asked for again; then the port
--- restarts and sends no more.
+-- If the direction is at rest, packet by packet. One that has no room is asked for again; then the
+-- port restarts and sends no more.
 abbrev pub SendsAll : Side → Part
 SendsAll side =
     WhereOf (of_end side first_rests)

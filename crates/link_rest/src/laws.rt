@@ -14,7 +14,8 @@ ghost use Rattle.link_rest.specs.Led.{answered, chars_of};
 ghost use Rattle.link_rest.specs.Rest.{IsQuiet, IsSettled, IsRound};
 ghost use Rattle.link_rest.specs.Settling.{waits, of_end, Drains, TakesTurn, Settles};
 
-/// What a port answers, whatever came to it, has no answer at a port that has no symbol in progress.
+/// What a port answers, whatever came to it, has no answer at a port that has no symbol in
+/// progress.
 pub fn answers_have_no_answer()
     ensures { (p q : PortState) (chars : List Char)
         → expected_of p.input < 32 → q.place.pending ≡ Pending.Nothing

@@ -2,17 +2,20 @@
 //!
 //! The crate has no running code. `specs` has the definitions:
 //!
-//! - `Schedules`: how a schedule is put together from parts: one after another, where a test holds, again and again;
-//! - `Acts`: what is done on a link, a list of pumps, deliveries and time-outs; how far a link comes by it, to a state or
-//!   to an event that was not sent; and its notes;
+//! - `Schedules`: how a schedule is put together from parts: one after another, where a test holds,
+//!   again and again;
+//! - `Acts`: what is done on a link, a list of pumps, deliveries and time-outs; how far a link
+//!   comes by it, to a state or to an event that was not sent; and its notes;
 //! - `Settling`: the schedule of settling; `Counts`: time-outs among what is done;
 //! - `Rest`: a link at rest, and a packet that passes;
-//! - `Led` and `Broken`: what a port becomes of characters by the tables alone, and what it answers.
+//! - `Led` and `Broken`: what a port becomes of characters by the tables alone, and what it
+//!   answers.
 //!
-//! The functions state, as contracts of empty bodies, that what a port answers has no answer, that a drain is at most five
-//! deliveries, that each side fires at most one time-out, that each round of the last step is a packet held and freed or
-//! the last, and that settling ends at rest from every sound state. Where an event that was not sent is acted on, the
-//! schedule ends with it, and nothing is said of the link.
+//! The functions state, as contracts of empty bodies, that what a port answers has no answer, that
+//! a drain is at most five deliveries, that each side fires at most one time-out, that each round
+//! of the last step is a packet held and freed or the last, and that settling ends at rest from
+//! every sound state. Where an event that was not sent is acted on, the schedule ends with it, and
+//! nothing is said of the link.
 //!
 //! Left out: the code that settles a link, and want of memory.
 #![tactic(auto)]

@@ -8,7 +8,8 @@ CutAtFirst cut mid [] new = new ≡ mid
 CutAtFirst cut mid (note ∷ notes) new = cut mid note new
 
 -- the watch grew by a front of the notes, and then stopped within the next one, if there is one
-pub record Stopped {W : Type 0} (grew : W → List Note → W → Type 0) (cut : W → Note → W → Type 0) (old : W) (notes : List Note) (new : W) : Type 0 where
+pub record Stopped {W : Type 0} (grew : W → List Note → W → Type 0) (cut : W → Note → W → Type 0)
+    (old : W) (notes : List Note) (new : W) : Type 0 where
   pub front : List Note
   pub rest : List Note
   pub whole : notes ≡ front ++ rest

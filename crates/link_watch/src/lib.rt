@@ -1,13 +1,15 @@
 //! What happens on a link, noted for whoever watches it.
 //!
-//! Promised: a watch that takes in a note grew by exactly that note, one that does not is cut within it, and `Failed`
-//! comes only where the watch's count of faults rose. Notes are taken in in order, and none behind one that was not.
+//! Promised: a watch that takes in a note grew by exactly that note, one that does not is cut
+//! within it, and `Failed` comes only where the watch's count of faults rose. Notes are taken in in
+//! order, and none behind one that was not.
 //!
 //! Left out: which notes a link makes, and when.
 //!
 //! - [`Side`]: the two ends of a link
 //! - [`Note`]: what was sent, got, held, freed or fired
-//! - [`Watch`], with [`NoteEnd`]: what takes in notes, and why it may stop; [`note_all`]: several notes, one after another
+//! - [`Watch`], with [`NoteEnd`]: what takes in notes, and why it may stop; [`note_all`]: several
+//!   notes, one after another
 //! - [`NoteList`]: a watch that keeps its notes in memory
 #![tactic(auto)]
 

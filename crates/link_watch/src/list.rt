@@ -1,3 +1,4 @@
+//! `NoteList`: a watch that keeps its notes.
 ghost use Rattle.std.specs.Prelude.{◌≡◌, ◌≤◌, ◌++◌, ℕ, [], ◌∷◌, OnOk, OnErr, IsErrOf};
 ghost use Rattle.rio_chars.specs.Faults.{Rose};
 

@@ -1,3 +1,4 @@
+//! `Note`: what happened at an end of a link.
 ghost use Rattle.std.specs.Prelude.{◌≡◌, IfOk};
 
 use crate::side::Side;

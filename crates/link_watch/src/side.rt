@@ -1,3 +1,4 @@
+//! `Side`: an end of a link.
 ghost use Rattle.std.specs.Prelude.{◌≡◌};
 ghost use Rattle.link_watch.specs.Sides.{other_side};
 

@@ -1,3 +1,4 @@
+//! Notes that are taken in, and watches that fail.
 use crate::{Note, NoteEnd, NoteList, Side, Watch, note_all};
 use rio_chars::{Char, Chars};
 use std::alloc::Global;

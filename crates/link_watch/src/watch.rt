@@ -1,3 +1,4 @@
+//! `Watch`: whoever is told what happens on a link.
 ghost use Rattle.std.specs.Prelude.{◌≡◌, ◌≤◌, ◌++◌, ℕ, List, [], ◌∷◌, OnOk, OnErr, IsErrOf};
 ghost use Rattle.rio_chars.specs.Faults.{Rose};
 ghost use Rattle.link_watch.specs.Stops.{Stopped};
@@ -38,8 +39,8 @@ pub trait Watch {
     /// The watch stopped within this note between an earlier state and a later one.
     ghost cut: { Self → Note → Self → Type 0 };
 
-    /// Takes in a note. `Failed` comes only where the count of faults rose; memory may be wanted at any note. At each of
-    /// them the watch is cut within the note.
+    /// Takes in a note. `Failed` comes only where the count of faults rose; memory may be wanted at
+    /// any note. At each of them the watch is cut within the note.
     fn note(&mut self, alloc: Global, note: &Note) -> Result<(), NoteEnd>
         ensures taken { OnOk result (grew self.old (note.now ∷ []) self.new) }
         ensures stopped { OnErr result (cut self.old note.now self.new) }

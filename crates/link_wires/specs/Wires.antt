@@ -27,7 +27,8 @@ with_sent wire burst = record { chars = wire.chars ++ burst.chars; kept = wire.k
 
 -- one burst and then another
 abbrev pub both_bursts : Burst → Burst → Burst
-both_bursts first next = record { chars = first.chars ++ next.chars; sent = first.sent ++ next.sent }
+both_bursts first next =
+    record { chars = first.chars ++ next.chars; sent = first.sent ++ next.sent }
 
 -- the port after so many turns
 unfoldable pub turned : ℕ → PortState → PortState
@@ -41,7 +42,8 @@ bursts (suc n) port = both_bursts (turn_sends port) (bursts n (turns_to port))
 
 -- symbols that answer, one after another
 abbrev pub answers : List Fields → Burst
-answers replies = record { chars = flat_map symbol_chars_of replies; sent = map (λ symbol. Ctl symbol) replies }
+answers replies =
+    record { chars = flat_map symbol_chars_of replies; sent = map (λ symbol. Ctl symbol) replies }
 
 -- characters were taken from the front, and this is kept
 abbrev pub without_front : ℕ → List Event → WireState → WireState
@@ -65,7 +67,8 @@ edited (Insert place ch) chars = take place chars ++ ch ∷ drop place chars
 
 -- the wire after it: where it does not fit, nothing changes
 abbrev pub after_edit : Edit → WireState → WireState
-after_edit edit wire = if fits edit wire.chars then record wire { chars = edited edit wire.chars } else wire
+after_edit edit wire =
+    if fits edit wire.chars then record wire { chars = edited edit wire.chars } else wire
 
 -- the answer, by whether it fits
 abbrev pub answered : Bool → Edited

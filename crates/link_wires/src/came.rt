@@ -11,8 +11,9 @@ use rio_chars::NoMemory;
 use rio_packets::Packet;
 use rio_symbols::Symbol;
 
-/// What came of events, as they happened: what the port did with packets, and the symbols that answer. `freed` has the
-/// packets that the last event freed: it is made once, since a list with room for so many packets is dear to make.
+/// What came of events, as they happened: what the port did with packets, and the symbols that
+/// answer. `freed` has the packets that the last event freed: it is made once, since a list with
+/// room for so many packets is dear to make.
 #[derive(Drop)]
 pub(crate) struct Came {
     pub(crate) moves: Vec<Move>,
@@ -26,7 +27,8 @@ impl Came {
         ensures moves { OnOk result (self.new.moves.items ≡ self.old.moves.items
             ++ (map (λ packet. Held packet) (option_to_list (held_of event done.held))
             ++ map (λ packet. Freed packet) self.old.freed.items)) }
-        ensures replies { OnOk result (self.new.replies.items ≡ self.old.replies.items ++ option_to_list done.reply) }
+        ensures replies { OnOk result (self.new.replies.items ≡ self.old.replies.items
+            ++ option_to_list done.reply) }
     {
         self.hold(event, done.held)?;
         push_freed(&mut self.moves, self.freed.as_slice())?;
@@ -55,7 +57,8 @@ impl Came {
     /// The symbol that answers, if there is one.
     fn reply(&mut self, reply: Option<Symbol>) -> Result<(), NoMemory>
         ensures moves { self.new.moves ≡ self.old.moves }
-        ensures replies { OnOk result (self.new.replies.items ≡ self.old.replies.items ++ option_to_list reply) }
+        ensures replies { OnOk result (self.new.replies.items ≡ self.old.replies.items
+            ++ option_to_list reply) }
     {
         if let Some(symbol) = reply {
             if self.replies.push(symbol).is_err() {
@@ -68,7 +71,8 @@ impl Came {
 
 /// Packets that were freed.
 fn push_freed(moves: &mut Vec<Move>, freed: &[Packet]) -> Result<(), NoMemory>
-    ensures { OnOk result (moves.new.items ≡ moves.old.items ++ map (λ packet. Freed packet) freed.now) }
+    ensures { OnOk result (moves.new.items ≡ moves.old.items
+        ++ map (λ packet. Freed packet) freed.now) }
 {
     for packet in freed {
         push(moves, Move::Freed(packet.copy()))?;

@@ -22,7 +22,8 @@ use std::collections::VecDeque;
 /// What came of characters that a port took.
 #[derive(Drop)]
 pub struct Delivery {
-    /// The characters: all that were to be taken, or those up to the one that completed an event which was not sent.
+    /// The characters: all that were to be taken, or those up to the one that completed an event
+    /// which was not sent.
     pub got: Vec<Char>,
     /// What the port did with packets, in order.
     pub moves: Vec<Move>,
@@ -33,10 +34,11 @@ pub struct Delivery {
 }
 
 impl Wire {
-    /// Has the port at the end of the wire take characters from the front. Each event that is acted on must equal one that
-    /// was sent and that no acted event has met: the first that equals it is taken away, and all before it. Where none
-    /// does, the delivery ends with the character that completed the event. `NoMemory` is the only other answer; after it,
-    /// and after an event that was not sent, the wire and the port are of no use.
+    /// Has the port at the end of the wire take characters from the front. Each event that is acted
+    /// on must equal one that was sent and that no acted event has met: the first that equals it is
+    /// taken away, and all before it. Where none does, the delivery ends with the character that
+    /// completed the event. `NoMemory` is the only other answer; after it, and after an event that
+    /// was not sent, the wire and the port are of no use.
     pub fn deliver(
         &mut self,
         alloc: Global,
@@ -44,11 +46,17 @@ impl Wire {
         port: &mut Port,
     ) -> Result<Delivery, NoMemory>
         requires { count ≤ length self.old.chars }
-        ensures got { IfOk result (λ came. came.got.items ≡ take (told_of (delivered port.old self.old.kept (take count self.old.chars))).count (take count self.old.chars)) }
-        ensures moves { IfOk result (λ came. came.moves.items ≡ (told_of (delivered port.old self.old.kept (take count self.old.chars))).moves) }
-        ensures replies { IfOk result (λ came. came.replies.items ≡ (told_of (delivered port.old self.old.kept (take count self.old.chars))).replies) }
-        ensures undetected { IfOk result (λ came. came.undetected ≡ undetected (delivered port.old self.old.kept (take count self.old.chars))) }
-        ensures left { OnOk result (IsLeft (delivered port.old self.old.kept (take count self.old.chars)) count self.old port.new self.new) }
+        ensures got { IfOk result (λ came. came.got.items
+            ≡ take (told_of (delivered port.old self.old.kept (take count self.old.chars))).count
+            (take count self.old.chars)) }
+        ensures moves { IfOk result (λ came. came.moves.items
+            ≡ (told_of (delivered port.old self.old.kept (take count self.old.chars))).moves) }
+        ensures replies { IfOk result (λ came. came.replies.items
+            ≡ (told_of (delivered port.old self.old.kept (take count self.old.chars))).replies) }
+        ensures undetected { IfOk result (λ came. came.undetected
+            ≡ undetected (delivered port.old self.old.kept (take count self.old.chars))) }
+        ensures left { OnOk result (IsLeft (delivered port.old self.old.kept
+            (take count self.old.chars)) count self.old port.new self.new) }
     {
         let mut got = self.take_front(alloc, count)?;
         let mut came = Came {
@@ -67,14 +75,17 @@ impl Wire {
     }
 }
 
-/// Leads characters through a port, up to an event that was not sent. Returns how many it took, and that event.
+/// Leads characters through a port, up to an event that was not sent. Returns how many it took, and
+/// that event.
 fn lead(
     port: &mut Port,
     kept: &mut VecDeque<Event>,
     chars: &[Char],
     came: &mut Came,
 ) -> Result<(usize, Option<Event>), NoMemory>
-    ensures shows { IfOk result (λ end. Shows (flows chars.now (flow_of port.old kept.old.items came.old.moves.items came.old.replies.items [] 0)) end.1 end.0 port.new kept.new.items came.new.moves.items came.new.replies.items) }
+    ensures shows { IfOk result (λ end. Shows (flows chars.now
+        (flow_of port.old kept.old.items came.old.moves.items came.old.replies.items [] 0)) end.1
+        end.0 port.new kept.new.items came.new.moves.items came.new.replies.items) }
     ensures within { IfOk result (λ end. end.0 ≤ length chars.now) }
 {
     let mut packet = Packet::default();
@@ -97,7 +108,8 @@ fn rest(chars: &[Char], taken: usize) -> &[Char]
     &chars[taken..]
 }
 
-/// Leads the events of a run of characters through a port, up to one that was not sent, which it returns.
+/// Leads the events of a run of characters through a port, up to one that was not sent, which it
+/// returns.
 fn act_all(
     port: &mut Port,
     kept: &mut VecDeque<Event>,
@@ -106,7 +118,10 @@ fn act_all(
     came: &mut Came,
 ) -> Result<Option<Event>, NoMemory>
     ensures shows { IfOk result (λ found. (acted : List Event) (at : ℕ)
-        → Shows (come (placed at (completed_events completed packet.now)) (flow_of port.old kept.old.items came.old.moves.items came.old.replies.items acted (suc at))) found (suc at) port.new kept.new.items came.new.moves.items came.new.replies.items) }
+        → Shows (come (placed at (completed_events completed packet.now))
+        (flow_of port.old kept.old.items came.old.moves.items came.old.replies.items acted
+        (suc at))) found (suc at) port.new kept.new.items came.new.moves.items
+        came.new.replies.items) }
     ensures place { OnOk result (port.new.place ≡ port.old.place) }
 {
     match completed {
@@ -130,7 +145,9 @@ fn act_one(
     came: &mut Came,
 ) -> Result<Option<Event>, NoMemory>
     ensures shows { IfOk result (λ found. (acted : List Event) (at : ℕ)
-        → Shows (come (placed at (event ∷ [])) (flow_of port.old kept.old.items came.old.moves.items came.old.replies.items acted (suc at))) found (suc at) port.new kept.new.items came.new.moves.items came.new.replies.items) }
+        → Shows (come (placed at (event ∷ [])) (flow_of port.old kept.old.items came.old.moves.items
+        came.old.replies.items acted (suc at))) found (suc at) port.new kept.new.items
+        came.new.moves.items came.new.replies.items) }
     ensures place { OnOk result (port.new.place ≡ port.old.place) }
 {
     let found = act(port, kept, event, came)?;
@@ -146,7 +163,10 @@ fn act_two(
     came: &mut Came,
 ) -> Result<Option<Event>, NoMemory>
     ensures shows { IfOk result (λ found. (acted : List Event) (at : ℕ)
-        → Shows (come (placed at (event ∷ Ctl symbol ∷ [])) (flow_of port.old kept.old.items came.old.moves.items came.old.replies.items acted (suc at))) found (suc at) port.new kept.new.items came.new.moves.items came.new.replies.items) }
+        → Shows (come (placed at (event ∷ Ctl symbol ∷ []))
+        (flow_of port.old kept.old.items came.old.moves.items came.old.replies.items acted
+        (suc at))) found (suc at) port.new kept.new.items came.new.moves.items
+        came.new.replies.items) }
     ensures place { OnOk result (port.new.place ≡ port.old.place) }
 {
     if let Some(event) = act(port, kept, event, came)? {
@@ -164,7 +184,9 @@ fn act(
     came: &mut Came,
 ) -> Result<Option<Event>, NoMemory>
     ensures shows { IfOk result (λ found. (acted : List Event) (at : ℕ)
-        → Shows (comes (flow_of port.old kept.old.items came.old.moves.items came.old.replies.items acted (suc at)) (at, event)) found (suc at) port.new kept.new.items came.new.moves.items came.new.replies.items) }
+        → Shows (comes (flow_of port.old kept.old.items came.old.moves.items came.old.replies.items
+        acted (suc at)) (at, event)) found (suc at) port.new kept.new.items came.new.moves.items
+        came.new.replies.items) }
     ensures place { OnOk result (port.new.place ≡ port.old.place) }
 {
     if !meet(port, kept, &event) {
@@ -176,10 +198,11 @@ fn act(
     Ok(None)
 }
 
-/// Looks for an event that is acted on among those that were sent, and takes it away and all before it. Returns whether
-/// it is there, or is not acted on.
+/// Looks for an event that is acted on among those that were sent, and takes it away and all before
+/// it. Returns whether it is there, or is not acted on.
 fn meet(port: &Port, kept: &mut VecDeque<Event>, event: &Event) -> bool
-    ensures met { IsTrue result → kept_after port.now event.now kept.old.items ≡ Some kept.new.items }
+    ensures met { IsTrue result → kept_after port.now event.now kept.old.items
+        ≡ Some kept.new.items }
     ensures missed { IsFalse result → kept_after port.now event.now kept.old.items ≡ None }
 {
     if !port.is_acted(event) {
@@ -188,8 +211,8 @@ fn meet(port: &Port, kept: &mut VecDeque<Event>, event: &Event) -> bool
     find(kept, event)
 }
 
-/// Looks for the first event that equals another, and takes it away and all before it. Where there is none, all are
-/// taken away.
+/// Looks for the first event that equals another, and takes it away and all before it. Where there
+/// is none, all are taken away.
 fn find(kept: &mut VecDeque<Event>, event: &Event) -> bool
     ensures found { IsTrue result → behind event.now kept.old.items ≡ Some kept.new.items }
     ensures missing { IsFalse result → behind event.now kept.old.items ≡ None }

@@ -5,7 +5,8 @@ ghost use Rattle.link_wires.specs.Wires.{fits, after_edit, answered};
 use crate::wire::Wire;
 use rio_chars::{Char, NoMemory};
 
-/// A change of the characters of a wire, which leaves what was sent as it is. Places are counted from the front, from 0.
+/// A change of the characters of a wire, which leaves what was sent as it is. Places are counted
+/// from the front, from 0.
 #[derive(Clone, Copy, Debug, PartialEq, Eq)]
 pub enum Edit {
     /// The character at a place becomes another.
@@ -26,9 +27,9 @@ pub enum Edited {
 }
 
 impl Wire {
-    /// Changes the characters, and leaves what was sent as it is. Short exactly where the place of an alteration is not
-    /// below the length, an erasure goes past the end, or the place of an insertion lies past the end. Then, and where
-    /// memory is not given, nothing changes.
+    /// Changes the characters, and leaves what was sent as it is. Short exactly where the place of
+    /// an alteration is not below the length, an erasure goes past the end, or the place of an
+    /// insertion lies past the end. Then, and where memory is not given, nothing changes.
     pub fn edit(&mut self, edit: &Edit) -> Result<Edited, NoMemory>
         ensures short { IfOk result (λ answer. answer ≡ answered (fits edit.now self.old.chars)) }
         ensures changed { OnOk result (self.new ≡ after_edit edit.now self.old) }
@@ -70,7 +71,8 @@ impl Wire {
 
     /// A character comes in before the one at a place.
     fn insert(&mut self, place: u32, ch: Char) -> Result<Edited, NoMemory>
-        ensures short { IfOk result (λ answer. answer ≡ answered (fits (Edit.Insert place ch) self.old.chars)) }
+        ensures short { IfOk result (λ answer. answer
+            ≡ answered (fits (Edit.Insert place ch) self.old.chars)) }
         ensures changed { OnOk result (self.new ≡ after_edit (Edit.Insert place ch) self.old) }
         ensures unchanged { OnErr result (self.new ≡ self.old) }
     {

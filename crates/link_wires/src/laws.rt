@@ -6,24 +6,30 @@ ghost use Rattle.link_port.specs.Ports.{PortState};
 ghost use Rattle.link_wires.specs.Deliveries.{Told, Flow, Through, Undetected, goes_on, flows, delivered};
 ghost use Rattle.link_wires.specs.Kept.{behind, behind_all, IsSubsequence};
 
-/// With what was sent and what was acted on since the last silence: each acted event is found, by a search from the front
-/// for the first event that equals it behind the one found before, exactly where the acted events are a subsequence of
-/// the sent ones. What the search leaves is what is kept: one more acted event is looked for in it, and what is sent later
-/// goes to its end.
+/// With what was sent and what was acted on since the last silence: each acted event is found, by a
+/// search from the front for the first event that equals it behind the one found before, exactly
+/// where the acted events are a subsequence of the sent ones. What the search leaves is what is
+/// kept: one more acted event is looked for in it, and what is sent later goes to its end.
 pub fn acted_events_are_sent_ones()
-    ensures exact { (acted sent : List Event) → IsSome (behind_all acted sent) ↔ IsSubsequence acted sent }
+    ensures exact { (acted sent : List Event) → IsSome (behind_all acted sent)
+        ↔ IsSubsequence acted sent }
     ensures acted { (acted sent kept : List Event) (e : Event) → behind_all acted sent ≡ Some kept
         → behind_all (acted ++ e ∷ []) sent ≡ behind e kept }
     ensures sent { (acted sent kept more : List Event) → behind_all acted sent ≡ Some kept
         → behind_all acted (sent ++ more) ≡ Some (kept ++ more) }
 {}
 
-/// Characters may come in pieces, cut anywhere. What is kept after a delivery is what the search for its acted events leaves
-/// of what was kept before; and an event that was not sent is one that the search does not find behind those before it.
+/// Characters may come in pieces, cut anywhere. What is kept after a delivery is what the search
+/// for its acted events leaves of what was kept before; and an event that was not sent is one that
+/// the search does not find behind those before it.
 pub fn deliveries_go_by_pieces()
-    ensures pieces { (xs ys : List Char) (flow : Flow) → flows (xs ++ ys) flow ≡ goes_on (flows ys) (flows xs flow) }
+    ensures pieces { (xs ys : List Char) (flow : Flow)
+        → flows (xs ++ ys) flow ≡ goes_on (flows ys) (flows xs flow) }
     ensures kept { (port : PortState) (kept : List Event) (chars : List Char) (flow : Flow)
-        → delivered port kept chars ≡ Through flow → behind_all flow.told.acted kept ≡ Some flow.kept }
-    ensures undetected { (port : PortState) (kept : List Event) (chars : List Char) (told : Told) (e : Event)
-        → delivered port kept chars ≡ Undetected told e → behind_all (told.acted ++ e ∷ []) kept ≡ None }
+        → delivered port kept chars ≡ Through flow
+        → behind_all flow.told.acted kept ≡ Some flow.kept }
+    ensures undetected { (port : PortState) (kept : List Event) (chars : List Char) (told : Told)
+        (e : Event)
+        → delivered port kept chars ≡ Undetected told e
+        → behind_all (told.acted ++ e ∷ []) kept ≡ None }
 {}

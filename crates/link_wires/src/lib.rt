@@ -1,9 +1,11 @@
-//! One way of a link: the characters on it, and the events that were sent on it and that no acted event has met.
+//! One way of a link: the characters on it, and the events that were sent on it and that no acted
+//! event has met.
 //!
-//! Promised: what a port sends in its turns goes to the end, characters and events alike. A delivery is the reading of the
-//! characters led through the step tables, one event after another; each event that is acted on must be one that was sent,
-//! and such events are found exactly where they were sent in this order. An edit changes characters alone, and nothing
-//! where it does not lie within them. Taking from the front costs what is taken, and appending what is appended.
+//! Promised: what a port sends in its turns goes to the end, characters and events alike. A
+//! delivery is the reading of the characters led through the step tables, one event after another;
+//! each event that is acted on must be one that was sent, and such events are found exactly where
+//! they were sent in this order. An edit changes characters alone, and nothing where it does not
+//! lie within them. Taking from the front costs what is taken, and appending what is appended.
 //!
 //! Left out: the other way of the link, and what is noted for whoever watches.
 //!
@@ -12,8 +14,8 @@
 //! - [`Edit`] and [`Edited`]: a change of the characters, and what came of it
 //! - [`acted_events_are_sent_ones`] and [`deliveries_go_by_pieces`]: laws; the calls do nothing
 //!
-//! `specs` has the definitions: `Kept`, which events are found; `Deliveries`, what a port does with characters; and
-//! `Wires`, what the calls of a wire do.
+//! `specs` has the definitions: `Kept`, which events are found; `Deliveries`, what a port does with
+//! characters; and `Wires`, what the calls of a wire do.
 #![tactic(auto)]
 
 mod came;

@@ -1,3 +1,4 @@
+//! `Move`: what a port does with packets.
 use rio_packets::Packet;
 
 /// What a port did with a packet.

@@ -15,9 +15,9 @@ use std::alloc::Global;
 use std::collections::VecDeque;
 
 impl Wire {
-    /// Has a port take turns, and puts what it sends at the end of its wire. Returns the characters. A turn that sends
-    /// nothing changes nothing, so it is the last. `NoMemory` is the only
-    /// other answer, and after it the wire and the port are of no use.
+    /// Has a port take turns, and puts what it sends at the end of its wire. Returns the
+    /// characters. A turn that sends nothing changes nothing, so it is the last. `NoMemory` is the
+    /// only other answer, and after it the wire and the port are of no use.
     pub fn pump(
         &mut self,
         alloc: Global,
@@ -41,8 +41,8 @@ impl Wire {
         Ok(chars)
     }
 
-    /// Puts symbols that answer at the end. Returns their characters. `NoMemory` is the only other answer, and after it the
-    /// wire is of no use.
+    /// Puts symbols that answer at the end. Returns their characters. `NoMemory` is the only other
+    /// answer, and after it the wire is of no use.
     pub fn reply(&mut self, alloc: Global, replies: &[Symbol]) -> Result<Vec<Char>, NoMemory>
         ensures wire { OnOk result (self.new ≡ with_sent self.old (answers replies.now)) }
         ensures sent { IfOk result (λ chars. chars.items ≡ (answers replies.now).chars) }
@@ -56,8 +56,10 @@ impl Wire {
 
     /// Puts a symbol at the end, and its characters behind others.
     fn answer(&mut self, symbol: &Symbol, chars: &mut Vec<Char>) -> Result<(), NoMemory>
-        ensures wire { OnOk result (self.new ≡ with_sent self.old (record { chars = symbol_chars_of symbol.now; sent = Ctl symbol.now ∷ [] })) }
-        ensures sent { OnOk result (chars.new.items ≡ chars.old.items ++ symbol_chars_of symbol.now) }
+        ensures wire { OnOk result (self.new ≡ with_sent self.old
+            (record { chars = symbol_chars_of symbol.now; sent = Ctl symbol.now ∷ [] })) }
+        ensures sent { OnOk result (chars.new.items ≡ chars.old.items
+            ++ symbol_chars_of symbol.now) }
     {
         let spelled = symbol_chars(symbol);
         self.chars.put(spelled.as_slice())?;
@@ -72,7 +74,8 @@ impl Wire {
 
     /// Puts what a turn sends at the end, and its characters behind others.
     fn send(&mut self, burst: Burst, chars: &mut Vec<Char>) -> Result<(), NoMemory>
-        ensures wire { OnOk result (self.new ≡ with_sent self.old (record { chars = burst.chars.items; sent = burst.sent.items })) }
+        ensures wire { OnOk result (self.new ≡ with_sent self.old
+            (record { chars = burst.chars.items; sent = burst.sent.items })) }
         ensures sent { OnOk result (chars.new.items ≡ chars.old.items ++ burst.chars.items) }
     {
         self.chars.put(burst.chars.as_slice())?;

@@ -1,3 +1,4 @@
+//! Turns, edits and deliveries of a wire.
 use crate::{Edit, Edited, Wire};
 use link_port::{Port, PortFace};
 use rio_chars::Char;

@@ -9,7 +9,8 @@ use std::alloc::Global;
 use std::collections::VecDeque;
 use std::marker::Model;
 
-/// One way of a link: the characters on it, and the events that were sent on it and that no acted event has met.
+/// One way of a link: the characters on it, and the events that were sent on it and that no acted
+/// event has met.
 #[derive(Drop)]
 pub struct Wire {
     pub(crate) chars: CharQueue,
@@ -53,7 +54,10 @@ impl Wire {
     pub(crate) fn take_front(&mut self, alloc: Global, count: usize) -> Result<Vec<Char>, NoMemory>
         requires { count ≤ length self.old.chars }
         ensures taken { IfOk result (λ front. front.items ≡ take count self.old.chars) }
-        ensures left { OnOk result (self.new ≡ record self.old { chars = drop count self.old.chars }) }
+        ensures left { OnOk result (self.new ≡ record self.old {
+          chars = drop count
+              self.old.chars;
+        }) }
     {
         let mut front = Vec::new(alloc);
         let Ok(()) = front.extend_from_slice(&self.chars.as_slice()[..count]) else {
