@@ -17,7 +17,7 @@ option_or-none : {A : Type 0} (o : Option A) → option_or o None ≡ o
 option_or-none None = refl
 option_or-none (Some x) = refl
 
-joined-idle : (a : Acted) → joined a (idle a.port) ≡ a
+pub joined-idle : (a : Acted) → joined a (idle a.port) ≡ a
 joined-idle a = λ i. record { port = a.port; reply = option_or-none a.reply i; held = option_or-none a.held i; freed = append-nil a.freed i }
 
 -- a first event, and a second where there is one

@@ -4,3 +4,5 @@ pub mod ActLaws
 pub mod ReplyLaws
 pub mod SentReads
 pub mod RunLaws
+pub mod AnswerLaws
+pub mod StreamLaws

@@ -9,3 +9,5 @@ pub mod Runs
 pub mod Turns
 pub mod Bursts
 pub mod Acts
+pub mod Answers
+pub mod Streams

@@ -13,7 +13,8 @@
 //! - [`Taken`] and [`Burst`]: what a character did, and what a turn sends
 //! - [`PortFace`]: the eight lists of packets that the layer above sees
 //! - [`PlainPort`] and [`pass`]: a port with no protocol, whose packets pass at once
-//! - [`one_character_has_one_reply`]: a law; the call does nothing
+//! - [`one_character_has_one_reply`], [`answers_are_read_from_any_place`] and [`characters_do_what_they_say`]: laws; the
+//!   calls do nothing
 #![tactic(auto)]
 
 mod acts;
@@ -39,7 +40,9 @@ pub use bursts::Burst;
 pub use completed::Completed;
 pub use face::PortFace;
 pub use kinds::{InKind, OutKind};
-pub use laws::one_character_has_one_reply;
+pub use laws::{
+    answers_are_read_from_any_place, characters_do_what_they_say, one_character_has_one_reply,
+};
 pub use plain::{PlainPort, pass};
 pub use port::Port;
 pub use taken::Taken;
