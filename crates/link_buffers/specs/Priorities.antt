@@ -7,7 +7,8 @@ use Rattle.link_buffers.specs.Queues.{list_at, popped}
 -- the packets taken, in turn; an empty list gives none
 abbrev pub packets_of : List ℕ → List (List (List ℕ)) → List (List ℕ)
 packets_of [] lists = []
-packets_of (prio ∷ prios) lists = take 1 (list_at lists prio) ++ packets_of prios (popped lists prio)
+packets_of (prio ∷ prios) lists =
+    take 1 (list_at lists prio) ++ packets_of prios (popped lists prio)
 
 -- the lists that stay
 abbrev pub lists_without : List ℕ → List (List (List ℕ)) → List (List (List ℕ))
@@ -25,7 +26,8 @@ Covers prios lists = (prio : ℕ) → count_of prios prio ≤ length (list_at li
 -- the highest priority below a number that has a packet
 unfoldable pub highest_below : ℕ → List (List (List ℕ)) → Option ℕ
 highest_below zero lists = None
-highest_below (suc prio) lists = if nat_lt 0 (length (list_at lists prio)) then Some prio else highest_below prio lists
+highest_below (suc prio) lists =
+    if nat_lt 0 (length (list_at lists prio)) then Some prio else highest_below prio lists
 
 -- the highest priority that has a packet
 abbrev pub highest : List (List (List ℕ)) → Option ℕ

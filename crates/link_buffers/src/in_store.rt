@@ -32,7 +32,8 @@ impl InStore {
     pub fn new(alloc: Global, buffers: u8) -> Result<InStore, NoMemory>
         requires least { 4 ≤ buffers }
         requires most { buffers ≤ 30 }
-        ensures empty { IfOk result (λ store. store ≡ record { lists = no_packets; buffers = buffers }) }
+        ensures empty { IfOk result
+            (λ store. store ≡ record { lists = no_packets; buffers = buffers }) }
     {
         let Ok(lists) = PriorityLists::new(alloc, usize::from(buffers)) else {
             return Err(NoMemory);
@@ -55,7 +56,8 @@ impl InStore {
     /// so that each higher priority has a buffer left (this project's profile).
     pub fn has_room(&self, prio: u8) -> bool
         requires { prio < 4 }
-        ensures exact { IsTrue result ↔ (packet_count self.now.lists + (3 - prio) < self.now.buffers) }
+        ensures exact { IsTrue result
+            ↔ (packet_count self.now.lists + (3 - prio) < self.now.buffers) }
         ensures test { result ≡ room_for self.now prio }
         ensures store { IsInStore self.now }
     {
@@ -65,7 +67,8 @@ impl InStore {
     /// Appends a packet to the list of its priority, which has room.
     pub fn put(&mut self, packet: Packet)
         requires room { packet_count self.old.lists + (3 - prio_of packet) < self.old.buffers }
-        ensures appended { self.new ≡ record self.old { lists = appended self.old.lists (prio_of packet) packet } }
+        ensures appended { self.new
+            ≡ record self.old { lists = appended self.old.lists (prio_of packet) packet } }
         ensures prio { prio_of packet < 4 }
         ensures store { IsInStore self.new }
     {

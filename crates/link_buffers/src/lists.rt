@@ -60,7 +60,8 @@ impl PriorityLists {
     /// Appends a packet to the list of its priority.
     pub(crate) fn put(&mut self, packet: Packet)
         requires { length (list_at self.old.lists (prio_of packet)) < self.old.room }
-        ensures lists { self.new ≡ record self.old { lists = appended self.old.lists (prio_of packet) packet } }
+        ensures lists { self.new
+            ≡ record self.old { lists = appended self.old.lists (prio_of packet) packet } }
         ensures few { prio_of packet < 4 }
         ensures packet { Passes packet }
     {

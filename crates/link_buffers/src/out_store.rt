@@ -84,9 +84,11 @@ impl OutStore {
     /// packets, it is the next to be sent; with none, the first packet of the highest priority that has one.
     pub fn first_behind(&self, prios: &[u8]) -> Option<Waiting>
         requires few { length prios.now ≤ 255 }
-        ensures highest { option_map (λ first. first.prio) result ≡ highest (lists_without prios.now self.now) }
+        ensures highest { option_map (λ first. first.prio) result
+            ≡ highest (lists_without prios.now self.now) }
         ensures place { IfSome result (λ first. first.place ≡ count_of prios.now first.prio) }
-        ensures waits { IfSome result (λ first. first.place < length (list_at self.now first.prio)) }
+        ensures waits { IfSome result
+            (λ first. first.place < length (list_at self.now first.prio)) }
         ensures range { IfSome result (λ first. first.prio < 4) }
         ensures store { IsOutStore self.now }
     {

@@ -1,3 +1,4 @@
+//! Packets put to stores and taken from them, by priority and in order.
 use crate::{InStore, OutStore};
 use rio_packets::Packet;
 use std::test::*;

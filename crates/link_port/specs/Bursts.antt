@@ -15,7 +15,8 @@ HasRange Sent.Nothing = Unit {0}
 
 -- what is sent, from a port that expects an ackID, where these packets are to be sent
 abbrev pub burst_by : Sends → ℕ → List (List (List ℕ)) → Burst
-burst_by (Sent.Packet started) expected queued = packet_burst expected started.ack (slice_get (list_at queued started.prio) started.place)
+burst_by (Sent.Packet started) expected queued =
+    packet_burst expected started.ack (slice_get (list_at queued started.prio) started.place)
 burst_by Sent.Restart expected queued = symbol_burst (restart_from_retry expected)
 burst_by Sent.Request expected queued = symbol_burst (link_request expected)
 burst_by Sent.Nothing expected queued = no_burst

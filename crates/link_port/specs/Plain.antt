@@ -12,7 +12,8 @@ pub record Plain : Type 0 where
 -- the first packet of a priority, where it has room
 abbrev pub first_with_room : List (List (List ℕ)) → Buffered → Option ℕ → Option (List ℕ)
 first_with_room queued received None = None
-first_with_room queued received (Some prio) = if room_for received prio then slice_get (list_at queued prio) 0 else None
+first_with_room queued received (Some prio) =
+    if room_for received prio then slice_get (list_at queued prio) 0 else None
 
 -- the packet that passes: the first one of the highest priority that has one, where it has room
 abbrev pub passing : Plain → Plain → Option (List ℕ)

@@ -39,4 +39,5 @@ pub record IsPort (port : PortState) : Type 0 where
 -- what calls of the layer above leave as it is: the number of buffers, the framer, and both halves
 abbrev pub AreAlike : PortState → PortState → Type 0
 AreAlike port next =
-    (port.received.buffers ≡ next.received.buffers) × (port.place ≡ next.place) × (port.output ≡ next.output) × (port.input ≡ next.input)
+    (port.received.buffers ≡ next.received.buffers) × (port.place ≡ next.place)
+    × (port.output ≡ next.output) × (port.input ≡ next.input)

@@ -22,11 +22,12 @@ starting None = Sent.Nothing
 starting (Some started) = Sent.Packet started
 
 -- a packet that starts is one of those that wait: the one behind the outstanding ones of its priority
-pub record IsWaiting (started : Started) (prios : List ℕ) (queued : List (List (List ℕ))) : Type 0 where
-  pub ack : started.ack < 32
-  pub few : started.prio < 4
-  pub next : started.place ≡ count_of prios started.prio
-  pub waits : started.place < length (list_at queued started.prio)
+pub record IsWaiting (started : Started) (prios : List ℕ) (queued : List (List (List ℕ))) : Type 0
+  where
+    pub ack : started.ack < 32
+    pub few : started.prio < 4
+    pub next : started.place ≡ count_of prios started.prio
+    pub waits : started.place < length (list_at queued started.prio)
 
 -- the same of whatever is sent
 abbrev pub AreWaiting : Sends → List ℕ → List (List (List ℕ)) → Type 0

@@ -28,7 +28,11 @@ acknowledged port symbol = take (heard port symbol).freed (prios_of port.output)
 
 -- the output half has heard a symbol
 abbrev pub after_hearing : PortState → Fields → PortState
-after_hearing port symbol = record port { output = (heard port symbol).state; queued = lists_without (acknowledged port symbol) port.queued }
+after_hearing port symbol =
+    record port {
+      output = (heard port symbol).state;
+      queued = lists_without (acknowledged port symbol) port.queued;
+    }
 
 -- what a symbol does in the input half, by its stype1 and cmd
 abbrev pub obeyed : PortState → Fields → Received
@@ -36,7 +40,9 @@ obeyed port symbol = receives (symbol_arrival symbol.s1 symbol.cmd) port.input
 
 -- what a good packet with an ackID does
 abbrev pub arrived : PortState → ℕ → List ℕ → Received
-arrived port ack packet = receives (packet_arrival (expected_of port.input) ack (room_for port.received (prio_of packet))) port.input
+arrived port ack packet =
+    receives (packet_arrival (expected_of port.input) ack (room_for port.received (prio_of packet)))
+    port.input
 
 -- what characters do that are no packet or symbol
 abbrev pub damaged : PortState → Cause → Received
@@ -62,13 +68,15 @@ idle port = acted port None None []
 abbrev pub acts_symbol : PortState → Fields → Acted
 acts_symbol port symbol =
     let next = after_hearing port symbol in
-    acted (record next { input = (obeyed next symbol).state }) (obeyed next symbol).reply None (packets_of (acknowledged port symbol) port.queued)
+    acted (record next { input = (obeyed next symbol).state }) (obeyed next symbol).reply None
+    (packets_of (acknowledged port symbol) port.queued)
 
 -- a packet
 abbrev pub acts_packet : PortState → ℕ → List ℕ → Acted
 acts_packet port ack packet =
     let does = arrived port ack packet in
-    acted (record port { input = does.state; received = stored does.held port.received packet }) does.reply (if does.held then Some packet else None) []
+    acted (record port { input = does.state; received = stored does.held port.received packet })
+    does.reply (if does.held then Some packet else None) []
 
 -- what is neither
 abbrev pub acts_bad : PortState → Cause → Acted
@@ -85,7 +93,8 @@ acts port (Bad cause) = acts_bad port cause
 -- what was done, and then more
 abbrev pub joined : Acted → Acted → Acted
 joined first then_more =
-    acted then_more.port (option_or first.reply then_more.reply) (option_or first.held then_more.held) (first.freed ++ then_more.freed)
+    acted then_more.port (option_or first.reply then_more.reply)
+    (option_or first.held then_more.held) (first.freed ++ then_more.freed)
 
 -- events, one after another
 unfoldable pub acts_all : PortState → List Event → Acted

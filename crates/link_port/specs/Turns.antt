@@ -40,7 +40,8 @@ waiting_in port = lists_without (prios_of port.output) port.queued
 
 -- what a burst of the table is, from a port that expects an ackID, where these packets wait
 abbrev pub burst_of : Sends → ℕ → List (List (List ℕ)) → Burst
-burst_of (Sends.Packet ack prio) expected waiting = packet_burst expected ack (slice_get (list_at waiting prio) 0)
+burst_of (Sends.Packet ack prio) expected waiting =
+    packet_burst expected ack (slice_get (list_at waiting prio) 0)
 burst_of Sends.Restart expected waiting = symbol_burst (restart_from_retry expected)
 burst_of Sends.Request expected waiting = symbol_burst (link_request expected)
 burst_of Sends.Nothing expected waiting = no_burst

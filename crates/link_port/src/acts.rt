@@ -134,7 +134,8 @@ impl Port {
         requires empty { IfSome second.now (λ _. freed.old.items ≡ []) }
         ensures state { self.new ≡ (acts_second self.old second.now).port }
         ensures reply { result ≡ (acts_second self.old second.now).reply }
-        ensures freed { freed.new.items ≡ freed.old.items ++ (acts_second self.old second.now).freed }
+        ensures freed { freed.new.items
+            ≡ freed.old.items ++ (acts_second self.old second.now).freed }
     {
         match second {
             Some(symbol) => self.act_symbol(*symbol, freed),
@@ -157,7 +158,8 @@ impl Port {
     fn hear(&mut self, symbol: Symbol, freed: &mut ArrayVec<Packet, 31>)
         requires empty { freed.old.items ≡ [] }
         ensures state { self.new ≡ after_hearing self.old symbol }
-        ensures freed { freed.new.items ≡ packets_of (acknowledged self.old symbol) self.old.queued }
+        ensures freed { freed.new.items
+            ≡ packets_of (acknowledged self.old symbol) self.old.queued }
     {
         // The half is moved out and led on; the placeholder is never read.
         let output = mem::replace(&mut self.output, Output::Failed(OutFailed));
@@ -179,7 +181,8 @@ impl Port {
     /// A good packet with this ackID.
     pub fn act_packet(&mut self, ack: u8, packet: &Packet) -> Done
         ensures state { self.new ≡ (acts_packet self.old ack packet.now).port }
-        ensures held { held_of (Pkt ack packet.now) result.held ≡ (acts_packet self.old ack packet.now).held }
+        ensures held { held_of (Pkt ack packet.now) result.held
+            ≡ (acts_packet self.old ack packet.now).held }
         ensures reply { result.reply ≡ (acts_packet self.old ack packet.now).reply }
     {
         // The half is moved out and led on; the placeholder is never read.

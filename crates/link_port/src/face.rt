@@ -49,5 +49,6 @@ pub trait PortFace {
     ghost alike_same: { (port : Self) → alike port port };
 
     /// What is alike to one that is alike is alike.
-    ghost alike_on: { (port next last : Self) → alike port next → alike next last → alike port last };
+    ghost alike_on: { (port next last : Self) → alike port next → alike next last
+        → alike port last };
 }

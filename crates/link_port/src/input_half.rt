@@ -37,7 +37,8 @@ impl Input {
     /// A good packet with this ackID. It is dropped unless packets are taken.
     pub(crate) fn packet(self, ack: u8, packet: &Packet, store: &mut InStore) -> Arrived
         ensures entry { received (input_of result.input) result.reply result.held
-            ≡ receives (packet_arrival (expected_of (input_of self)) ack (room_for store.old (prio_of packet.now))) (input_of self) }
+            ≡ receives (packet_arrival (expected_of (input_of self)) ack
+            (room_for store.old (prio_of packet.now))) (input_of self) }
         ensures store { store.new ≡ stored result.held store.old packet.now }
     {
         match self {
@@ -49,7 +50,8 @@ impl Input {
 
     /// What came is no packet or symbol.
     pub(crate) fn bad(self, cause: Cause) -> (Input, Option<Symbol>)
-        ensures { received (input_of result.0) result.1 false ≡ receives (Damaged (number_of cause)) (input_of self) }
+        ensures { received (input_of result.0) result.1 false
+            ≡ receives (Damaged (number_of cause)) (input_of self) }
     {
         match self {
             Input::Ok(state) => stopped(state.bad(cause)),
@@ -61,7 +63,8 @@ impl Input {
     /// A symbol with this stype1 and cmd. A link-request with another cmd than input-status is ignored (this project's
     /// profile).
     pub(crate) fn obey(self, s1: u8, cmd: u8) -> (Input, Option<Symbol>)
-        ensures { received (input_of result.0) result.1 false ≡ receives (symbol_arrival s1 cmd) (input_of self) }
+        ensures { received (input_of result.0) result.1 false
+            ≡ receives (symbol_arrival s1 cmd) (input_of self) }
     {
         match (s1, cmd) {
             (stype1::RESTART_FROM_RETRY, _) => self.restart(),
@@ -72,7 +75,8 @@ impl Input {
 
     /// A restart-from-retry.
     fn restart(self) -> (Input, Option<Symbol>)
-        ensures { received (input_of result.0) result.1 false ≡ receives RestartFromRetry (input_of self) }
+        ensures { received (input_of result.0) result.1 false
+            ≡ receives RestartFromRetry (input_of self) }
     {
         match self {
             Input::Ok(state) => stopped(state.restart()),
@@ -83,7 +87,8 @@ impl Input {
 
     /// A link-request input-status.
     fn request(self) -> (Input, Option<Symbol>)
-        ensures { received (input_of result.0) result.1 false ≡ receives LinkRequest (input_of self) }
+        ensures { received (input_of result.0) result.1 false
+            ≡ receives LinkRequest (input_of self) }
     {
         let (state, symbol) = match self {
             Input::Ok(state) => state.request(),
@@ -163,7 +168,8 @@ fn dropped(input: Input) -> Arrived
 
 /// The receiver has stopped, and tells it by a symbol.
 fn stopped(after: (InErrorStopped, Symbol)) -> (Input, Option<Symbol>)
-    ensures { received (input_of result.0) result.1 false ≡ replied (in_half.Input.ErrorStopped after.0) after.1 }
+    ensures { received (input_of result.0) result.1 false
+        ≡ replied (in_half.Input.ErrorStopped after.0) after.1 }
 {
     (Input::ErrorStopped(after.0), Some(after.1))
 }

@@ -60,8 +60,14 @@ impl Output {
         requires covered { Covers (prios_of (output_of self)) queued.old }
         requires empty { freed.old.items ≡ [] }
         ensures state { output_of result ≡ (hears (stype0 s0) (output_of self) ack).state }
-        ensures queued { queued.new ≡ lists_without (take (hears (stype0 s0) (output_of self) ack).freed (prios_of (output_of self))) queued.old }
-        ensures freed { freed.new.items ≡ packets_of (take (hears (stype0 s0) (output_of self) ack).freed (prios_of (output_of self))) queued.old }
+        ensures queued { queued.new
+            ≡ lists_without
+            (take (hears (stype0 s0) (output_of self) ack).freed (prios_of (output_of self)))
+            queued.old }
+        ensures freed { freed.new.items
+            ≡ packets_of
+            (take (hears (stype0 s0) (output_of self) ack).freed (prios_of (output_of self)))
+            queued.old }
     {
         match s0 {
             stype0::PACKET_ACCEPTED => self.accepted(ack, queued, freed),
@@ -77,8 +83,14 @@ impl Output {
         requires covered { Covers (prios_of (output_of self)) queued.old }
         requires empty { freed.old.items ≡ [] }
         ensures state { output_of result ≡ (hears PacketAccepted (output_of self) ack).state }
-        ensures queued { queued.new ≡ lists_without (take (hears PacketAccepted (output_of self) ack).freed (prios_of (output_of self))) queued.old }
-        ensures freed { freed.new.items ≡ packets_of (take (hears PacketAccepted (output_of self) ack).freed (prios_of (output_of self))) queued.old }
+        ensures queued { queued.new
+            ≡ lists_without
+            (take (hears PacketAccepted (output_of self) ack).freed (prios_of (output_of self)))
+            queued.old }
+        ensures freed { freed.new.items
+            ≡ packets_of
+            (take (hears PacketAccepted (output_of self) ack).freed (prios_of (output_of self)))
+            queued.old }
     {
         match self {
             Output::Ok(state) => match state.accepted(ack, queued, freed) {
@@ -124,8 +136,14 @@ impl Output {
         requires covered { Covers (prios_of (output_of self)) queued.old }
         requires empty { freed.old.items ≡ [] }
         ensures state { output_of result ≡ (hears LinkResponse (output_of self) ack).state }
-        ensures queued { queued.new ≡ lists_without (take (hears LinkResponse (output_of self) ack).freed (prios_of (output_of self))) queued.old }
-        ensures freed { freed.new.items ≡ packets_of (take (hears LinkResponse (output_of self) ack).freed (prios_of (output_of self))) queued.old }
+        ensures queued { queued.new
+            ≡ lists_without
+            (take (hears LinkResponse (output_of self) ack).freed (prios_of (output_of self)))
+            queued.old }
+        ensures freed { freed.new.items
+            ≡ packets_of
+            (take (hears LinkResponse (output_of self) ack).freed (prios_of (output_of self)))
+            queued.old }
     {
         match self {
             Output::ErrorStopped(state) => match state.response(ack, queued, freed) {
@@ -142,7 +160,9 @@ impl Output {
     /// A turn: what is sent, and the next state.
     pub(crate) fn turn(self, queued: &OutStore) -> (Output, Sends)
         requires covered { Covers (prios_of (output_of self)) queued.now }
-        ensures entry { turned (output_of result.0) (sends_of result.1) ≡ turns (output_of self) (highest (lists_without (prios_of (output_of self)) queued.now)) }
+        ensures entry { turned (output_of result.0) (sends_of result.1)
+            ≡ turns (output_of self)
+            (highest (lists_without (prios_of (output_of self)) queued.now)) }
         ensures waiting { AreWaiting result.1 (prios_of (output_of self)) queued.now }
         ensures covered { Covers (prios_of (output_of result.0)) queued.now }
     {

@@ -34,7 +34,12 @@ impl PlainPort {
     pub fn new(alloc: Global, buffers: u8) -> Result<PlainPort, NoMemory>
         requires least { 4 ≤ buffers }
         requires most { buffers ≤ 30 }
-        ensures empty { IfOk result (λ port. port ≡ record { queued = no_packets; received = record { lists = no_packets; buffers = buffers } }) }
+        ensures empty { IfOk result
+            (λ port. port
+            ≡ record {
+              queued = no_packets;
+              received = record { lists = no_packets; buffers = buffers };
+            }) }
     {
         Ok(PlainPort {
             queued: OutStore::new(alloc)?,

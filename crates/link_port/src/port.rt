@@ -58,7 +58,8 @@ impl Model for Port {
       received = port.received;
     } };
 
-    ghost invariant = { λ port. Covers (prios_of (output_of port.output)) port.queued × IsBounded port.framer.place.text };
+    ghost invariant = { λ port. Covers (prios_of (output_of port.output)) port.queued
+        × IsBounded port.framer.place.text };
 }
 
 impl Port {
@@ -109,9 +110,11 @@ impl Port {
         requires empty { freed.old.items ≡ [] }
         ensures count { result.0 ≡ (front_of self.old chars.now).count }
         ensures state { self.new ≡ (takes_run self.old chars.now).port }
-        ensures events { listed result.1.first result.1.second ≡ (front_of self.old chars.now).step.gives }
+        ensures events { listed result.1.first result.1.second
+            ≡ (front_of self.old chars.now).step.gives }
         ensures paired { IsPaired result.1.first result.1.second }
-        ensures first_acted { result.1.first_acted ≡ first_acted self.old (front_of self.old chars.now).step.gives }
+        ensures first_acted { result.1.first_acted
+            ≡ first_acted self.old (front_of self.old chars.now).step.gives }
         ensures held { result.1.held ≡ (takes_run self.old chars.now).held }
         ensures reply { result.1.reply ≡ (takes_run self.old chars.now).reply }
         ensures freed { freed.new.items ≡ (takes_run self.old chars.now).freed }
@@ -129,7 +132,8 @@ impl Port {
     pub fn read(&mut self, chars: &[Char], packet: &mut Packet) -> (usize, Completed)
         ensures count { result.0 ≡ (front_of self.old chars.now).count }
         ensures state { self.new ≡ after_front self.old chars.now }
-        ensures events { completed_events result.1 packet.new ≡ (front_of self.old chars.now).step.gives }
+        ensures events { completed_events result.1 packet.new
+            ≡ (front_of self.old chars.now).step.gives }
         ensures within { result.0 ≤ length chars.now }
         ensures some { 0 < length chars.now → 0 < result.0 }
         ensures port { IsPort self.new }

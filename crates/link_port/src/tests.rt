@@ -138,8 +138,8 @@ fn after_symbol(
     Some((output(&port), port.in_kind(), parts(&reply)))
 }
 
-// Each stype0 with each stype1, link-requests with cmd 3 and 4, in each state of the output half beside each of the input
-// half.
+/// Each stype0 with each stype1, link-requests with cmd 3 and 4, in each state of the output half beside each of the input
+/// half.
 #[test]
 fn each_symbol_meets_each_state(rt: HostRuntime) {
     let good = (OutKind::Ok, false);
@@ -213,8 +213,8 @@ fn sent(burst: &Burst) -> (Option<(u8, u8)>, usize) {
     (first, burst.sent.len())
 }
 
-// What a turn of each state of the output half sends where a packet waits, and the state after it; and the state after a
-// time-out, and what is sent then.
+/// What a turn of each state of the output half sends where a packet waits, and the state after it; and the state after a
+/// time-out, and what is sent then.
 #[test]
 fn each_output_state_has_its_turn_and_its_time_out(rt: HostRuntime) {
     let good = (OutKind::Ok, false);
@@ -273,7 +273,7 @@ fn meet_data(port: &mut Port, bytes: &[u8]) -> Option<Symbol> {
     meet(port, symbol_chars(&end_of_packet(0)).as_slice())
 }
 
-// A packet with the expected ackID, which is 1, and one with another, where priority 0 has room and where it has not.
+/// A packet with the expected ackID, which is 1, and one with another, where priority 0 has room and where it has not.
 #[test]
 fn packets_meet_each_input_state(rt: HostRuntime) {
     let good = InKind::Ok;
@@ -343,7 +343,7 @@ fn meet_damage(port: &mut Port, damage: Damage) -> Option<Symbol> {
     }
 }
 
-// Each cause that characters may have, in each state of the input half.
+/// Each cause that characters may have, in each state of the input half.
 #[test]
 fn damage_meets_each_input_state(rt: HostRuntime) {
     for (damage, cause) in [

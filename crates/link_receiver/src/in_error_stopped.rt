@@ -36,7 +36,8 @@ impl InErrorStopped {
 
     /// A link-request input-status.
     pub fn request(self) -> (InOk, Symbol)
-        ensures { replied (Input.Ok result.0) result.1 ≡ receives LinkRequest (Input.ErrorStopped self) }
+        ensures { replied (Input.Ok result.0) result.1
+            ≡ receives LinkRequest (Input.ErrorStopped self) }
     {
         let InErrorStopped { expected } = self;
         (

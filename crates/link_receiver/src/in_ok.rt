@@ -71,9 +71,11 @@ impl InOk {
     /// is unchanged.
     pub fn packet(self, ack: u8, packet: &Packet, store: &mut InStore) -> AfterPacket
         ensures entry { after_packet result
-            ≡ receives (packet_arrival self ack (room_for store.old (prio_of packet.now))) (Input.Ok self) }
+            ≡ receives (packet_arrival self ack (room_for store.old (prio_of packet.now)))
+            (Input.Ok self) }
         ensures store { store.new
-            ≡ stored (receives (packet_arrival self ack (room_for store.old (prio_of packet.now))) (Input.Ok self)).held store.old packet.now }
+            ≡ stored (receives (packet_arrival self ack (room_for store.old (prio_of packet.now)))
+            (Input.Ok self)).held store.old packet.now }
     {
         let known = self.expects(ack);
         let InOk { expected } = self;
@@ -93,7 +95,8 @@ impl InOk {
 
     /// What came is no packet or symbol.
     pub fn bad(self, cause: Cause) -> (InErrorStopped, Symbol)
-        ensures { replied (Input.ErrorStopped result.0) result.1 ≡ receives (Damaged (number_of cause)) (Input.Ok self) }
+        ensures { replied (Input.ErrorStopped result.0) result.1
+            ≡ receives (Damaged (number_of cause)) (Input.Ok self) }
     {
         let InOk { expected } = self;
         (
@@ -104,7 +107,8 @@ impl InOk {
 
     /// A restart-from-retry, which is an error here, of cause 31.
     pub fn restart(self) -> (InErrorStopped, Symbol)
-        ensures { replied (Input.ErrorStopped result.0) result.1 ≡ receives RestartFromRetry (Input.Ok self) }
+        ensures { replied (Input.ErrorStopped result.0) result.1
+            ≡ receives RestartFromRetry (Input.Ok self) }
     {
         self.bad(Cause::General)
     }

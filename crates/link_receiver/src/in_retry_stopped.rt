@@ -48,7 +48,8 @@ impl InRetryStopped {
 
     /// A link-request input-status.
     pub fn request(self) -> (InOk, Symbol)
-        ensures { replied (Input.Ok result.0) result.1 ≡ receives LinkRequest (Input.RetryStopped self) }
+        ensures { replied (Input.Ok result.0) result.1
+            ≡ receives LinkRequest (Input.RetryStopped self) }
     {
         let InRetryStopped { expected } = self;
         (
@@ -59,7 +60,8 @@ impl InRetryStopped {
 
     /// What came is no packet or symbol.
     pub fn bad(self, cause: Cause) -> (InErrorStopped, Symbol)
-        ensures { replied (Input.ErrorStopped result.0) result.1 ≡ receives (Damaged (number_of cause)) (Input.RetryStopped self) }
+        ensures { replied (Input.ErrorStopped result.0) result.1
+            ≡ receives (Damaged (number_of cause)) (Input.RetryStopped self) }
     {
         let InRetryStopped { expected } = self;
         (

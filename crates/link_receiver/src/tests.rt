@@ -1,3 +1,4 @@
+//! Each entry of the table of an input half, met in its typed state.
 use crate::{AfterPacket, InErrorStopped, InOk, InRetryStopped};
 use link_buffers::InStore;
 use rio_packets::{Cause, check};
@@ -20,7 +21,7 @@ const CAUSES: [(Cause, [u8; 3]); 5] = [
     (Cause::General, [0x40, 0xff, 0x00]),
 ];
 
-// The column of an input that takes packets. Other symbols do nothing, and have no call.
+/// The column of an input that takes packets. Other symbols do nothing, and have no call.
 #[test]
 fn an_input_that_is_ok_answers_each_event(rt: HostRuntime) -> Result<(), Fail> {
     let (_, low) = check(&LOW).ok().ok_or("low")?;
@@ -54,7 +55,7 @@ fn an_input_that_is_ok_answers_each_event(rt: HostRuntime) -> Result<(), Fail> {
     Ok(())
 }
 
-// The ackIDs are counted modulo 32: the 32nd packet has ackID 31, and the next one has 0 again.
+/// The ackIDs are counted modulo 32: the 32nd packet has ackID 31, and the next one has 0 again.
 #[test]
 fn the_ack_after_31_is_0(rt: HostRuntime) -> Result<(), Fail> {
     let (_, low) = check(&LOW).ok().ok_or("low")?;
@@ -73,8 +74,8 @@ fn the_ack_after_31_is_0(rt: HostRuntime) -> Result<(), Fail> {
     Ok(())
 }
 
-// The column of an input that waits for restart-from-retry. Packets are dropped and other symbols do nothing; neither
-// has a call.
+/// The column of an input that waits for restart-from-retry. Packets are dropped and other symbols do nothing; neither
+/// has a call.
 #[test]
 fn an_input_that_asked_for_a_retry_answers_each_event(rt: HostRuntime) -> Result<(), Fail> {
     for (cause, bytes) in CAUSES {
@@ -88,8 +89,8 @@ fn an_input_that_asked_for_a_retry_answers_each_event(rt: HostRuntime) -> Result
     Ok(())
 }
 
-// The column of an input that met an error, whatever the error was. Packets are dropped, what is bad and
-// restart-from-retry are ignored, and other symbols do nothing; none of them has a call.
+/// The column of an input that met an error, whatever the error was. Packets are dropped, what is bad and
+/// restart-from-retry are ignored, and other symbols do nothing; none of them has a call.
 #[test]
 fn an_input_that_met_an_error_answers_a_request_alone(rt: HostRuntime) -> Result<(), Fail> {
     for (cause, _) in CAUSES {

@@ -35,7 +35,9 @@ impl Model for OutErrorStopped {
 impl OutErrorStopped {
     /// A turn of a sender that has not asked, which sends a link-request. One that has asked is unchanged.
     pub fn request(self) -> OutErrorStopped
-        ensures { (waiting : Option ℕ) → turned (error_stopped result) Sends.Request ≡ turns (Output.ErrorStopped false self.outstanding) waiting }
+        ensures { (waiting : Option ℕ)
+            → turned (error_stopped result) Sends.Request
+            ≡ turns (Output.ErrorStopped false self.outstanding) waiting }
     {
         OutErrorStopped {
             outstanding: self.outstanding,
@@ -82,9 +84,16 @@ impl OutErrorStopped {
         requires ack { ack < 32 }
         requires covered { Covers self.outstanding.prios store.old }
         requires empty { freed.old.items ≡ [] }
-        ensures entry { after_response result ≡ (hears LinkResponse (error_stopped self) ack).state }
-        ensures store { store.new ≡ lists_without (take (hears LinkResponse (error_stopped self) ack).freed self.outstanding.prios) store.old }
-        ensures freed { freed.new.items ≡ packets_of (take (hears LinkResponse (error_stopped self) ack).freed self.outstanding.prios) store.old }
+        ensures entry { after_response result
+            ≡ (hears LinkResponse (error_stopped self) ack).state }
+        ensures store { store.new
+            ≡ lists_without
+            (take (hears LinkResponse (error_stopped self) ack).freed self.outstanding.prios)
+            store.old }
+        ensures freed { freed.new.items
+            ≡ packets_of
+            (take (hears LinkResponse (error_stopped self) ack).freed self.outstanding.prios)
+            store.old }
     {
         if !self.asked {
             return AfterResponse::Ignored(self);

@@ -47,9 +47,11 @@ impl OutOk {
     /// where fewer than `WINDOW` are outstanding. It takes the next ackID.
     pub fn turn(self, store: &OutStore) -> (OutOk, Option<Started>)
         requires { Covers self.prios store.now }
-        ensures entry { after_turn result.0 result.1 ≡ turns (Output.Ok self) (highest (lists_without self.prios store.now)) }
+        ensures entry { after_turn result.0 result.1
+            ≡ turns (Output.Ok self) (highest (lists_without self.prios store.now)) }
         ensures place { IfSome result.1 (λ packet. packet.place ≡ count_of self.prios packet.prio) }
-        ensures waits { IfSome result.1 (λ packet. packet.place < length (list_at store.now packet.prio)) }
+        ensures waits { IfSome result.1
+            (λ packet. packet.place < length (list_at store.now packet.prio)) }
         ensures range { IfSome result.1 (λ packet. (packet.ack < 32) × (packet.prio < 4)) }
         ensures covered { Covers result.0.prios store.now }
     {
@@ -81,8 +83,12 @@ impl OutOk {
         requires covered { Covers self.prios store.old }
         requires empty { freed.old.items ≡ [] }
         ensures entry { after_accepted result ≡ (hears PacketAccepted (Output.Ok self) ack).state }
-        ensures store { store.new ≡ lists_without (take (hears PacketAccepted (Output.Ok self) ack).freed self.prios) store.old }
-        ensures freed { freed.new.items ≡ packets_of (take (hears PacketAccepted (Output.Ok self) ack).freed self.prios) store.old }
+        ensures store { store.new
+            ≡ lists_without (take (hears PacketAccepted (Output.Ok self) ack).freed self.prios)
+            store.old }
+        ensures freed { freed.new.items
+            ≡ packets_of (take (hears PacketAccepted (Output.Ok self) ack).freed self.prios)
+            store.old }
     {
         let OutOk { mut outstanding } = self;
         if !outstanding.is_oldest(ack) {
@@ -114,7 +120,8 @@ impl OutOk {
 
     /// A packet-not-accepted.
     pub fn not_accepted(self) -> OutErrorStopped
-        ensures { (ack : ℕ) → error_stopped result ≡ (hears PacketNotAccepted (Output.Ok self) ack).state }
+        ensures { (ack : ℕ) → error_stopped result
+            ≡ (hears PacketNotAccepted (Output.Ok self) ack).state }
     {
         OutErrorStopped {
             outstanding: self.outstanding,

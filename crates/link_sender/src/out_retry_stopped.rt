@@ -29,7 +29,8 @@ impl Model for OutRetryStopped {
 impl OutRetryStopped {
     /// A turn, which sends restart-from-retry: nothing is outstanding, and the oldest ackID is the next one.
     pub fn restart(self) -> OutOk
-        ensures { (waiting : Option ℕ) → turned (Output.Ok result) Sends.Restart ≡ turns (Output.RetryStopped self) waiting }
+        ensures { (waiting : Option ℕ)
+            → turned (Output.Ok result) Sends.Restart ≡ turns (Output.RetryStopped self) waiting }
     {
         OutOk {
             outstanding: Outstanding::from_ack(self.outstanding.oldest()),
@@ -38,7 +39,8 @@ impl OutRetryStopped {
 
     /// A packet-not-accepted.
     pub fn not_accepted(self) -> OutErrorStopped
-        ensures { (ack : ℕ) → error_stopped result ≡ (hears PacketNotAccepted (Output.RetryStopped self) ack).state }
+        ensures { (ack : ℕ) → error_stopped result
+            ≡ (hears PacketNotAccepted (Output.RetryStopped self) ack).state }
     {
         OutErrorStopped {
             outstanding: self.outstanding,
@@ -48,8 +50,10 @@ impl OutRetryStopped {
 
     /// A packet-accepted or packet-retry, which is unexpected here.
     pub fn unexpected(self) -> OutErrorStopped
-        ensures accepted { (ack : ℕ) → error_stopped result ≡ (hears PacketAccepted (Output.RetryStopped self) ack).state }
-        ensures retry { (ack : ℕ) → error_stopped result ≡ (hears PacketRetry (Output.RetryStopped self) ack).state }
+        ensures accepted { (ack : ℕ) → error_stopped result
+            ≡ (hears PacketAccepted (Output.RetryStopped self) ack).state }
+        ensures retry { (ack : ℕ) → error_stopped result
+            ≡ (hears PacketRetry (Output.RetryStopped self) ack).state }
     {
         self.not_accepted()
     }

@@ -41,5 +41,7 @@ IsWithin (Within bytes) = Unit {0}
 
 -- by whether the bytes are those of a packet that ended
 abbrev pub framing_of : Mode → List ℕ → Pending → Bool → Framing
-framing_of mode bytes pending true = record { place = place (text_of mode []) pending; ended = Some (packet_event bytes) }
-framing_of mode bytes pending false = record { place = place (text_of mode bytes) pending; ended = None }
+framing_of mode bytes pending true =
+    record { place = place (text_of mode []) pending; ended = Some (packet_event bytes) }
+framing_of mode bytes pending false =
+    record { place = place (text_of mode bytes) pending; ended = None }

@@ -33,7 +33,8 @@ abbrev pub IsPaired : Option Event → Option Fields → Type 0
 IsPaired first None = Unit {0}
 IsPaired None (Some symbol) = ⊥
 IsPaired (Some event) (Some symbol) =
-    ((bytes : List ℕ) × (event ≡ packet_event bytes)) × ((symbol.s1 ≡ START_OF_PACKET) ⊎ (symbol.s1 ≡ END_OF_PACKET))
+    ((bytes : List ℕ) × (event ≡ packet_event bytes))
+    × ((symbol.s1 ≡ START_OF_PACKET) ⊎ (symbol.s1 ≡ END_OF_PACKET))
 
 -- the symbol that ended a packet
 abbrev pub told_end : Event → Told

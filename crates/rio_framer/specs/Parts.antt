@@ -20,12 +20,16 @@ abbrev pub later : ℕ → Front → Front
 later n front = record { count = n + front.count; step = front.step }
 
 -- so many characters were taken: all of the front that tells, or some that tell nothing
-pub record IsPart (from : Place) (chars : List Char) (count : ℕ) (outcome : Told) (to : Framing) : Type 0 where
+pub record IsPart (from : Place) (chars : List Char) (count : ℕ) (outcome : Told) (to : Framing) :
+    Type 0 where
   pub some : 0 < count
   pub within : count ≤ length chars
-  pub quiet : outcome ≡ told.Nothing → (to ≡ framing_at to.place) × (telling_front from chars ≡ later count (telling_front to.place (drop count chars)))
+  pub quiet : outcome ≡ told.Nothing
+      → (to ≡ framing_at to.place)
+      × (telling_front from chars ≡ later count (telling_front to.place (drop count chars)))
   pub tells : (outcome ≡ told.Nothing → ⊥) → (count ≡ (telling_front from chars).count)
-      × (outcome ≡ told_of (telling_front from chars).step.gives) × (to ≡ framing_after (telling_front from chars).step)
+      × (outcome ≡ told_of (telling_front from chars).step.gives)
+      × (to ≡ framing_after (telling_front from chars).step)
 
 -- eight bytes fit into the packet in progress, and no symbol is in progress
 abbrev pub TakesEight : Text → Pending → Type 0

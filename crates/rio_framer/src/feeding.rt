@@ -16,7 +16,8 @@ impl Framer {
     pub fn feed_all(&mut self, alloc: Global, chars: &[Char]) -> Result<Vec<(u32, Event)>, NoMemory>
         requires { length chars.now ≤ 4194304 }
         ensures events { IfOk result (λ found. found.items ≡ run self.old.place 0 chars.now) }
-        ensures reads { self.old.place ≡ start → IfOk result (λ found. IsReading chars.now found.items) }
+        ensures reads { self.old.place ≡ start
+            → IfOk result (λ found. IsReading chars.now found.items) }
         ensures place { OnOk result (self.new.place ≡ place_after self.old.place chars.now) }
         ensures unchanged { OnErr result (self.new ≡ self.old) }
     {
@@ -32,7 +33,8 @@ impl Framer {
 
 /// Appends the events of one character at its place.
 fn push_events(found: &mut Vec<(u32, Event)>, place: u32, events: Events) -> Result<(), NoMemory>
-    ensures { OnOk result (found.new.items ≡ found.old.items ++ placed place (listed events.first events.second)) }
+    ensures { OnOk result
+        (found.new.items ≡ found.old.items ++ placed place (listed events.first events.second)) }
 {
     let Events { first, second } = events;
     if let Some(event) = first {

@@ -104,7 +104,8 @@ impl Framer {
     /// The packet that the last character ended: its ackID and its bytes with ackID 0, or the cause why its bytes carry none.
     pub fn ended(&self) -> Result<(u8, &[u8]), Cause>
         requires { IsSome self.now.ended }
-        ensures event { MatchResult result (λ found. self.now.ended ≡ Some (Event.Pkt found.0 found.1.now))
+        ensures event { MatchResult result
+            (λ found. self.now.ended ≡ Some (Event.Pkt found.0 found.1.now))
             (λ cause. self.now.ended ≡ Some (Event.Bad cause)) }
         ensures passes { IfOk result (λ found. Passes found.1.now) }
     {

@@ -95,7 +95,8 @@ impl Framer {
     fn add_eight(&mut self, bytes: [u8; 8])
         requires ended { self.old.ended ≡ None }
         requires takes { TakesEight self.old.place.text self.old.place.pending }
-        ensures { self.new ≡ framing_at (place_of (with_bytes self.old.place.text bytes) Pending.Nothing) }
+        ensures { self.new
+            ≡ framing_at (place_of (with_bytes self.old.place.text bytes) Pending.Nothing) }
     {
         self.building.push_all(&bytes);
     }

@@ -19,7 +19,8 @@ impl Framer {
         requires { self.old.ended ≡ None }
         ensures state { self.new
             ≡ framing_after (step_by self.old.place.text self.old.place.pending kind) }
-        ensures told { result ≡ told_of (step_by self.old.place.text self.old.place.pending kind).gives }
+        ensures told { result
+            ≡ told_of (step_by self.old.place.text self.old.place.pending kind).gives }
     {
         match self.pending {
             Pending::Nothing => self.outside(kind),
@@ -56,7 +57,8 @@ impl Framer {
     /// A delimiter while no symbol is in progress.
     pub(crate) fn open(&mut self, delimiter: Delimiter) -> Told
         requires { self.old.ended ≡ None }
-        ensures state { self.new ≡ framing_after (outside_step self.old.place.text (Kind.Opens delimiter)) }
+        ensures state { self.new
+            ≡ framing_after (outside_step self.old.place.text (Kind.Opens delimiter)) }
         ensures told { result ≡ Told.Nothing }
     {
         if let Mode::Skipping = self.mode {
@@ -70,7 +72,8 @@ impl Framer {
     fn data(&mut self, byte: u8) -> Told
         requires nothing { self.old.place.pending ≡ Pending.Nothing }
         requires ended { self.old.ended ≡ None }
-        ensures state { self.new ≡ framing_after (outside_step self.old.place.text (Kind.Byte byte)) }
+        ensures state { self.new
+            ≡ framing_after (outside_step self.old.place.text (Kind.Byte byte)) }
         ensures told { result ≡ told_of (outside_step self.old.place.text (Kind.Byte byte)).gives }
     {
         match self.mode {
@@ -85,7 +88,8 @@ impl Framer {
         requires nothing { self.old.place.pending ≡ Pending.Nothing }
         requires ended { self.old.ended ≡ None }
         requires within { IsWithin self.old.place.text }
-        ensures state { self.new ≡ framing_after (outside_step self.old.place.text (Kind.Byte byte)) }
+        ensures state { self.new
+            ≡ framing_after (outside_step self.old.place.text (Kind.Byte byte)) }
         ensures told { result ≡ told_of (outside_step self.old.place.text (Kind.Byte byte)).gives }
     {
         if self.building.is_full() {
@@ -172,8 +176,10 @@ impl Framer {
     /// The delimiter and the three bytes of a symbol.
     pub(crate) fn finish(&mut self, delimiter: Delimiter, bytes: [u8; 3]) -> Told
         requires { self.old.ended ≡ None }
-        ensures state { self.new ≡ framing_after (finished self.old.place.text delimiter (spelled_in bytes)) }
-        ensures told { result ≡ told_of (finished self.old.place.text delimiter (spelled_in bytes)).gives }
+        ensures state { self.new
+            ≡ framing_after (finished self.old.place.text delimiter (spelled_in bytes)) }
+        ensures told { result
+            ≡ told_of (finished self.old.place.text delimiter (spelled_in bytes)).gives }
     {
         match from_bytes(&bytes) {
             Ok(symbol) if symbol.may_follow(delimiter) => self.meet(symbol),
