@@ -22,15 +22,21 @@ pub record IsSetUpBy (script : List Numbered) (fabric : Fabric) : Type 0 where
 
 -- the fabric shows what the network of its two endpoints has
 abbrev pub ShowsFabric : Fabric → Network → Type 0
-ShowsFabric fabric net = ShowsEnds fabric.a.waiting fabric.a.received (port_of 0) fabric.b.waiting fabric.b.received (port_of 1) (links_of fabric.set_up.link) (registers_of fabric.set_up.ids.items) net
+ShowsFabric fabric net = ShowsEnds fabric.a.waiting fabric.a.received (port_of 0) fabric.b.waiting
+    fabric.b.received (port_of 1) (links_of fabric.set_up.link)
+    (registers_of fabric.set_up.ids.items) net
 
--- a call printed lines that are such, and the fabric, whose set-up is that of the first, shows what the network has then
-abbrev pub Does : (List TraceLine → Type 0) → List (List ℕ) → {K : Type 0} → (K → Option (List ℕ)) → (K → ℕ) → Outbox K → Outbox K → Seen → Fabric → Fabric → Type 0
+-- a call printed lines that are such, and the fabric, whose set-up is that of the first, shows what
+-- the network has then
+abbrev pub Does : (List TraceLine → Type 0) → List (List ℕ) → {K : Type 0} → (K → Option (List ℕ))
+    → (K → ℕ) → Outbox K → Outbox K → Seen → Fabric → Fabric → Type 0
 Does Is names written faults old new s before fabric =
-    Passed Is names written faults old new (port_of 0) (port_of 1) (links_of before.set_up.link) (registers_of before.set_up.ids.items) s fabric.a fabric.b
+    Passed Is names written faults old new (port_of 0) (port_of 1) (links_of before.set_up.link)
+    (registers_of before.set_up.ids.items) s fabric.a fabric.b
 
 -- a call carried out an event: it printed the line that the event begins with and its block
-pub record Evented (line : Line) (names : List (List ℕ)) {K : Type 0} (written : K → Option (List ℕ)) (faults : K → ℕ) (old new : Outbox K)
+pub record Evented (line : Line) (names : List (List ℕ)) {K : Type 0}
+    (written : K → Option (List ℕ)) (faults : K → ℕ) (old new : Outbox K)
     (s : Seen) (fabric : Fabric) : Type 0 where
   pub block : List TraceLine
   pub prints : Writes written faults old new (trace_text names (Begun line ∷ block))

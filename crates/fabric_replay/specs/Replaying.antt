@@ -17,7 +17,8 @@ use Rattle.fabric_replay.specs.declared.fabric.Fabric.{Fabric}
 use Rattle.fabric_replay.specs.Events.{ShowsFabric, IsSetUpBy}
 
 -- The text of the one trace of the script was written, and the steps that it says are lawful.
-pub record Replayed (names : List (List ℕ)) (script : List Numbered) (written written_after : Option (List ℕ)) : Type 0 where
+pub record Replayed (names : List (List ℕ)) (script : List Numbered)
+    (written written_after : Option (List ℕ)) : Type 0 where
   pub lines : List TraceLine
   pub network : Network
   pub told : Appends written written_after (trace_text names lines)
@@ -25,9 +26,10 @@ pub record Replayed (names : List (List ℕ)) (script : List Numbered) (written 
   pub only : (other : List TraceLine) → Runs script other → other ≡ lines
   pub lawful : Lawful (start script).network (steps_of lines) network
 
--- A front was written of the text of lines that are the trace, or its first blocks, and so a front of it; their steps
--- are lawful.
-pub record ReplayedFront (names : List (List ℕ)) (script : List Numbered) (written written_after : Option (List ℕ)) : Type 0 where
+-- A front was written of the text of lines that are the trace, or its first blocks, and so a front
+-- of it; their steps are lawful.
+pub record ReplayedFront (names : List (List ℕ)) (script : List Numbered)
+    (written written_after : Option (List ℕ)) : Type 0 where
   pub lines : List TraceLine
   pub network : Network
   pub told : AppendsFront written written_after (trace_text names lines)
@@ -36,7 +38,9 @@ pub record ReplayedFront (names : List (List ℕ)) (script : List Numbered) (wri
   pub lawful : Lawful (start script).network (steps_of lines) network
 
 -- how far a replay has come: the blocks of the first events of the script were told
-pub record Going {K : Type 0} (written : K → Option (List ℕ)) (faults : K → ℕ) (begun out : Outbox K) (names : List (List ℕ)) (script : List Numbered) (count : ℕ) (fabric : Fabric) : Type 0 where
+pub record Going {K : Type 0} (written : K → Option (List ℕ)) (faults : K → ℕ)
+    (begun out : Outbox K) (names : List (List ℕ)) (script : List Numbered) (count : ℕ)
+    (fabric : Fabric) : Type 0 where
   pub lines : List TraceLine
   pub told : Writes written faults begun out (trace_text names lines)
   pub fine : out.failed ≡ false

@@ -1,4 +1,5 @@
--- What the queues of a fabric show of the plain network: the packets, and not the numbers that they were given.
+-- What the queues of a fabric show of the plain network: the packets, and not the numbers that they
+-- were given.
 use Rattle.std.specs.Prelude.{◌≡◌, ℕ, ◌<◌, false, List, [], All, map, Some}
 use Rattle.rio_packets.specs.Fields.{is_request}
 use Rattle.link_buffers.specs.Queues.{list_at, Buffered}
@@ -15,10 +16,12 @@ ShowsLanes lists lanes = (prio : ℕ) → prio < 4 → packets_of (lanes prio) �
 
 -- no packet asks an endpoint's registers
 abbrev pub AsksNothing : List (List (List ℕ)) → Type 0
-AsksNothing lists = (prio : ℕ) → prio < 4 → All (λ packet. is_request packet ≡ false) (list_at lists prio)
+AsksNothing lists = (prio : ℕ) → prio < 4
+    → All (λ packet. is_request packet ≡ false) (list_at lists prio)
 
 -- The two stores of a port show what the network has there, and nothing is lent.
-pub record ShowsPort (waiting : List (List (List ℕ))) (received : Buffered) (net : Network) (p : PortRef) : Type 0 where
+pub record ShowsPort (waiting : List (List (List ℕ))) (received : Buffered) (net : Network)
+    (p : PortRef) : Type 0 where
   pub waits : ShowsLanes waiting (net.waiting p)
   pub holds : ShowsLanes received.lists (net.received p)
   pub lends : net.lent p ≡ []
@@ -27,7 +30,8 @@ pub record ShowsPort (waiting : List (List (List ℕ))) (received : Buffered) (n
   pub held_for_leave : AsksNothing received.lists
 
 -- Two linked ports show what the network has there, and these are its links and registers.
-pub record ShowsEnds (waiting : List (List (List ℕ))) (received : Buffered) (p : PortRef) (waiting_there : List (List (List ℕ))) (received_there : Buffered) (q : PortRef)
+pub record ShowsEnds (waiting : List (List (List ℕ))) (received : Buffered) (p : PortRef)
+    (waiting_there : List (List (List ℕ))) (received_there : Buffered) (q : PortRef)
     (links : List (PortRef × PortRef)) (registers : List Registers) (net : Network) : Type 0 where
   pub here : ShowsPort waiting received net p
   pub there : ShowsPort waiting_there received_there net q

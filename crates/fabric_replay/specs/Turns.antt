@@ -6,7 +6,11 @@ use Rattle.link_buffers.specs.Queues.{list_at, Buffered, room_for}
 
 -- the first packet of the highest priority that has one
 abbrev pub next_of : List (List (List ℕ)) → Option (List ℕ)
-next_of lists = option_or (option_or (option_or (slice_get (list_at lists 3) 0) (slice_get (list_at lists 2) 0)) (slice_get (list_at lists 1) 0)) (slice_get (list_at lists 0) 0)
+next_of lists =
+    option_or (option_or
+    (option_or (slice_get (list_at lists 3) 0) (slice_get (list_at lists 2) 0))
+    (slice_get (list_at lists 1) 0))
+    (slice_get (list_at lists 0) 0)
 
 -- whether a packet, if there is one, has room among those received
 abbrev pub admits : Buffered → Option (List ℕ) → Bool

@@ -1,9 +1,9 @@
 //! Scripts over the plain network: `replay` carries one out and writes its trace.
 //!
-//! For now the parts of a script that are built are two endpoints, the link between them, and any list of `send` from
-//! the first to the second, `settle` and `collect`. `unbuilt` answers the first line of another kind.
-//! What is promised stands in the contract of `replay`: it writes the one trace of the script, whose steps are a legal
-//! run of plain first-in first-out queues.
+//! For now the parts of a script that are built are two endpoints, the link between them, and any
+//! list of `send` from the first to the second, `settle` and `collect`. `unbuilt` answers the first
+//! line of another kind. What is promised stands in the contract of `replay`: it writes the one
+//! trace of the script, whose steps are a legal run of plain first-in first-out queues.
 #![tactic(auto)]
 
 mod built;

@@ -23,7 +23,8 @@ pub(crate) struct Way<'a> {
     pub(crate) to: PortRef,
 }
 
-/// Passes packets as long as the one whose turn it is has room: each is held there and then freed here.
+/// Passes packets as long as the one whose turn it is has room: each is held there and then freed
+/// here.
 pub(crate) fn pass_all<K: Sink>(
     from: &mut Queues,
     to: &mut Queues,
@@ -32,9 +33,12 @@ pub(crate) fn pass_all<K: Sink>(
 )
     requires from { way.now.from.node < length way.now.names.now }
     requires to { way.now.to.node < length way.now.names.now }
-    ensures { (links : List (Port × Port)) (registers : List Registers) (s : Seen) → AreEnds way.now.from way.now.to links
-        → ShowsEnds from.old.waiting from.old.received way.now.from to.old.waiting to.old.received way.now.to links registers s.network
-        → Passed (PassesAll way.now.from way.now.to s) way.now.names.now K.written K.faults outbox.old outbox.new
+    ensures { (links : List (Port × Port)) (registers : List Registers) (s : Seen)
+        → AreEnds way.now.from way.now.to links
+        → ShowsEnds from.old.waiting from.old.received way.now.from to.old.waiting to.old.received
+        way.now.to links registers s.network
+        → Passed (PassesAll way.now.from way.now.to s) way.now.names.now K.written K.faults
+        outbox.old outbox.new
         way.now.from way.now.to links registers s from.new to.new }
 {
     while let Some(prio) = next_to_pass(from, to) {

@@ -19,7 +19,8 @@ use rio_packets::Packet;
 /// Tells the line by which an event begins.
 pub(crate) fn write_begun<K: Sink>(outbox: &mut Outbox<K>, names: &[Name], line: &Line)
     requires { IsTold names.now line.now }
-    ensures { Writes K.written K.faults outbox.old outbox.new (trace_line_text names.now (Begun line.now)) }
+    ensures { Writes K.written K.faults outbox.old outbox.new
+        (trace_line_text names.now (Begun line.now)) }
 {
     outbox.write(b"> ");
     write_line(outbox, names, line);
@@ -34,7 +35,8 @@ pub(crate) fn write_hold<K: Sink>(
     packet: &Packet,
 )
     requires { port.node < length names.now }
-    ensures { Writes K.written K.faults outbox.old outbox.new (trace_line_text names.now (Stepped (Linked (Hold port packet.now)))) }
+    ensures { Writes K.written K.faults outbox.old outbox.new
+        (trace_line_text names.now (Stepped (Linked (Hold port packet.now)))) }
 {
     outbox.write(b"hold ");
     write_port(outbox, names, port);
@@ -49,7 +51,8 @@ pub(crate) fn write_free<K: Sink>(
     packet: &Packet,
 )
     requires { port.node < length names.now }
-    ensures { Writes K.written K.faults outbox.old outbox.new (trace_line_text names.now (Stepped (Linked (Free port packet.now)))) }
+    ensures { Writes K.written K.faults outbox.old outbox.new
+        (trace_line_text names.now (Stepped (Linked (Free port packet.now)))) }
 {
     outbox.write(b"free ");
     write_port(outbox, names, port);
@@ -59,7 +62,8 @@ pub(crate) fn write_free<K: Sink>(
 /// Tells that an endpoint takes a packet.
 pub(crate) fn write_take<K: Sink>(outbox: &mut Outbox<K>, names: &[Name], node: u8, packet: &Packet)
     requires { node < length names.now }
-    ensures line { Writes K.written K.faults outbox.old outbox.new (trace_line_text names.now (Stepped (AtNode (Take node packet.now)))) }
+    ensures line { Writes K.written K.faults outbox.old outbox.new
+        (trace_line_text names.now (Stepped (AtNode (Take node packet.now)))) }
     ensures packet { Passes packet.now }
 {
     let _ = packet.bytes();
@@ -76,7 +80,8 @@ pub(crate) fn write_leave<K: Sink>(
     packet: &Packet,
 )
     requires { node < length names.now }
-    ensures { Writes K.written K.faults outbox.old outbox.new (trace_line_text names.now (Stepped (AtNode (Leave node packet.now)))) }
+    ensures { Writes K.written K.faults outbox.old outbox.new
+        (trace_line_text names.now (Stepped (AtNode (Leave node packet.now)))) }
 {
     outbox.write(b"leave ");
     write_name(outbox, names, node);
@@ -85,7 +90,8 @@ pub(crate) fn write_leave<K: Sink>(
 
 /// Tells a packet, which ends its line.
 fn write_packet<K: Sink>(outbox: &mut Outbox<K>, packet: &Packet)
-    ensures { Writes K.written K.faults outbox.old outbox.new (codes " " ++ (hex_of packet.now ++ codes "\n")) }
+    ensures { Writes K.written K.faults outbox.old outbox.new (codes " "
+        ++ (hex_of packet.now ++ codes "\n")) }
 {
     outbox.write(b" ");
     outbox.write_hex(packet.bytes());
@@ -133,7 +139,10 @@ struct Sending<'a> {
 /// Tells the text of a `send`.
 fn write_send<K: Sink>(outbox: &mut Outbox<K>, names: &[Name], sending: &Sending)
     requires { sending.now.node < length names.now }
-    ensures { Writes K.written K.faults outbox.old outbox.new (codes "send " ++ name_of names.now sending.now.node ++ codes " " ++ decimal sending.now.prio ++ codes " " ++ decimal sending.now.ftype ++ codes " " ++ decimal sending.now.dest ++ codes " " ++ hex_text sending.now.bytes.now) }
+    ensures { Writes K.written K.faults outbox.old outbox.new (codes "send "
+        ++ name_of names.now sending.now.node ++ codes " " ++ decimal sending.now.prio ++ codes " "
+        ++ decimal sending.now.ftype ++ codes " " ++ decimal sending.now.dest ++ codes " "
+        ++ hex_text sending.now.bytes.now) }
 {
     outbox.write(b"send ");
     write_name(outbox, names, sending.node);
@@ -145,7 +154,8 @@ fn write_send<K: Sink>(outbox: &mut Outbox<K>, names: &[Name], sending: &Sending
 
 /// Priority, format type and destination ID.
 fn write_header<K: Sink>(outbox: &mut Outbox<K>, prio: u8, ftype: u8, dest: u8)
-    ensures { Writes K.written K.faults outbox.old outbox.new (decimal prio ++ codes " " ++ decimal ftype ++ codes " " ++ decimal dest) }
+    ensures { Writes K.written K.faults outbox.old outbox.new (decimal prio ++ codes " "
+        ++ decimal ftype ++ codes " " ++ decimal dest) }
 {
     write_number(outbox, prio);
     outbox.write(b" ");
@@ -157,7 +167,8 @@ fn write_header<K: Sink>(outbox: &mut Outbox<K>, prio: u8, ftype: u8, dest: u8)
 /// Tells the text of a `settle`.
 fn write_settle<K: Sink>(outbox: &mut Outbox<K>, names: &[Name], port: PortRef)
     requires { port.node < length names.now }
-    ensures { Writes K.written K.faults outbox.old outbox.new (codes "settle " ++ port_text names.now port) }
+    ensures { Writes K.written K.faults outbox.old outbox.new (codes "settle "
+        ++ port_text names.now port) }
 {
     outbox.write(b"settle ");
     write_port(outbox, names, port);
@@ -166,7 +177,8 @@ fn write_settle<K: Sink>(outbox: &mut Outbox<K>, names: &[Name], port: PortRef)
 /// Tells the text of a `collect`.
 fn write_collect<K: Sink>(outbox: &mut Outbox<K>, names: &[Name], node: u8)
     requires { node < length names.now }
-    ensures { Writes K.written K.faults outbox.old outbox.new (codes "collect " ++ name_of names.now node) }
+    ensures { Writes K.written K.faults outbox.old outbox.new (codes "collect "
+        ++ name_of names.now node) }
 {
     outbox.write(b"collect ");
     write_name(outbox, names, node);

@@ -25,7 +25,8 @@ impl Queues {
     /// Takes the memory of a port without a packet.
     pub(crate) fn new(alloc: Global) -> Result<Queues, NoMemory>
         ensures waiting { IfOk result (λ queues. queues.waiting ≡ no_packets) }
-        ensures received { IfOk result (λ queues. queues.received ≡ record { lists = no_packets; buffers = 8 }) }
+        ensures received { IfOk result (λ queues. queues.received
+            ≡ record { lists = no_packets; buffers = 8 }) }
     {
         Ok(Queues {
             waiting: OutStore::new(alloc)?,
@@ -60,7 +61,10 @@ impl Queues {
     /// Takes out the packet whose turn it is to leave.
     pub(crate) fn leave(&mut self) -> Option<Packet>
         ensures value { result ≡ next_of self.old.received.lists }
-        ensures left { IfSome result (λ packet. self.new.received ≡ record self.old.received { lists = popped self.old.received.lists (prio_of packet) }) }
+        ensures left { IfSome result (λ packet. self.new.received
+            ≡ record self.old.received {
+              lists = popped self.old.received.lists (prio_of packet);
+            }) }
         ensures none { IfNone result (self.new.received ≡ self.old.received) }
         ensures stays { self.new.waiting ≡ self.old.waiting }
     {

@@ -31,12 +31,13 @@ impl From<rio_chars::NoMemory> for ReplayEnd {
     }
 }
 
-/// Carries out the events of a script in order and writes its trace, in pieces of kilobytes. The script passes, as each
-/// that `parse` of `fabric_script` answers does, and none of its lines is unbuilt.
+/// Carries out the events of a script in order and writes its trace, in pieces of kilobytes. The
+/// script passes, as each that `parse` of `fabric_script` answers does, and none of its lines is
+/// unbuilt.
 ///
-/// WriteFault comes only if the sink's count of faults rose, and the count rises at no other answer: then a front of the
-/// trace was written, and nothing more is carried out after the event in which a write failed. All memory is taken before
-/// anything is written.
+/// WriteFault comes only if the sink's count of faults rose, and the count rises at no other
+/// answer: then a front of the trace was written, and nothing more is carried out after the event
+/// in which a write failed. All memory is taken before anything is written.
 pub fn replay<K: Sink>(alloc: Global, script: &Script, sink: &mut K) -> Result<(), ReplayEnd>
     requires passes { Passes script.now.names.items script.now.lines.items }
     requires built { unbuilt_in script.now.lines.items ≡ None }

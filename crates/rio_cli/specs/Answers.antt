@@ -12,49 +12,67 @@ use Rattle.rio_cli.specs.Inputs.{most_input, Offers, IsFaultless}
 use Rattle.rio_cli.specs.Outputs.{IsAccepted, IsRefused, Completes, Declines, Breaks, OfInput, refused_words, refused_length, refusal_text}
 use Rattle.rio_cli.specs.Words.{Asks, AreUnknown}
 
--- What a call of the program says that ends with this status: of the words after the program's name, of what the source
--- tells of the bytes that are left and of its faults, and of what the sink tells of the bytes that were written and of
--- its faults.
+-- What a call of the program says that ends with this status: of the words after the program's
+-- name, of what the source tells of the bytes that are left and of its faults, and of what the sink
+-- tells of the bytes that were written and of its faults.
 pub record Ended {S : Type 0} {K : Type 0} (asked : List (List ℕ)) (status : Status)
     (left : S → Option (List ℕ)) (read_faults : S → ℕ) (source source_after : S)
     (written : K → Option (List ℕ)) (write_faults : K → ℕ) (sink sink_after : K) : Type 0 where
   -- Words that ask for no command read nothing, and only these are answered so.
-  pub words : status ≡ Words → AreUnknown asked × Appends (written sink) (written sink_after) refused_words
+  pub words : status ≡ Words → AreUnknown asked
+      × Appends (written sink) (written sink_after) refused_words
   pub other_words : AreUnknown asked → (source_after ≡ source)
-      × ((status ≡ Words) ⊎ ((status ≡ WriteFault) × AppendsFront (written sink) (written sink_after) refused_words))
-  -- The input was read to its end and carried out, and all was written; or it is refused, and a line says so.
+      × ((status ≡ Words) ⊎ ((status ≡ WriteFault)
+      × AppendsFront (written sink) (written sink_after) refused_words))
+  -- The input was read to its end and carried out, and all was written; or it is refused, and a
+  -- line says so.
   pub done : status ≡ Done → (command : Command) × Asks command asked
-      × OfInput (left source) (left source_after) (λ bytes. Completes command bytes (written sink) (written sink_after))
+      × OfInput (left source) (left source_after)
+      (λ bytes. Completes command bytes (written sink) (written sink_after))
   pub script : status ≡ Script → (command : Command) × Asks command asked
-      × OfInput (left source) (left source_after) (λ bytes. Declines command bytes (written sink) (written sink_after))
+      × OfInput (left source) (left source_after)
+      (λ bytes. Declines command bytes (written sink) (written sink_after))
   pub too_long : status ≡ TooLong → (command : Command) × Asks command asked
-      × ConsumesJust (left source) (left source_after) (most_input + 1) × Appends (written sink) (written sink_after) refused_length
+      × ConsumesJust (left source) (left source_after) (most_input + 1)
+      × Appends (written sink) (written sink_after) refused_length
   -- However it ends, one byte more than an input may have is the most that is read.
   pub bounded : ConsumesUpTo (left source) (left source_after) (most_input + 1)
-  -- Faults are told only if they rose, and no other answer lets them rise; what was written is a front of what would
-  -- have been.
-  pub read_fault : status ≡ ReadFault → Rose (read_faults source) (read_faults source_after) × Keeps (written sink) (written sink_after)
+  -- Faults are told only if they rose, and no other answer lets them rise; what was written is a
+  -- front of what would have been.
+  pub read_fault : status ≡ ReadFault
+      → Rose (read_faults source) (read_faults source_after)
+      × Keeps (written sink) (written sink_after)
   pub write_fault : status ≡ WriteFault → Rose (write_faults sink) (write_faults sink_after)
       × ((AreUnknown asked × AppendsFront (written sink) (written sink_after) refused_words)
       ⊎ ((command : Command) × Asks command asked
-      × ((ConsumesJust (left source) (left source_after) (most_input + 1) × AppendsFront (written sink) (written sink_after) refused_length)
-      ⊎ OfInput (left source) (left source_after) (λ bytes. Breaks command bytes (written sink) (written sink_after)))))
+      × ((ConsumesJust (left source) (left source_after) (most_input + 1)
+      × AppendsFront (written sink) (written sink_after) refused_length)
+      ⊎ OfInput (left source) (left source_after)
+      (λ bytes. Breaks command bytes (written sink) (written sink_after)))))
   pub reads_counted : status ≢ ReadFault → read_faults source_after ≡ read_faults source
   pub writes_counted : status ≢ WriteFault → write_faults sink_after ≡ write_faults sink
-  pub never_falls : (read_faults source ≤ read_faults source_after) × (write_faults sink ≤ write_faults sink_after)
+  pub never_falls : (read_faults source ≤ read_faults source_after)
+      × (write_faults sink ≤ write_faults sink_after)
   pub no_memory : status ≡ NoMemory → Keeps (written sink) (written sink_after)
   pub never : (status ≢ Undetected) × (status ≢ Locked)
   -- With words that ask for a command and no fault the input decides, unless memory runs out.
-  pub accepted : (command : Command) (bytes : List ℕ) → Asks command asked → Offers (left source) bytes → IsAccepted command bytes
-      → IsFaultless (read_faults source) (read_faults source_after) (write_faults sink) (write_faults sink_after) → (status ≡ Done) ⊎ (status ≡ NoMemory)
-  pub refused : (command : Command) (bytes : List ℕ) (line reason : ℕ) → Asks command asked → Offers (left source) bytes → IsRefused command bytes line reason
-      → IsFaultless (read_faults source) (read_faults source_after) (write_faults sink) (write_faults sink_after) → (status ≡ Script) ⊎ (status ≡ NoMemory)
-  pub longer : (command : Command) (bytes : List ℕ) → Asks command asked → left source ≡ Some bytes → most_input < length bytes
-      → IsFaultless (read_faults source) (read_faults source_after) (write_faults sink) (write_faults sink_after) → (status ≡ TooLong) ⊎ (status ≡ NoMemory)
+  pub accepted : (command : Command) (bytes : List ℕ) → Asks command asked
+      → Offers (left source) bytes → IsAccepted command bytes
+      → IsFaultless (read_faults source) (read_faults source_after) (write_faults sink)
+      (write_faults sink_after) → (status ≡ Done) ⊎ (status ≡ NoMemory)
+  pub refused : (command : Command) (bytes : List ℕ) (line reason : ℕ) → Asks command asked
+      → Offers (left source) bytes → IsRefused command bytes line reason
+      → IsFaultless (read_faults source) (read_faults source_after) (write_faults sink)
+      (write_faults sink_after) → (status ≡ Script) ⊎ (status ≡ NoMemory)
+  pub longer : (command : Command) (bytes : List ℕ) → Asks command asked → left source ≡ Some bytes
+      → most_input < length bytes
+      → IsFaultless (read_faults source) (read_faults source_after) (write_faults sink)
+      (write_faults sink_after) → (status ≡ TooLong) ⊎ (status ≡ NoMemory)
 
--- A refusal is answered exactly with the status Script, and it is that of the command's input: its line and its reason
--- are those that were written.
-abbrev pub Refuses : List (List ℕ) → Answer → Option (List ℕ) → Option (List ℕ) → Option (List ℕ) → Option (List ℕ) → Type 0
+-- A refusal is answered exactly with the status Script, and it is that of the command's input: its
+-- line and its reason are those that were written.
+abbrev pub Refuses : List (List ℕ) → Answer → Option (List ℕ) → Option (List ℕ) → Option (List ℕ)
+    → Option (List ℕ) → Type 0
 Refuses asked answer left left_after written written_after = MatchOption answer.refusal
     (answer.status ≢ Script)
     (λ refusal. (answer.status ≡ Script) × Asks refusal.command asked
@@ -66,16 +84,23 @@ Refuses asked answer left left_after written written_after = MatchOption answer.
 -- the text was written and the status answered, or the sink failed after a front of it
 abbrev pub Answers : Status → Status → List ℕ → Option (List ℕ) → ℕ → Option (List ℕ) → ℕ → Type 0
 Answers answer status text written faults written_after faults_after =
-    ((answer ≡ status) × Appends written written_after text) ⊎ ((answer ≡ WriteFault) × Rose faults faults_after × AppendsFront written written_after text)
+    ((answer ≡ status) × Appends written written_after text)
+    ⊎ ((answer ≡ WriteFault) × Rose faults faults_after
+    × AppendsFront written written_after text)
 
 -- of bytes that were read whole
-abbrev pub SaysOfBytes : Command → Status → List ℕ → Option (List ℕ) → ℕ → Option (List ℕ) → ℕ → Type 0
-SaysOfBytes command Done bytes written faults written_after faults_after = Completes command bytes written written_after
+abbrev pub SaysOfBytes : Command → Status → List ℕ → Option (List ℕ) → ℕ → Option (List ℕ) → ℕ
+    → Type 0
+SaysOfBytes command Done bytes written faults written_after faults_after =
+    Completes command bytes written written_after
 SaysOfBytes command Words bytes written faults written_after faults_after = ⊥
-SaysOfBytes command Script bytes written faults written_after faults_after = Declines command bytes written written_after
+SaysOfBytes command Script bytes written faults written_after faults_after =
+    Declines command bytes written written_after
 SaysOfBytes command ReadFault bytes written faults written_after faults_after = ⊥
-SaysOfBytes command WriteFault bytes written faults written_after faults_after = Rose faults faults_after × Breaks command bytes written written_after
-SaysOfBytes command NoMemory bytes written faults written_after faults_after = Keeps written written_after
+SaysOfBytes command WriteFault bytes written faults written_after faults_after =
+    Rose faults faults_after × Breaks command bytes written written_after
+SaysOfBytes command NoMemory bytes written faults written_after faults_after =
+    Keeps written written_after
 SaysOfBytes command Undetected bytes written faults written_after faults_after = ⊥
 SaysOfBytes command TooLong bytes written faults written_after faults_after = ⊥
 SaysOfBytes command Locked bytes written faults written_after faults_after = ⊥
@@ -84,24 +109,39 @@ SaysOfBytes command Locked bytes written faults written_after faults_after = ⊥
 abbrev pub RefusesBytes : Command → Answer → List ℕ → Option (List ℕ) → Option (List ℕ) → Type 0
 RefusesBytes command answer bytes written written_after = MatchOption answer.refusal
     (answer.status ≢ Script)
-    (λ refusal. (answer.status ≡ Script) × (refusal.command ≡ command) × IsRefused command bytes refusal.line refusal.reason
+    (λ refusal. (answer.status ≡ Script) × (refusal.command ≡ command)
+    × IsRefused command bytes refusal.line refusal.reason
     × Appends written written_after (refusal_text refusal.line refusal.reason))
 
 -- of a source
-abbrev pub SaysOfInput : Command → Status → Option (List ℕ) → Option (List ℕ) → ℕ → ℕ → Option (List ℕ) → ℕ → Option (List ℕ) → ℕ → Type 0
-SaysOfInput command Done left left_after read read_after written faults written_after faults_after = OfInput left left_after (λ bytes. Completes command bytes written written_after)
-SaysOfInput command Words left left_after read read_after written faults written_after faults_after = ⊥
-SaysOfInput command Script left left_after read read_after written faults written_after faults_after = OfInput left left_after (λ bytes. Declines command bytes written written_after)
-SaysOfInput command ReadFault left left_after read read_after written faults written_after faults_after = Rose read read_after × Keeps written written_after
-SaysOfInput command WriteFault left left_after read read_after written faults written_after faults_after = Rose faults faults_after
-    × ((ConsumesJust left left_after (most_input + 1) × AppendsFront written written_after refused_length) ⊎ OfInput left left_after (λ bytes. Breaks command bytes written written_after))
-SaysOfInput command NoMemory left left_after read read_after written faults written_after faults_after = Keeps written written_after
-SaysOfInput command Undetected left left_after read read_after written faults written_after faults_after = ⊥
-SaysOfInput command TooLong left left_after read read_after written faults written_after faults_after = ConsumesJust left left_after (most_input + 1) × Appends written written_after refused_length
-SaysOfInput command Locked left left_after read read_after written faults written_after faults_after = ⊥
+abbrev pub SaysOfInput : Command → Status → Option (List ℕ) → Option (List ℕ) → ℕ → ℕ
+    → Option (List ℕ) → ℕ → Option (List ℕ) → ℕ → Type 0
+SaysOfInput command Done left left_after read read_after written faults written_after faults_after =
+    OfInput left left_after (λ bytes. Completes command bytes written written_after)
+SaysOfInput command Words left left_after read read_after written faults written_after faults_after =
+    ⊥
+SaysOfInput command Script left left_after read read_after written faults written_after faults_after =
+    OfInput left left_after (λ bytes. Declines command bytes written written_after)
+SaysOfInput command ReadFault left left_after read read_after written faults written_after
+    faults_after = Rose read read_after × Keeps written written_after
+SaysOfInput command WriteFault left left_after read read_after written faults written_after
+    faults_after = Rose faults faults_after
+    × ((ConsumesJust left left_after (most_input + 1)
+    × AppendsFront written written_after refused_length)
+    ⊎ OfInput left left_after (λ bytes. Breaks command bytes written written_after))
+SaysOfInput command NoMemory left left_after read read_after written faults written_after
+    faults_after = Keeps written written_after
+SaysOfInput command Undetected left left_after read read_after written faults written_after
+    faults_after = ⊥
+SaysOfInput command TooLong left left_after read read_after written faults written_after
+    faults_after = ConsumesJust left left_after (most_input + 1)
+    × Appends written written_after refused_length
+SaysOfInput command Locked left left_after read read_after written faults written_after faults_after =
+    ⊥
 
 -- a refusal of what the source gave is answered exactly with the status Script
-abbrev pub RefusesInput : Command → Answer → Option (List ℕ) → Option (List ℕ) → Option (List ℕ) → Option (List ℕ) → Type 0
+abbrev pub RefusesInput : Command → Answer → Option (List ℕ) → Option (List ℕ) → Option (List ℕ)
+    → Option (List ℕ) → Type 0
 RefusesInput command answer left left_after written written_after = MatchOption answer.refusal
     (answer.status ≢ Script)
     (λ refusal. (answer.status ≡ Script) × (refusal.command ≡ command)

@@ -63,7 +63,8 @@ spaced number = codes " " ++ decimal number
 
 -- the line of a symbol, behind its place: stype0, its two parameters, stype1 and cmd
 abbrev pub symbol_text : Fields → List ℕ
-symbol_text s = codes " symbol" ++ spaced s.s0 ++ spaced s.p0 ++ spaced s.p1 ++ spaced s.s1 ++ spaced s.cmd ++ codes "\n"
+symbol_text s = codes " symbol" ++ spaced s.s0 ++ spaced s.p0 ++ spaced s.p1 ++ spaced s.s1
+    ++ spaced s.cmd ++ codes "\n"
 
 -- the line of a packet, behind its place: its ackID, and its bytes with none
 abbrev pub packet_text : ℕ → List ℕ → List ℕ
@@ -90,7 +91,8 @@ end_text false = codes "end cut\n"
 abbrev pub decode_text : List (ℕ × Event) → Bool → List ℕ
 decode_text events rest = flat_map event_text events ++ end_text rest
 
--- The bytes spell these characters and no others; this is their one reading, and they are cut just where `rest` is false.
+-- The bytes spell these characters and no others; this is their one reading, and they are cut just
+-- where `rest` is false.
 pub record Decoded (bytes : List ℕ) : Type 0 where
   pub chars : List Char
   pub events : List (ℕ × Event)

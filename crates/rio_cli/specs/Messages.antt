@@ -36,7 +36,8 @@ reason_text Decode reason = codes "a word of this line is not a character"
 -- what is said where no line is refused
 abbrev pub status_text : Status → List ℕ
 status_text Done = []
-status_text Words = codes "rio: usage: rio replay, or rio decode; input is read from standard input\n"
+status_text Words = codes
+    "rio: usage: rio replay, or rio decode; input is read from standard input\n"
 status_text Script = codes "rio: the input is refused\n"
 status_text ReadFault = codes "rio: standard input cannot be read\n"
 status_text WriteFault = codes "rio: standard output cannot be written\n"
@@ -47,7 +48,8 @@ status_text Locked = codes "rio: a device is locked by another host\n"
 
 abbrev pub message_text : Status → Option Refusal → List ℕ
 message_text status None = status_text status
-message_text status (Some refusal) = codes "rio: line " ++ decimal refusal.line ++ codes ": " ++ reason_text refusal.command refusal.reason ++ codes "\n"
+message_text status (Some refusal) = codes "rio: line " ++ decimal refusal.line ++ codes ": "
+    ++ reason_text refusal.command refusal.reason ++ codes "\n"
 
 -- the line that is said of an answer
 abbrev pub message_of : Answer → List ℕ

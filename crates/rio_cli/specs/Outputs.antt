@@ -15,7 +15,8 @@ use Rattle.rio_cli.specs.declared.command.Command.TheVariants.{Replay, Decode}
 
 -- the line that refuses a script, or characters
 abbrev pub refusal_text : ℕ → ℕ → List ℕ
-refusal_text line reason = codes "refused " ++ decimal line ++ codes " " ++ decimal reason ++ codes "\n"
+refusal_text line reason =
+    codes "refused " ++ decimal line ++ codes " " ++ decimal reason ++ codes "\n"
 
 -- the lines that refuse words, and an input that is too long
 abbrev pub refused_words : List ℕ
@@ -42,18 +43,22 @@ pub record TracesFront (bytes : List ℕ) (written written_after : Option (List 
 
 -- the bytes spell a script of which all is built
 abbrev pub SpellsBuilt : List ℕ → Type 0
-SpellsBuilt bytes = (names : List (List ℕ)) × (script : List Numbered) × IsScript bytes names script × (unbuilt_in script ≡ None)
+SpellsBuilt bytes = (names : List (List ℕ)) × (script : List Numbered) × IsScript bytes names script
+    × (unbuilt_in script ≡ None)
 
 -- the bytes spell a script, of which this line is the first that is not built
 abbrev pub SpellsUnbuilt : List ℕ → ℕ → Type 0
-SpellsUnbuilt bytes line = (names : List (List ℕ)) × (script : List Numbered) × IsScript bytes names script × (unbuilt_in script ≡ Some line)
+SpellsUnbuilt bytes line = (names : List (List ℕ)) × (script : List Numbered)
+    × IsScript bytes names script × (unbuilt_in script ≡ Some line)
 
--- A script is refused in two ways: the bytes spell none, and this is their first bad line and the least reason that hits
--- it; or they spell one with a line that is not built, and then that is reason 1.
+-- A script is refused in two ways: the bytes spell none, and this is their first bad line and the
+-- least reason that hits it; or they spell one with a line that is not built, and then that is
+-- reason 1.
 abbrev pub RefusesScript : List ℕ → ℕ → ℕ → Type 0
-RefusesScript bytes line reason = RefusedAt bytes line reason ⊎ (SpellsUnbuilt bytes line × (reason ≡ 1))
+RefusesScript bytes line reason =
+    RefusedAt bytes line reason ⊎ (SpellsUnbuilt bytes line × (reason ≡ 1))
 
--- ---- what each command makes of an input that was read whole: in each table a row for each command
+-- ---- what each command makes of an input that was read whole, a row each
 
 -- the input is carried out
 abbrev pub IsAccepted : Command → List ℕ → Type 0
@@ -78,14 +83,16 @@ CompletesFront Decode = DecodesFront
 -- ---- what is the same for all commands
 
 -- The input is refused, and the line that says so was written.
-pub record Declines (command : Command) (bytes : List ℕ) (written written_after : Option (List ℕ)) : Type 0 where
+pub record Declines (command : Command) (bytes : List ℕ) (written written_after : Option (List ℕ)) :
+    Type 0 where
   pub line : ℕ
   pub reason : ℕ
   pub refused : IsRefused command bytes line reason
   pub told : Appends written written_after (refusal_text line reason)
 
 -- The input is refused, and a front of the line that says so was written.
-pub record DeclinesFront (command : Command) (bytes : List ℕ) (written written_after : Option (List ℕ)) : Type 0 where
+pub record DeclinesFront (command : Command) (bytes : List ℕ)
+    (written written_after : Option (List ℕ)) : Type 0 where
   pub line : ℕ
   pub reason : ℕ
   pub refused : IsRefused command bytes line reason
@@ -93,7 +100,8 @@ pub record DeclinesFront (command : Command) (bytes : List ℕ) (written written
 
 -- what was written if a write failed, of an input that was read whole
 abbrev pub Breaks : Command → List ℕ → Option (List ℕ) → Option (List ℕ) → Type 0
-Breaks command bytes written written_after = CompletesFront command bytes written written_after ⊎ DeclinesFront command bytes written written_after
+Breaks command bytes written written_after = CompletesFront command bytes written written_after
+    ⊎ DeclinesFront command bytes written written_after
 
 -- the source was read to its end, and gave these bytes, which are not too many
 pub record Gave (left left_after : Option (List ℕ)) (bytes : List ℕ) : Type 0 where

@@ -30,8 +30,8 @@ impl From<rio_chars::NoMemory> for DecodeEnd {
     }
 }
 
-/// Writes the lines of the reading of characters, and the last line, in pieces of kilobytes. All memory is taken before
-/// anything is written, and after a write that fails nothing more is read.
+/// Writes the lines of the reading of characters, and the last line, in pieces of kilobytes. All
+/// memory is taken before anything is written, and after a write that fails nothing more is read.
 pub(crate) fn decode_chars<K: Sink>(
     alloc: Global,
     chars: &[Char],

@@ -5,8 +5,8 @@ ghost use Rattle.rio_cli.specs.Decoding.{SpellsChars};
 ghost use Rattle.rio_cli.specs.Outputs.{IsAccepted, IsRefused};
 ghost use Rattle.rio_cli.specs.declared.command.Command.{Command as Asked};
 
-/// An input that is refused has one line and one reason, and is not accepted; characters are spelled by words that spell
-/// no others.
+/// An input that is refused has one line and one reason, and is not accepted; characters are
+/// spelled by words that spell no others.
 pub fn inputs_are_judged_once()
     ensures once { (command : Asked) (bytes : List ℕ) (line reason line2 reason2 : ℕ)
         → IsRefused command bytes line reason → IsRefused command bytes line2 reason2

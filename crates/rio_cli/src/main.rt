@@ -1,6 +1,7 @@
-//! `rio`: a simulated RapidIO fabric. `rio replay` reads a script from standard input and writes its trace to standard
-//! output; `rio decode` reads the characters of a link and writes the lines of their reading. The exit status is the
-//! number of what `answer` answers, and a line on standard error says in words what is to be said of it.
+//! `rio`: a simulated RapidIO fabric. `rio replay` reads a script from standard input and writes
+//! its trace to standard output; `rio decode` reads the characters of a link and writes the lines
+//! of their reading. The exit status is the number of what `answer` answers, and a line on standard
+//! error says in words what is to be said of it.
 //!
 //! - `run`: the whole program, over any source, sink and sink of messages; `main` gives it the arguments and the
 //!   standard streams, and does nothing more.

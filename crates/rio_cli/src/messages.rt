@@ -9,7 +9,8 @@ use crate::command::Command;
 use crate::status::Status;
 use rio_chars::{Sink, write_decimal, write_unless};
 
-/// Says of an answer what there is to say, on one line, and answers whether a write failed. It takes no memory.
+/// Says of an answer what there is to say, on one line, and answers whether a write failed. It
+/// takes no memory.
 pub(crate) fn write_message<M: Sink>(messages: &mut M, answer: &Answer) -> bool
     ensures { WritesUnless false (M.written messages.old) (M.faults messages.old)
         result (M.written messages.new) (M.faults messages.new) (message_of answer.now) }

@@ -10,10 +10,11 @@ use crate::top::answer;
 use rio_chars::{Sink, Source};
 use std::alloc::Global;
 
-/// Does what the arguments ask, of which the first is the program's name, and answers the exit status. It reads input
-/// from the source and writes output to the sink, as `answer` says, and says of the answer what there is to say in one
-/// line to `messages`: how the program is used, which line is refused and why, or what failed. It says nothing at Done.
-/// A line that cannot be said changes nothing.
+/// Does what the arguments ask, of which the first is the program's name, and answers the exit
+/// status. It reads input from the source and writes output to the sink, as `answer` says, and says
+/// of the answer what there is to say in one line to `messages`: how the program is used, which
+/// line is refused and why, or what failed. It says nothing at Done. A line that cannot be said
+/// changes nothing.
 pub fn run<S: Source, K: Sink, M: Sink>(
     alloc: Global,
     arguments: &[String],

@@ -1,4 +1,5 @@
-//! Runs of the top call over sources and sinks in memory: with ample memory, and with each call failing in turn.
+//! Runs of the top call over sources and sinks in memory: with ample memory, and with each call
+//! failing in turn.
 ghost use Rattle.std.specs.Prelude.{◌≤◌};
 
 use crate::{Status, rio};
@@ -21,7 +22,8 @@ const EVENTS: &[u8] = b"send A 0 15 2 cafe0001\nsettle A.0\ncollect B\n";
 const EVENTS_TRACE: &[u8] =
     b"> send A 0 15 2 cafe0001\ntake A 000f0201cafe0001a9bb0000\n> settle A.0\nhold B.0 000f0201cafe0001a9bb0000\nfree A.0 000f0201cafe0001a9bb0000\n> collect B\nleave B 000f0201cafe0001a9bb0000\n";
 
-/// A start-of-packet, the first four bytes of a packet, a status in the middle of it, the last four, and an end-of-packet.
+/// A start-of-packet, the first four bytes of a packet, a status in the middle of it, the last
+/// four, and an end-of-packet.
 const CHARS: &[u8] =
     b"k7c d80 df8 d1f d00 d0f d02 d01 k1c d80 dff d0f\ndde db2 d00 d00 k7c d80 dfa d18\n";
 
@@ -100,7 +102,8 @@ fn refused(
     })
 }
 
-/// Does the work with these calls of the source and of the sink failing, and at most `step` bytes in each call.
+/// Does the work with these calls of the source and of the sink failing, and at most `step` bytes
+/// in each call.
 fn run(
     alloc: Global,
     work: &Work,
@@ -145,8 +148,8 @@ fn failing_reads(rt: &impl Abort, alloc: Global, work: &Work, step: usize) -> Re
     Ok(CALLS)
 }
 
-/// Each write that fails is told, behind a front of what is wanted, to which each write before it added. Answers how many
-/// writes there are.
+/// Each write that fails is told, behind a front of what is wanted, to which each write before it
+/// added. Answers how many writes there are.
 fn failing_writes(rt: &impl Abort, alloc: Global, work: &Work, step: usize) -> Result<u32, Fail>
     requires { 1 ≤ step }
 {
@@ -212,7 +215,8 @@ fn each_failing_write_is_told_after_a_front(rt: HostRuntime) -> Result<(), Fail>
         failing_writes(&rt, rt.alloc(), &symbols(rt.alloc(), 30)?, 64)?,
         12
     );
-    // More than 65,536 bytes do not wait for the end: the first 16 writes come before the last event.
+    // More than 65,536 bytes do not wait for the end: the first 16 writes come before the last
+    // event.
     assert_eq!(rt;
         failing_writes(&rt, rt.alloc(), &packets(rt.alloc(), 400)?, 4096)?,
         18

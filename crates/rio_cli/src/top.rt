@@ -23,12 +23,14 @@ const MOST_INPUT: usize = 4_194_304;
 
 /// Does what the words after the program's name say, and answers how it ended.
 ///
-/// `replay` reads a script from the source and writes its trace to the sink. `decode` reads the characters of a link, as
-/// words that spaces and line feeds part, and writes the lines of their reading, each event at the place of the character
-/// that completes it, and then `end`, or `end cut` if a symbol or a packet is in progress. Other words are answered
-/// Words, and nothing is read. A refusal is one line, and the whole output: `refused words`, `refused length` for more
-/// than 4,194,304 bytes of input, `refused LINE REASON` for a script or what is none, and `refused LINE 1` for the first line that has a
-/// word which is no character. The tests come in this order, and ReadFault between the first two.
+/// `replay` reads a script from the source and writes its trace to the sink. `decode` reads the
+/// characters of a link, as words that spaces and line feeds part, and writes the lines of their
+/// reading, each event at the place of the character that completes it, and then `end`, or `end
+/// cut` if a symbol or a packet is in progress. Other words are answered Words, and nothing is
+/// read. A refusal is one line, and the whole output: `refused words`, `refused length` for more
+/// than 4,194,304 bytes of input, `refused LINE REASON` for a script or what is none, and `refused
+/// LINE 1` for the first line that has a word which is no character. The tests come in this order,
+/// and ReadFault between the first two.
 pub fn rio<S: Source, K: Sink>(
     alloc: Global,
     words: &[String],

@@ -58,7 +58,8 @@ fn read_line(text: &[u8], chars: &mut Vec<Char>) -> Result<bool, AllocError>
     Ok(true)
 }
 
-/// Appends the characters of words at the front that a space follows, and answers what is left of the line.
+/// Appends the characters of words at the front that a space follows, and answers what is left of
+/// the line.
 fn read_front<'a>(text: &'a [u8], chars: &mut Vec<Char>) -> Result<&'a [u8], AllocError>
     ensures { IfOk result (λ left. (more : List Char) × (words : List (List ℕ))
         × (chars.new.items ≡ chars.old.items ++ more)
@@ -75,7 +76,8 @@ fn read_front<'a>(text: &'a [u8], chars: &mut Vec<Char>) -> Result<&'a [u8], All
     Ok(left)
 }
 
-/// Appends the character of a word, and answers whether it is one. Between two spaces there may be no word.
+/// Appends the character of a word, and answers whether it is one. Between two spaces there may be
+/// no word.
 fn read_word(word: &[u8], chars: &mut Vec<Char>) -> Result<bool, AllocError>
     ensures good { IfOk result (λ good. IsTrue good → (more : List Char)
         × (chars.new.items ≡ chars.old.items ++ more) × AreTexts (word_in word.now) more) }

@@ -1,4 +1,4 @@
-use Rattle.std.proofs.Common.{◌<◌, ◌≤◌, arith}
+use Rattle.std.proofs.Common.{arith}
 use Rattle.rio_cli.proofs.NumberLaws.{one_digit, two_digits, three_digits}
 use Rattle.rio_cli.proofs.lines.spaced_number.Goals as goal
 

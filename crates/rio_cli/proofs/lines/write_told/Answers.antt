@@ -1,5 +1,4 @@
-use Rattle.std.proofs.Common.{◌≡◌, Some, None, subst}
-use Rattle.rio_framer.specs.Giving.{listed, events_by}
+use Rattle.std.proofs.Common.{Some}
 use Rattle.link_model.specs.declared.event.Event.TheVariants.{Ctl}
 use Rattle.rio_cli.proofs.LineLaws.{Writes-both, Writes-event}
 use Rattle.rio_cli.proofs.lines.write_told.Goals as goal

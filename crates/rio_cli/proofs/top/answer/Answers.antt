@@ -1,7 +1,6 @@
-use Rattle.std.proofs.Common.{refl, sym, subst, arith, inl, inr, map, ◌∙◌}
+use Rattle.std.proofs.Common.{refl, subst, arith, inl, inr, map}
 use Rattle.std.specs.String.{string_bytes}
 use Rattle.rio_cli.specs.declared.command.Command.{Command}
-use Rattle.rio_cli.specs.declared.status.Status.{Status}
 use Rattle.rio_cli.specs.declared.status.Status.TheVariants.{Done, Words, Script, ReadFault, WriteFault, NoMemory, Undetected, TooLong, Locked}
 use Rattle.rio_cli.specs.Answers.{Ended, SaysOfInput}
 use Rattle.rio_cli.proofs.AnswerLaws.{says_at, accepts, refuses, lengthy, no_other, refusal_told, refusal_failed, refusal_either, took_none, same_command, accepted_stays, refused_stays, Refuses-input}
