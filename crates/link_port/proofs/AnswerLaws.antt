@@ -31,12 +31,16 @@ IsSmall Arrival.RestartFromRetry = Unit {0}
 IsSmall Arrival.LinkRequest = Unit {0}
 IsSmall Arrival.OtherStype1 = Unit {0}
 
-small_packet : (same room : Bool) → IsSmall (if same then (if room then Arrival.ExpectedWithRoom else Arrival.ExpectedWithoutRoom) else Arrival.UnexpectedAck)
+small_packet : (same room : Bool)
+    → IsSmall (if same then (if room then Arrival.ExpectedWithRoom else Arrival.ExpectedWithoutRoom)
+    else Arrival.UnexpectedAck)
 small_packet true true = tt
 small_packet true false = tt
 small_packet false room = tt
 
-small_symbol : (restart request : Bool) → IsSmall (if restart then Arrival.RestartFromRetry else (if request then Arrival.LinkRequest else Arrival.OtherStype1))
+small_symbol : (restart request : Bool)
+    → IsSmall (if restart then Arrival.RestartFromRetry
+    else (if request then Arrival.LinkRequest else Arrival.OtherStype1))
 small_symbol true request = tt
 small_symbol false true = tt
 small_symbol false false = tt
@@ -54,36 +58,51 @@ answers_by s0 p0 p1 stype0 first second = record {
   nop = refl;
 }
 
-received_answers : (what : Arrival) (input : Input) → IsSmall what → expected_of input < 32 → IsReply (receives what input).reply
-received_answers Arrival.ExpectedWithRoom (Input.Ok e) small below = answers_by 0 e 31 (omega arith) below (omega arith)
+received_answers : (what : Arrival) (input : Input) → IsSmall what → expected_of input < 32
+    → IsReply (receives what input).reply
+received_answers Arrival.ExpectedWithRoom (Input.Ok e) small below =
+    answers_by 0 e 31 (omega arith) below (omega arith)
 received_answers Arrival.ExpectedWithRoom (Input.RetryStopped e) small below = tt
 received_answers Arrival.ExpectedWithRoom (Input.ErrorStopped e) small below = tt
-received_answers Arrival.ExpectedWithoutRoom (Input.Ok e) small below = answers_by 1 e 31 (omega arith) below (omega arith)
+received_answers Arrival.ExpectedWithoutRoom (Input.Ok e) small below =
+    answers_by 1 e 31 (omega arith) below (omega arith)
 received_answers Arrival.ExpectedWithoutRoom (Input.RetryStopped e) small below = tt
 received_answers Arrival.ExpectedWithoutRoom (Input.ErrorStopped e) small below = tt
-received_answers Arrival.UnexpectedAck (Input.Ok e) small below = answers_by 2 e 1 (omega arith) below (omega arith)
+received_answers Arrival.UnexpectedAck (Input.Ok e) small below =
+    answers_by 2 e 1 (omega arith) below (omega arith)
 received_answers Arrival.UnexpectedAck (Input.RetryStopped e) small below = tt
 received_answers Arrival.UnexpectedAck (Input.ErrorStopped e) small below = tt
-received_answers (Arrival.Damaged cause) (Input.Ok e) small below = answers_by 2 e cause (omega arith) below small
-received_answers (Arrival.Damaged cause) (Input.RetryStopped e) small below = answers_by 2 e cause (omega arith) below small
+received_answers (Arrival.Damaged cause) (Input.Ok e) small below =
+    answers_by 2 e cause (omega arith) below small
+received_answers (Arrival.Damaged cause) (Input.RetryStopped e) small below =
+    answers_by 2 e cause (omega arith) below small
 received_answers (Arrival.Damaged cause) (Input.ErrorStopped e) small below = tt
-received_answers Arrival.RestartFromRetry (Input.Ok e) small below = answers_by 2 e 31 (omega arith) below (omega arith)
+received_answers Arrival.RestartFromRetry (Input.Ok e) small below =
+    answers_by 2 e 31 (omega arith) below (omega arith)
 received_answers Arrival.RestartFromRetry (Input.RetryStopped e) small below = tt
 received_answers Arrival.RestartFromRetry (Input.ErrorStopped e) small below = tt
-received_answers Arrival.LinkRequest (Input.Ok e) small below = answers_by 6 e 16 (omega arith) below (omega arith)
-received_answers Arrival.LinkRequest (Input.RetryStopped e) small below = answers_by 6 e 4 (omega arith) below (omega arith)
-received_answers Arrival.LinkRequest (Input.ErrorStopped e) small below = answers_by 6 e 5 (omega arith) below (omega arith)
+received_answers Arrival.LinkRequest (Input.Ok e) small below =
+    answers_by 6 e 16 (omega arith) below (omega arith)
+received_answers Arrival.LinkRequest (Input.RetryStopped e) small below =
+    answers_by 6 e 4 (omega arith) below (omega arith)
+received_answers Arrival.LinkRequest (Input.ErrorStopped e) small below =
+    answers_by 6 e 5 (omega arith) below (omega arith)
 received_answers Arrival.OtherStype1 (Input.Ok e) small below = tt
 received_answers Arrival.OtherStype1 (Input.RetryStopped e) small below = tt
 received_answers Arrival.OtherStype1 (Input.ErrorStopped e) small below = tt
 
 -- whatever comes, the reply is an answer
-pub reply_answers : (p : PortState) (e : Event) → expected_of p.input < 32 → IsReply (acts p e).reply
-reply_answers p (Ctl s) below = received_answers (symbol_arrival s.s1 s.cmd) p.input (small_symbol (s.s1 == 3) ((s.s1 == 4) && (s.cmd == 4))) below
+pub reply_answers : (p : PortState) (e : Event) → expected_of p.input < 32
+    → IsReply (acts p e).reply
+reply_answers p (Ctl s) below =
+    received_answers (symbol_arrival s.s1 s.cmd) p.input
+    (small_symbol (s.s1 == 3) ((s.s1 == 4) && (s.cmd == 4))) below
 reply_answers p (Pkt ack packet) below =
-    received_answers (packet_arrival (expected_of p.input) ack (room_for p.received (prio_of packet))) p.input
+    received_answers
+    (packet_arrival (expected_of p.input) ack (room_for p.received (prio_of packet))) p.input
     (small_packet (ack == expected_of p.input) (room_for p.received (prio_of packet))) below
-reply_answers p (Bad cause) below = received_answers (Arrival.Damaged (number_of cause)) p.input (small_cause cause) below
+reply_answers p (Bad cause) below =
+    received_answers (Arrival.Damaged (number_of cause)) p.input (small_cause cause) below
 
 -- the symbols with which a port answers tell themselves alone, and leave the text as it was
 answer_tells : (t : Text) (s : Fields) → IsAnswer s → told t s ≡ Ctl s ∷ []
@@ -100,16 +119,23 @@ pub answer_run : (t : Text) (k : Pending) (at : ℕ) (s : Fields) → IsAnswer s
     → run (place t k) at (symbol_chars_of s) ≡ placed at (broken_off k) ++ (at + 3, Ctl s) ∷ []
 answer_run t k at s is =
     run-symbol_anywhere t k at s is.range
-    ∙ ap (λ (es : List Event). placed at (broken_off k) ++ placed (at + 3) es) (answer_tells (begins_in t k) s is)
+    ∙ ap (λ (es : List Event). placed at (broken_off k) ++ placed (at + 3) es)
+    (answer_tells (begins_in t k) s is)
 
-pub answer_after : (t : Text) (k : Pending) (s : Fields) → IsAnswer s → place_after (place t k) (symbol_chars_of s) ≡ place (begins_in t k) Nothing
-answer_after t k s is =
-    place_after-symbol_anywhere t k s is.range ∙ ap (λ (u : Text). place u Nothing) (answer_stays (begins_in t k) s is)
-
-pub reply_run : (p : PortState) (e : Event) (s : Fields) (t : Text) (k : Pending) (at : ℕ) → expected_of p.input < 32 → (acts p e).reply ≡ Some s
-    → run (place t k) at (symbol_chars_of s) ≡ placed at (broken_off k) ++ (at + 3, Ctl s) ∷ []
-reply_run p e s t k at below same = answer_run t k at s (is_answer (acts p e).reply s (reply_answers p e below) same)
-
-pub reply_after : (p : PortState) (e : Event) (s : Fields) (t : Text) (k : Pending) → expected_of p.input < 32 → (acts p e).reply ≡ Some s
+pub answer_after : (t : Text) (k : Pending) (s : Fields) → IsAnswer s
     → place_after (place t k) (symbol_chars_of s) ≡ place (begins_in t k) Nothing
-reply_after p e s t k below same = answer_after t k s (is_answer (acts p e).reply s (reply_answers p e below) same)
+answer_after t k s is =
+    place_after-symbol_anywhere t k s is.range
+    ∙ ap (λ (u : Text). place u Nothing) (answer_stays (begins_in t k) s is)
+
+pub reply_run : (p : PortState) (e : Event) (s : Fields) (t : Text) (k : Pending) (at : ℕ)
+    → expected_of p.input < 32 → (acts p e).reply ≡ Some s
+    → run (place t k) at (symbol_chars_of s) ≡ placed at (broken_off k) ++ (at + 3, Ctl s) ∷ []
+reply_run p e s t k at below same =
+    answer_run t k at s (is_answer (acts p e).reply s (reply_answers p e below) same)
+
+pub reply_after : (p : PortState) (e : Event) (s : Fields) (t : Text) (k : Pending)
+    → expected_of p.input < 32 → (acts p e).reply ≡ Some s
+    → place_after (place t k) (symbol_chars_of s) ≡ place (begins_in t k) Nothing
+reply_after p e s t k below same =
+    answer_after t k s (is_answer (acts p e).reply s (reply_answers p e below) same)

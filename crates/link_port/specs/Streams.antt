@@ -6,7 +6,8 @@ use Rattle.link_model.specs.declared.event.Event.{Event}
 use Rattle.link_port.specs.Ports.{PortState}
 use Rattle.link_port.specs.Steps.{Acted, acts, takes}
 
--- the port after them, the symbols that answer, the packets that were put into the store, and those that were acknowledged
+-- the port after them, the symbols that answer, the packets that were put into the store, and those
+-- that were acknowledged
 pub record Streamed : Type 0 where
   pub port : PortState
   pub replies : List Fields

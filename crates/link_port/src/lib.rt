@@ -13,8 +13,8 @@
 //! - [`Taken`] and [`Burst`]: what a character did, and what a turn sends
 //! - [`PortFace`]: the eight lists of packets that the layer above sees
 //! - [`PlainPort`] and [`pass`]: a port with no protocol, whose packets pass at once
-//! - [`one_character_has_one_reply`], [`answers_are_read_from_any_place`] and [`characters_do_what_they_say`]: laws; the
-//!   calls do nothing
+//! - [`one_character_has_one_reply`], [`answers_are_read_from_any_place`] and
+//!   [`characters_do_what_they_say`]: laws; the calls do nothing
 #![tactic(auto)]
 
 mod acts;
@@ -27,6 +27,8 @@ mod laws;
 mod output_half;
 mod plain;
 mod port;
+#[cfg(test)]
+mod run_tests;
 #[cfg(test)]
 mod scenario_tests;
 mod taken;

@@ -156,6 +156,7 @@ impl Port {
         ensures port { IsPort self.new }
     {
         self.bounds();
+        // The half is moved out and led on; the placeholder is never read.
         let output = mem::replace(&mut self.output, Output::Failed(OutFailed));
         let (output, sends) = output.turn(&self.queued);
         self.output = output;
@@ -169,6 +170,7 @@ impl Port {
         ensures state { self.new ≡ timed_out self.old }
         ensures port { IsPort self.new }
     {
+        // The half is moved out and led on; the placeholder is never read.
         let output = mem::replace(&mut self.output, Output::Failed(OutFailed));
         self.output = output.time_out();
         self.bounds();
