@@ -28,7 +28,7 @@ use Rattle.link_rest.proofs.Signals.{fed_none, answered_none}
 -- ---- what a delivery is by the tables
 
 -- what is true of a delivery of which every event was sent
-abbrev OnFlow : (Flow → Type 0) → Delivered → Type 0
+abbrev pub OnFlow : (Flow → Type 0) → Delivered → Type 0
 OnFlow P (Through flow) = P flow
 OnFlow P (Undetected told e) = Unit {0}
 
@@ -67,7 +67,7 @@ come_led (placed ∷ events) flow =
     ]
 
 -- the port and its answers are those of the tables
-abbrev IsFed : PortState → List Char → Flow → Type 0
+abbrev pub IsFed : PortState → List Char → Flow → Type 0
 IsFed port chars flow = (flow.port ≡ fed port chars) × (flow.told.replies ≡ answered port chars)
 
 ended_led : (port : PortState) (kept : List Event) (chars : List Char) (events : List Event) (count : ℕ) (d : Delivered) → events ≡ said port.place chars
@@ -79,7 +79,7 @@ ended_led port kept chars events count (Through flow) is h = (
 )
 ended_led port kept chars events count (Undetected told e) is h = tt
 
-by_tables : (port : PortState) (kept : List Event) (chars : List Char) → OnFlow (IsFed port chars) (delivered port kept chars)
+pub by_tables : (port : PortState) (kept : List Event) (chars : List Char) → OnFlow (IsFed port chars) (delivered port kept chars)
 by_tables port kept chars =
     ended_led port kept chars (events_of (run port.place 0 chars)) _ (come (run port.place 0 chars) (begun port kept)) refl
     (come_led (run port.place 0 chars) (begun port kept))

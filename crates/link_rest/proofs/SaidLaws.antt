@@ -30,7 +30,7 @@ said_from from at n (c ∷ cs) =
     ∙ (λ i. (placed_away at (step from c).gives ∙ sym (placed_away n (step from c).gives)) i ++ said_from (step from c).place (suc at) (suc n) cs i)
     ∙ sym (map-append (λ (p : ℕ × Event). p.1) (placed n (step from c).gives) (run (step from c).place (suc n) cs))
 
-said-append : (from : Place) (xs cs : List Char) → said from (xs ++ cs) ≡ said from xs ++ said (place_after from xs) cs
+pub said-append : (from : Place) (xs cs : List Char) → said from (xs ++ cs) ≡ said from xs ++ said (place_after from xs) cs
 said-append from xs cs =
     let n = length xs in
     ap events_of (run-append from 0 (0 + n) xs cs refl)

@@ -1,0 +1,183 @@
+-- What the lines of set-up give, and the laws of runs from there.
+use Rattle.std.proofs.Common.{◌≡◌, ◌≢◌, ℕ, ◌++◌, Bool, true, false, List, [], ◌∷◌, Some, None, refl, sym, ap, ◌∙◌, subst, arith, if◌then◌else◌}
+use Rattle.link_model.specs.Output as out
+use Rattle.link_port.specs.Ports.{new_port}
+use Rattle.link_sound.specs.Histories.{AreBuffers}
+use Rattle.link_machine.specs.States.{link, empty_wires}
+use Rattle.link_machine.proofs.Machine.{new_sound, none_failed}
+use Rattle.link_rest.specs.Acts.{Reached, At, Found as FoundAt, OnState, goes, acts_notes}
+use Rattle.link_rest.specs.Rest.{IsSettled}
+use Rattle.link_rest.proofs.Settled.{settling_rests}
+use Rattle.link_machine.specs.Sound.{IsSoundLink}
+use Rattle.fabric_script.specs.declared.ports.PortRef.{PortRef}
+use Rattle.fabric_script.specs.declared.lines.Line.{Line}
+use Rattle.fabric_script.specs.declared.lines.Line.TheVariants.{Endpoint, Link, Buffers}
+use Rattle.fabric_script.specs.declared.lines.Numbered.{Numbered}
+use Rattle.fabric_model.specs.Network.{Network, same_port}
+use Rattle.fabric_model.specs.Steps.{Step, LegalFrom}
+use Rattle.fabric_model.specs.Laws.Lawful.{Lawful}
+use Rattle.fabric_model.proofs.Freeing.{freed_after_held}
+use Rattle.fabric_model.proofs.Holding.{holding_exactly}
+use Rattle.fabric_model.proofs.Leaving.{once, unchanged}
+use Rattle.fabric_model.proofs.Order.{in_order}
+use Rattle.fabric_model.proofs.Peers.{set_up_proper}
+use Rattle.fabric_trace.specs.Lines.{TraceLine, steps_of}
+use Rattle.fabric_trace.specs.Views.{packets_in}
+use Rattle.fabric_trace.specs.Known.{Seen, peer_of, port_at, link_at}
+use Rattle.fabric_trace.specs.Fold.{says, seen}
+use Rattle.fabric_trace.specs.Blocks.{lines_of, IsSettle}
+use Rattle.fabric_trace.specs.Runs.{bare, set_up, set_up_all, begins, start, Runs}
+use Rattle.fabric_trace.specs.Links.{IsLink, AreLinks}
+use Rattle.fabric_trace.specs.Parts.{Made}
+use Rattle.fabric_trace.specs.SetUps.{IsSetUp, MaySetUp, MaySetUpAll}
+use Rattle.link_model.specs.Places.{start as place_start}
+use Rattle.link_model.proofs.PlacesLaws.{place_after-none}
+use Rattle.fabric_trace.specs.Ends.{EndsAs}
+use Rattle.fabric_trace.specs.Holds.{HoldsCame}
+use Rattle.fabric_trace.proofs.Coming.{none_within}
+use Rattle.fabric_trace.proofs.Ending.{runs_end}
+use Rattle.fabric_trace.proofs.HoldsRead.{made_read}
+use Rattle.fabric_trace.specs.Faithful.{Faithful}
+use Rattle.fabric_trace.specs.Wires.{WireFold}
+use Rattle.fabric_trace.proofs.Faith.{faithful}
+use Rattle.fabric_trace.proofs.Wiring.{made_fold}
+use Rattle.fabric_model.proofs.Joining.{legal_parts}
+use Rattle.fabric_trace.proofs.Folding.{seen-append, network_is}
+use Rattle.fabric_trace.proofs.Keeping.{steps_of-append, IsGood, good_peers, made_keeps}
+use Rattle.fabric_trace.proofs.Making.{Reaches}
+use Rattle.fabric_trace.proofs.Running.{acts_reach, runs_made}
+use Rattle.fabric_trace.proofs.Viewing.{is_link}
+
+-- ---- set-up
+
+buffers_if : (own : Bool) (n m : ℕ) → AreBuffers n → AreBuffers m → AreBuffers (if own then n else m)
+buffers_if own n m first second = elim own as (λ x. AreBuffers (if x then n else m)) [ true ↦ first | false ↦ second ]
+
+set_up_one : (net : Network) (line : Line) → IsSetUp net → MaySetUp net line → IsSetUp (set_up net line)
+set_up_one net (Endpoint name id) is may = record {
+  empty = record { received = is.empty.received; waiting = is.empty.waiting; lent = is.empty.lent; given = is.empty.given };
+  proper = is.proper;
+  buffers = is.buffers;
+}
+set_up_one net (Link a b) is may = record {
+  empty = record { received = is.empty.received; waiting = is.empty.waiting; lent = is.empty.lent; given = is.empty.given };
+  proper = set_up_proper net (Link a b) is.proper may;
+  buffers = is.buffers;
+}
+set_up_one net (Buffers port n) is may = record {
+  empty = record { received = is.empty.received; waiting = is.empty.waiting; lent = is.empty.lent; given = is.empty.given };
+  proper = is.proper;
+  buffers = λ p. buffers_if (same_port p port) n (net.buffers p) may (is.buffers p);
+}
+set_up_one net _ is may = is
+
+pub set_up_from : (net : Network) (script : List Numbered) → IsSetUp net → MaySetUpAll net script → IsSetUp (set_up_all net script)
+set_up_from net [] is may = is
+set_up_from net (line ∷ script) is may = set_up_from (set_up net line.line) script (set_up_one net line.line is may.0) may.1
+
+pub set_up_bare : (script : List Numbered) → MaySetUpAll bare script → IsSetUp (set_up_all bare script)
+set_up_bare script may =
+    set_up_from bare script (record {
+      empty = record { received = λ p r. refl; waiting = λ p r. refl; lent = λ p. refl; given = refl };
+      proper = tt;
+      buffers = λ p. (omega arith, omega arith);
+    }) may
+
+begins_link : (net : Network) (a b : PortRef) → IsSetUp net → IsLink (begins net) a b
+begins_link net a b is =
+    let empty = is.empty in
+    is_link (begins net) a b (link empty_wires (new_port (net.buffers a)) (new_port (net.buffers b)))
+    (new_sound (net.buffers a) (net.buffers b) (is.buffers a) (is.buffers b))
+    (record {
+      queues = λ i. record {
+        lent_a = packets_in (empty.lent a i);
+        waiting_a = packets_in (empty.waiting a 0 i) ∷ packets_in (empty.waiting a 1 i) ∷ packets_in (empty.waiting a 2 i) ∷ packets_in (empty.waiting a 3 i) ∷ [];
+        received_a = record { lists = packets_in (empty.received a 0 i) ∷ packets_in (empty.received a 1 i) ∷ packets_in (empty.received a 2 i) ∷ packets_in (empty.received a 3 i) ∷ []; buffers = net.buffers a };
+        lent_b = packets_in (empty.lent b i);
+        waiting_b = packets_in (empty.waiting b 0 i) ∷ packets_in (empty.waiting b 1 i) ∷ packets_in (empty.waiting b 2 i) ∷ packets_in (empty.waiting b 3 i) ∷ [];
+        received_b = record { lists = packets_in (empty.received b 0 i) ∷ packets_in (empty.received b 1 i) ∷ packets_in (empty.received b 2 i) ∷ packets_in (empty.received b 3 i) ∷ []; buffers = net.buffers b };
+      };
+      half_a = refl;
+      half_b = refl;
+      wire_a = refl;
+      wire_b = refl;
+    })
+    (record { left = []; found = refl }) (record { left = []; found = refl })
+
+good_start : (net : Network) → IsSetUp net → IsGood (begins net)
+good_start net is = record {
+  reached = record { start = net; steps = []; empty = is.empty; legal = refl };
+  proper = is.proper;
+  links = λ none a b peer. begins_link net a b is;
+}
+
+-- ---- the laws
+
+pub made : (script : List Numbered) (lines : List TraceLine) → MaySetUpAll bare script → Runs script lines → Made (start script) lines
+made script lines may runs = runs_made script (start script) lines (good_start (set_up_all bare script) (set_up_bare script may)) refl runs
+
+pub legal : (net : Network) (lines : List TraceLine) → IsSetUp net → Made (begins net) lines → LegalFrom net (steps_of lines) (seen (begins net) lines).network
+legal net lines is all = (made_keeps (good_start net is) all).legal
+
+pub lawful : (net : Network) (lines : List TraceLine) → IsSetUp net → Made (begins net) lines → Lawful net (steps_of lines) (seen (begins net) lines).network
+lawful net lines is all =
+    let steps = steps_of lines in
+    let end = (seen (begins net) lines).network in
+    let own = legal net lines is all in
+    record {
+      legal = own;
+      holding_exactly = holding_exactly net steps end is.empty own;
+      once = once net steps end is.empty own;
+      unchanged = unchanged net steps end is.empty own;
+      freed_after_held = freed_after_held net steps end is.empty own;
+      in_order = in_order net steps end is.empty is.proper own;
+    }
+
+pub links_sound : (net : Network) (lines : List TraceLine) → IsSetUp net → Made (begins net) lines → (seen (begins net) lines).unfaithful ≡ None → AreLinks (seen (begins net) lines)
+links_sound net lines is all none = (made_keeps (good_start net is) all).good.links none
+
+pub never_failed : (net : Network) (lines : List TraceLine) (p q : PortRef) → IsSetUp net → Made (begins net) lines → (seen (begins net) lines).unfaithful ≡ None
+    → peer_of (seen (begins net) lines) p ≡ Some q → (port_at (seen (begins net) lines) p).output ≢ out.Output.Failed
+never_failed net lines p q is all none peer = (none_failed (link_at (seen (begins net) lines) p q) (links_sound net lines is all none p q peer).sound).0
+
+-- where a link has come to, by how far it has come
+settled_by : (s : Seen) (a b : PortRef) (lines : List TraceLine) (to : Reached) → Reaches s a b lines to → (seen s lines).unfaithful ≡ None → OnState IsSettled to → IsSettled (link_at (seen s lines) a b)
+settled_by s a b lines (At m) r none settled = subst IsSettled (sym (r.there m refl).1) settled
+settled_by s a b lines (FoundAt side e) r none settled = absurd (cc (r.found side e refl, none))
+
+settled_only : (to : Reached) → OnState (λ m. IsSoundLink m × IsSettled m) to → OnState IsSettled to
+settled_only (At m) both = both.1
+settled_only (FoundAt side e) both = tt
+
+pub settled : (net : Network) (before block : List TraceLine) (a b : PortRef) → IsSetUp net → Made (begins net) before → peer_of (seen (begins net) before) a ≡ Some b
+    → (seen (begins net) before).unfaithful ≡ None → IsSettle (seen (begins net) before) a b block → (seen (begins net) (before ++ block)).unfaithful ≡ None
+    → IsSettled (link_at (seen (begins net) (before ++ block)) a b)
+settled net before block a b is all peer none settles still =
+    let s = seen (begins net) before in
+    let good = (made_keeps (good_start net is) all).good in
+    let peers = good_peers a b good peer in
+    let reach = acts_reach settles.acts s a b good none peers in
+    let there : seen (begins net) (before ++ block) ≡ seen s (lines_of a b (acts_notes (At (link_at s a b)) settles.acts)) = seen-append (begins net) before block ∙ ap (seen s) settles.lines in
+    subst (λ (x : Seen). IsSettled (link_at x a b)) (sym there)
+    (settled_by s a b _ (goes (At (link_at s a b)) settles.acts) reach (ap (λ (x : Seen). x.unfaithful) (sym there) ∙ still)
+    (settled_only _ (settling_rests (link_at s a b) settles.acts (good.links none a b peer).sound settles.settles)))
+
+pub wires_fold : (net : Network) (lines : List TraceLine) → IsSetUp net → Made (begins net) lines → WireFold net.links (λ p. []) lines
+wires_fold net lines is all = made_fold net.links refl (good_start net is) all
+
+pub always_faithful : (net : Network) (lines : List TraceLine) → Faithful (begins net) lines
+always_faithful net lines = faithful (begins net) lines (λ p. record { left = []; found = refl })
+
+-- the steps of a front are legal
+pub front_legal : (net : Network) (front rest : List TraceLine) → IsSetUp net → Made (begins net) (front ++ rest) → LegalFrom net (steps_of front) (seen (begins net) front).network
+front_legal net front rest is all =
+    let whole = legal net (front ++ rest) is all in
+    let parts = legal_parts net (steps_of front) (steps_of rest) _ (subst (λ (x : List Step). LegalFrom net x (seen (begins net) (front ++ rest)).network) (steps_of-append front rest) whole) in
+    subst (LegalFrom net (steps_of front)) (sym (network_is (begins net) front)) parts.0
+
+pub holds_came : (net : Network) (lines : List TraceLine) (q : PortRef) → IsSetUp net → Made (begins net) lines → HoldsCame q lines
+holds_came net lines q is all =
+    (made_read [] q (good_start net is) all (record { within = none_within (says []); place = λ none. sym (place_after-none place_start); expected = λ none. refl })).within
+
+pub ends_as : (script : List Numbered) (lines : List TraceLine) → Runs script lines → EndsAs (start script) lines
+ends_as script lines runs = runs_end script (start script) lines refl runs

@@ -1,0 +1,217 @@
+-- A script has at most one trace: each part of a run determines its lines.
+use Rattle.std.proofs.Common.{◌≡◌, ℕ, Bool, true, false, not, List, [], ◌∷◌, ◌++◌, Option, Some, None, MatchBool, sym, ap, ◌∙◌, subst, append_assoc}
+use Rattle.rio_packets.specs.Fields.{body_of}
+use Rattle.rio_packets.proofs.FormLaws.{LinkForm-one}
+use Rattle.link_watch.specs.declared.side.Side.{Side}
+use Rattle.link_watch.specs.declared.side.Side.TheVariants.{A, B}
+use Rattle.link_rest.specs.Schedules.{NextOf, WhereOf, Is, LoopOf, Rests, GoesOn, Leaves as LeavesLoop}
+use Rattle.link_rest.specs.Acts.{Pump as PumpAct, Fire, Reached, At, goes, holds, acts_notes}
+use Rattle.link_rest.specs.Settling.{of_end, first_has_chars, first_rests, is_retry_stopped, has_failed, may_fire, waits, all_chars, Empties, is_busy, Drains, TakesTurn, Restarts, TimesOut, Requests, Recovers, SendsAll, Settles}
+use Rattle.fabric_script.specs.declared.ports.PortRef.{PortRef}
+use Rattle.fabric_script.specs.declared.lines.Line.{Line}
+use Rattle.fabric_script.specs.declared.lines.Line.TheVariants.{Endpoint, Switch, Link, Buffers, Route, Default, Lock, Send, Read, Write, Pump, Deliver, Alter, Insert, Erase, Timeout, Settle, Move, Collect, Run}
+use Rattle.fabric_script.specs.declared.lines.Numbered.{Numbered}
+use Rattle.fabric_model.specs.Network.{base_of, link_in, port_of, next_packet}
+use Rattle.fabric_model.specs.Laws.Freeing.{IsFront}
+use Rattle.fabric_trace.specs.Lines.{TraceLine, Begun}
+use Rattle.fabric_trace.specs.Known.{Found, Seen, peer_of, link_at}
+use Rattle.fabric_trace.specs.Fold.{seen}
+use Rattle.fabric_trace.specs.Blocks.{takes, IsSend, Leaves, pumps, delivers, times_out, lines_of, IsSettle, WithPeer, WithLink, IsBlock}
+use Rattle.fabric_trace.specs.Runs.{start, has_block, Follows, BlockThen, Names, NamesNothing, RunsFrom, Runs, BlocksFrom, Begins}
+
+-- no two lists are of this kind
+abbrev pub AtMostOne : {L : Type 0} → (List L → Type 0) → Type 0
+AtMostOne {L} P = (x y : List L) → P x → P y → x ≡ y
+
+-- ---- schedules
+
+next_one : {S L : Type 0} (go : S → List L → S) (First Then : S → List L → Type 0) → ((s : S) → AtMostOne (First s)) → ((s : S) → AtMostOne (Then s)) → (s : S) → AtMostOne (NextOf go First Then s)
+next_one go First Then one two s x y p q =
+    let first = one s p.0 q.0 p.3 q.3 in
+    let rest = two (go s q.0) p.1 q.1 (subst (λ l. Then (go s l) p.1) first p.4) q.4 in
+    cc
+
+-- one of two kinds, as a test says
+match_one : {L : Type 0} (test : Bool) (P Q : List L → Type 0) → AtMostOne P → AtMostOne Q → AtMostOne (λ x. MatchBool test (P x) (Q x))
+match_one true P Q one_p one_q = one_p
+match_one false P Q one_p one_q = one_q
+
+where_one : {S L : Type 0} (test : S → Bool) (P : S → List L → Type 0) → ((s : S) → AtMostOne (P s)) → (s : S) → AtMostOne (WhereOf test P s)
+where_one test P one s = match_one (test s) (P s) (λ all. all ≡ []) (one s) (λ x y f g. f ∙ sym g)
+
+is_one : {S L : Type 0} (things : S → List L) (s : S) → AtMostOne (Is things s)
+is_one things s x y f g = f ∙ sym g
+
+loop_one : {S L : Type 0} (go : S → List L → S) (test : S → Bool) (P : S → List L → Type 0) (leaves : S → Bool) (Last : S → List L → Type 0)
+    → ((s : S) → AtMostOne (P s)) → ((s : S) → AtMostOne (Last s))
+    → {s : S} {x y : List L} → LoopOf go test P leaves Last s x → LoopOf go test P leaves Last s y → x ≡ y
+loop_one go test P leaves Last one two (Rests t e) (Rests u f) = e ∙ sym f
+loop_one go test P leaves Last one two (Rests t e) (GoesOn first rest u a f l w) = absurd (cc)
+loop_one go test P leaves Last one two (Rests t e) (LeavesLoop first rest u a f l w) = absurd (cc)
+loop_one go test P leaves Last one two (GoesOn first rest t a e l w) (Rests u f) = absurd (cc)
+loop_one go test P leaves Last one two {s} (GoesOn first rest t a e l w) (GoesOn first2 rest2 u b f m v) =
+    let same = one s first2 first b a in
+    let after = loop_one go test P leaves Last one two w (subst (λ x. LoopOf go test P leaves Last (go s x) rest2) same v) in
+    cc
+loop_one go test P leaves Last one two {s} (GoesOn first rest t a e l w) (LeavesLoop first2 rest2 u b f m v) =
+    let same = one s first2 first b a in
+    absurd (cc)
+loop_one go test P leaves Last one two (LeavesLoop first rest t a e l w) (Rests u f) = absurd (cc)
+loop_one go test P leaves Last one two {s} (LeavesLoop first rest t a e l w) (GoesOn first2 rest2 u b f m v) =
+    let same = one s first2 first b a in
+    absurd (cc)
+loop_one go test P leaves Last one two {s} (LeavesLoop first rest t a e l w) (LeavesLoop first2 rest2 u b f m v) =
+    let same = one s first2 first b a in
+    let last = two (go s first) rest rest2 w (subst (λ x. Last (go s x) rest2) same v) in
+    cc
+
+-- ---- settling
+
+empties_one : (side : Side) (s : Reached) → AtMostOne (Empties side s)
+empties_one side = where_one (of_end side first_has_chars) (Is (all_chars side)) (is_one (all_chars side))
+
+drains_one : (s : Reached) → AtMostOne (Drains s)
+drains_one s x y f g =
+    loop_one goes is_busy (NextOf goes (Empties A) (Empties B)) (λ reached. false) (Is (λ reached. []))
+    (next_one goes (Empties A) (Empties B) (empties_one A) (empties_one B)) (is_one (λ reached. [])) f g
+
+turn_one : (side : Side) (s : Reached) → AtMostOne (TakesTurn side s)
+turn_one side =
+    next_one goes (WhereOf (holds (λ link. true)) (Is (λ reached. PumpAct side 1 ∷ []))) Drains
+    (where_one (holds (λ link. true)) (Is (λ reached. PumpAct side 1 ∷ [])) (is_one (λ reached. PumpAct side 1 ∷ []))) drains_one
+
+restarts_one : (side : Side) (s : Reached) → AtMostOne (Restarts side s)
+restarts_one side = where_one (of_end side (λ link. is_retry_stopped link.a.output)) (TakesTurn side) (turn_one side)
+
+fires_one : (side : Side) (s : Reached) → AtMostOne (TimesOut side s)
+fires_one side =
+    where_one (of_end side (λ link. may_fire link.a.output)) (Is (λ reached. Fire side ∷ [])) (is_one (λ reached. Fire side ∷ []))
+
+requests_one : (side : Side) (s : Reached) → AtMostOne (Requests side s)
+requests_one side =
+    where_one (of_end side (λ link. not (first_rests link))) (NextOf goes (TimesOut side) (TakesTurn side))
+    (next_one goes (TimesOut side) (TakesTurn side) (fires_one side) (turn_one side))
+
+recovers_one : (side : Side) (s : Reached) → AtMostOne (Recovers side s)
+recovers_one side =
+    where_one (of_end side (λ link. not (has_failed link.a.output))) (NextOf goes (Restarts side) (Requests side))
+    (next_one goes (Restarts side) (Requests side) (restarts_one side) (requests_one side))
+
+sends_one : (side : Side) (s : Reached) → AtMostOne (SendsAll side s)
+sends_one side =
+    where_one (of_end side first_rests)
+    (LoopOf goes (of_end side (λ link. waits link.a)) (TakesTurn side) (of_end side (λ link. is_retry_stopped link.a.output)) (TakesTurn side))
+    (λ s x y f g. loop_one goes (of_end side (λ link. waits link.a)) (TakesTurn side) (of_end side (λ link. is_retry_stopped link.a.output)) (TakesTurn side) (turn_one side) (turn_one side) f g)
+
+settles_one : (s : Reached) → AtMostOne (Settles s)
+settles_one =
+    next_one goes Drains (NextOf goes (Recovers A) (NextOf goes (Recovers B) (NextOf goes (SendsAll A) (SendsAll B)))) drains_one
+    (next_one goes (Recovers A) (NextOf goes (Recovers B) (NextOf goes (SendsAll A) (SendsAll B))) (recovers_one A)
+    (next_one goes (Recovers B) (NextOf goes (SendsAll A) (SendsAll B)) (recovers_one B)
+    (next_one goes (SendsAll A) (SendsAll B) (sends_one A) (sends_one B))))
+
+-- ---- blocks
+
+send_one : (s : Seen) (node prio ftype dest : ℕ) (rest : List ℕ) → AtMostOne (IsSend s node prio ftype dest rest)
+send_one s node prio ftype dest rest x y p q =
+    p.lines ∙ (ap (takes s node) (LinkForm-one (body_of prio ftype dest (base_of s.network node) rest) p.packet q.packet p.form q.form) ∙ sym q.lines)
+
+leaves_one : (node : ℕ) (packet : Option (List ℕ)) → AtMostOne (Leaves node packet)
+leaves_one node None x y f g = f ∙ sym g
+leaves_one node (Some packet) x y f g = f.1 ∙ sym g.1
+
+settle_one : (s : Seen) (a b : PortRef) → AtMostOne (IsSettle s a b)
+settle_one s a b x y p q =
+    p.lines ∙ (ap (λ acts. lines_of a b (acts_notes (At (link_at s a b)) acts)) (settles_one (At (link_at s a b)) p.acts q.acts p.settles q.settles) ∙ sym q.lines)
+
+peer_one : (peer : Option PortRef) (lines : PortRef → List TraceLine) → AtMostOne (WithPeer peer lines)
+peer_one None lines x y f g = absurd f
+peer_one (Some q) lines x y f g = f ∙ sym g
+
+link_one : (link : Option (PortRef × PortRef)) (Block : PortRef → PortRef → List TraceLine → Type 0) → ((a b : PortRef) → AtMostOne (Block a b)) → AtMostOne (WithLink link Block)
+link_one None Block one x y f g = absurd f
+link_one (Some link) Block one x y f g = one link.0 link.1 x y f g
+
+pub block_one : (line : Line) (s : Seen) → AtMostOne (IsBlock s line)
+block_one (Endpoint name id) s x y f g = absurd f
+block_one (Switch name ports) s x y f g = absurd f
+block_one (Link a b) s x y f g = absurd f
+block_one (Buffers port n) s x y f g = absurd f
+block_one (Route node id p) s x y f g = absurd f
+block_one (Default node p) s x y f g = absurd f
+block_one (Lock node id) s x y f g = absurd f
+block_one (Send node prio ftype dest hex) s x y f g = send_one s node prio ftype dest hex x y f g
+block_one (Read node prio dest hop tid offset) s x y f g = absurd f
+block_one (Write node prio dest hop tid offset value) s x y f g = absurd f
+block_one (Pump port n) s x y f g = peer_one (peer_of s port) (pumps s port n) x y f g
+block_one (Deliver port n) s x y f g = peer_one (peer_of s port) (delivers s port n) x y f g
+block_one (Alter port place ch) s x y f g = f ∙ sym g
+block_one (Insert port place ch) s x y f g = f ∙ sym g
+block_one (Erase port place n) s x y f g = f ∙ sym g
+block_one (Timeout port) s x y f g = peer_one (peer_of s port) (times_out s port) x y f g
+block_one (Settle port) s x y f g = link_one (link_in s.network.links port) (IsSettle s) (settle_one s) x y f g
+block_one (Move node) s x y f g = absurd f
+block_one (Collect node) s x y f g = leaves_one node (next_packet (s.network.received (port_of node))) x y f.1 g.1
+block_one (Run n) s x y f g = absurd f
+
+-- ---- runs
+
+follows_one : (found : Option Found) (More : List TraceLine → Type 0) (Last : Found → List TraceLine → Type 0)
+    → AtMostOne More → ((e : Found) → AtMostOne (Last e)) → AtMostOne (Follows found More Last)
+follows_one None More Last one two = one
+follows_one (Some e) More Last one two = two e
+
+event_one : (s : Seen) (line : Line) (More : Seen → List TraceLine → Type 0) (Last : Found → List TraceLine → Type 0)
+    → ((t : Seen) → AtMostOne (More t)) → ((e : Found) → AtMostOne (Last e)) → AtMostOne (BlockThen More Last s line)
+event_one s line More Last one two x y p q =
+    let block = block_one line s p.0 q.0 p.3 q.3 in
+    let t = seen s (Begun line ∷ q.0) in
+    let rest = follows_one t.unfaithful (More t) Last (one t) two p.1 q.1
+    (subst (λ l. Follows (seen s (Begun line ∷ l)).unfaithful (More (seen s (Begun line ∷ l))) Last p.1) block p.4) q.4 in
+    cc
+
+pub runs_from_one : (script : List Numbered) (s : Seen) → AtMostOne (RunsFrom s script)
+runs_from_one [] s x y f g = f ∙ sym g
+runs_from_one (line ∷ script) s x y f g =
+    match_one (has_block line.line)
+    (BlockThen (λ t rest. RunsFrom t script rest) (Names line.number) s line.line) (RunsFrom s script)
+    (event_one s line.line (λ t rest. RunsFrom t script rest) (Names line.number) (runs_from_one script) (λ e a b h k. h ∙ sym k))
+    (runs_from_one script s) x y f g
+
+pub runs_one : (script : List Numbered) → AtMostOne (Runs script)
+runs_one script = runs_from_one script (start script)
+
+-- by a test, of two facts of the same kind
+by_test : {P Q P' Q' C : Type 0} (test : Bool) → (P → P' → C) → (Q → Q' → C) → MatchBool test P Q → MatchBool test P' Q' → C
+by_test true f g x y = f x y
+by_test false f g x y = g x y
+
+nothing_is_front : {L : Type 0} (x y : List L) → x ≡ [] → IsFront x y
+nothing_is_front x y none = (y, ap (λ l. l ++ y) (sym none))
+
+follows_front : (found : Option Found) (Near Far : List TraceLine → Type 0) (number : ℕ) (x y : List TraceLine)
+    → ((a b : List TraceLine) → Near a → Far b → IsFront a b) → Follows found Near NamesNothing x → Follows found Far (Names number) y → IsFront x y
+follows_front None Near Far number x y front p q = front x y p q
+follows_front (Some e) Near Far number x y front p q = nothing_is_front x y p
+
+-- where the blocks behind an event are a front, they and the event's own are
+event_front : (s : Seen) (line : Line) (number : ℕ) (Near Far : Seen → List TraceLine → Type 0) (x y : List TraceLine)
+    → ((t : Seen) (a b : List TraceLine) → Near t a → Far t b → IsFront a b)
+    → BlockThen Near NamesNothing s line x → BlockThen Far (Names number) s line y → IsFront x y
+event_front s line number Near Far x y front p q =
+    let block = block_one line s p.0 q.0 p.3 q.3 in
+    let t = seen s (Begun line ∷ q.0) in
+    let behind = follows_front t.unfaithful (Near t) (Far t) number p.1 q.1 (front t)
+    (subst (λ l. Follows (seen s (Begun line ∷ l)).unfaithful (Near (seen s (Begun line ∷ l))) NamesNothing p.1) block p.4) q.4 in
+    (behind.0, cc (append_assoc (Begun line ∷ p.0) p.1 behind.0))
+
+blocks_front : (done rest : List Numbered) (s : Seen) (x y : List TraceLine) → BlocksFrom s done x → RunsFrom s (done ++ rest) y → IsFront x y
+blocks_front [] rest s x y p q = nothing_is_front x y p
+blocks_front (line ∷ done) rest s x y p q =
+    by_test (has_block line.line)
+    (event_front s line.line line.number (λ t a. BlocksFrom t done a) (λ t b. RunsFrom t (done ++ rest) b) x y (blocks_front done rest))
+    (blocks_front done rest s x y) p q
+
+pub first_blocks_front : (script : List Numbered) (lines all : List TraceLine) → Begins script lines → Runs script all → IsFront lines all
+first_blocks_front script lines all begins runs =
+    blocks_front begins.done begins.rest (start script) lines all begins.blocks (subst (λ x. RunsFrom (start script) x all) begins.whole runs)

@@ -1,0 +1,101 @@
+-- A small run is one, and the laws fail of lines that they must not allow.
+use Rattle.std.proofs.Common.{◌≡◌, ◌≢◌, List, [], ◌∷◌, ◌++◌, Some, refl, sym, subst, if◌then◌else◌}
+use Rattle.rio_chars.specs.declared.chars.Char.{Char}
+use Rattle.link_model.specs.declared.event.Event.{Event}
+use Rattle.link_rest.specs.Rest.{IsSettled}
+use Rattle.link_buffers.specs.Priorities.{highest_below}
+use Rattle.link_wires.specs.Kept.{IsSubsequence}
+use Rattle.link_wires.specs.Kept.IsSubsequence.{Ends, Takes, Skips}
+use Rattle.link_wires.specs.Wires.{turned, bursts}
+use Rattle.link_model.specs.Window.{window}
+use Rattle.link_model.specs.Places.{run}
+use Rattle.fabric_model.specs.Network.{Network, same_port}
+use Rattle.fabric_model.specs.Steps.{LegalFrom}
+use Rattle.fabric_trace.specs.Lines.{Empty, Short, Early, Fired, Signed, Lacked, steps_of}
+use Rattle.fabric_trace.specs.Known.{link_at}
+use Rattle.fabric_trace.specs.Fold.{seen}
+use Rattle.fabric_trace.specs.Runs.{bare, begins, Runs}
+use Rattle.fabric_trace.specs.Faithful.{IsFaithful}
+use Rattle.fabric_trace.specs.Holds.{HoldsCame}
+use Rattle.fabric_trace.specs.SetUps.{MaySetUpAll}
+use Rattle.fabric_trace.specs.Wires.{WireFold}
+use Rattle.fabric_trace.specs.Examples.{near, far, pair, idle_script, idle_trace, joined_with_itself, held_from_nowhere, got_from_nowhere, got_another, still_under_way, acted_from_nowhere}
+use Rattle.fabric_trace.proofs.Folding.{says_none}
+
+pub idle_runs : Runs idle_script idle_trace
+unfolding bursts turned highest_below run window
+idle_runs = (
+  [],
+  _,
+  refl,
+  refl,
+  (
+    Lacked Short ∷ [],
+    _,
+    refl,
+    refl,
+    (
+      Lacked Short ∷ [],
+      _,
+      refl,
+      refl,
+      (
+        Signed (Fired near) ∷ [],
+        _,
+        refl,
+        refl,
+        (
+          [],
+          _,
+          refl,
+          refl,
+          (
+            Lacked Early ∷ [],
+            _,
+            refl,
+            refl,
+            (
+              Lacked Empty ∷ [],
+              _,
+              refl,
+              (refl, refl),
+              refl,
+            ),
+          ),
+        ),
+      ),
+    ),
+  ),
+)
+
+pub joined_breaks : MaySetUpAll bare joined_with_itself → ⊥
+joined_breaks may = absurd (cc may.0.0)
+
+pub held_breaks : (end : Network) → LegalFrom pair (steps_of held_from_nowhere) end → ⊥
+held_breaks end legal = absurd (cc legal.0.2)
+
+-- nothing has something within it
+no_more : {e : Event} {all xs ys : List Event} → IsSubsequence xs ys → xs ≡ e ∷ all → ys ≡ [] → ⊥
+no_more Ends is nothing = absurd cc
+no_more (Takes x rest) is nothing = absurd cc
+no_more (Skips x rest) is nothing = absurd cc
+
+pub came_breaks : HoldsCame far held_from_nowhere → ⊥
+came_breaks came = no_more came refl says_none
+
+pub got_breaks : WireFold pair.links (λ p. []) got_from_nowhere → ⊥
+got_breaks fold = absurd (cc fold.0.stands)
+
+pub another_breaks : (sent other : Char) → sent ≢ other → WireFold pair.links (λ p. []) (got_another sent other) → ⊥
+another_breaks sent other apart fold =
+    let peer : Some near ≡ Some fold.1.0.peer = fold.1.0.peer_is in
+    let one : near ≡ fold.1.0.peer = cc in
+    let stands = subst (λ p. (if same_port p near then ([] ++ sent ∷ []) else []) ≡ other ∷ fold.1.0.behind) (sym one) fold.1.0.stands in
+    apart (cc stands)
+
+pub moving_breaks : IsSettled (link_at (seen (begins pair) still_under_way) near far) → ⊥
+moving_breaks settled = absurd (cc settled.quiet.wire_a)
+
+pub acted_breaks : IsFaithful acted_from_nowhere near far [] → ⊥
+unfolding run
+acted_breaks faithful = no_more faithful.acted refl refl

@@ -1,0 +1,5 @@
+use Rattle.fabric_trace.proofs.Starting.{ends_as}
+use Rattle.fabric_trace.proofs.laws.a_trace_ends.Goals as goal
+
+pub returns : goal.returns
+returns c = ends_as

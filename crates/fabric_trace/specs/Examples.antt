@@ -1,0 +1,83 @@
+-- A small run, and lines of which the laws do not hold.
+use Rattle.std.specs.Prelude.{List, [], ◌∷◌}
+use Rattle.rio_chars.specs.declared.chars.Char.{Char}
+use Rattle.rio_chars.specs.declared.chars.Char.TheVariants.{Invalid}
+use Rattle.link_model.specs.declared.event.Event.TheVariants.{Pkt}
+use Rattle.fabric_script.specs.declared.ports.PortRef.{PortRef}
+use Rattle.fabric_script.specs.declared.lines.Line.TheVariants.{Endpoint, Link, Pump, Deliver, Alter, Insert, Timeout, Collect}
+use Rattle.fabric_script.specs.declared.lines.Numbered.{Numbered}
+use Rattle.fabric_model.specs.Network.{Network, port_of}
+use Rattle.fabric_model.specs.Steps.{Hold, Linked}
+use Rattle.fabric_trace.specs.Lines.{Empty, Short, Early, Sent, Got, Fired, TraceLine, Begun, Stepped, Signed, Lacked, Ended}
+use Rattle.fabric_trace.specs.Known.{Seen}
+use Rattle.fabric_trace.specs.Runs.{bare, set_up_all, begins}
+
+-- the ports of two endpoints
+abbrev pub near : PortRef
+near = port_of 0
+
+abbrev pub far : PortRef
+far = port_of 1
+
+-- two endpoints and a link between them
+abbrev pub pair_lines : List Numbered
+pair_lines =
+    record { number = 1; line = Endpoint 0 0 }
+    ∷ record { number = 2; line = Endpoint 1 1 }
+    ∷ record { number = 3; line = Link near far }
+    ∷ []
+
+abbrev pub pair : Network
+pair = set_up_all bare pair_lines
+
+-- A port with nothing to send takes a turn; characters are asked for, and one is altered, that do not stand on the wire;
+-- a time-out fires; a character comes in, so that the next does not; nothing is held.
+abbrev pub idle_script : List Numbered
+idle_script =
+    record { number = 1; line = Endpoint 0 0 }
+    ∷ record { number = 2; line = Endpoint 1 1 }
+    ∷ record { number = 3; line = Link near far }
+    ∷ record { number = 4; line = Pump near 1 }
+    ∷ record { number = 5; line = Deliver near 1 }
+    ∷ record { number = 6; line = Alter far 0 Invalid }
+    ∷ record { number = 7; line = Timeout near }
+    ∷ record { number = 8; line = Insert far 0 Invalid }
+    ∷ record { number = 9; line = Timeout near }
+    ∷ record { number = 10; line = Collect 1 }
+    ∷ []
+
+abbrev pub idle_trace : List TraceLine
+idle_trace =
+    Begun (Pump near 1)
+    ∷ Begun (Deliver near 1) ∷ Lacked Short
+    ∷ Begun (Alter far 0 Invalid) ∷ Lacked Short
+    ∷ Begun (Timeout near) ∷ Signed (Fired near)
+    ∷ Begun (Insert far 0 Invalid)
+    ∷ Begun (Timeout near) ∷ Lacked Early
+    ∷ Begun (Collect 1) ∷ Lacked Empty
+    ∷ Ended
+    ∷ []
+
+-- a port of a link line is joined with itself
+abbrev pub joined_with_itself : List Numbered
+joined_with_itself = record { number = 1; line = Link near near } ∷ []
+
+-- a packet is held that nobody sent
+abbrev pub held_from_nowhere : List TraceLine
+held_from_nowhere = Stepped (Linked (Hold far [])) ∷ []
+
+-- a port gets a character that was not on the wire
+abbrev pub got_from_nowhere : List TraceLine
+got_from_nowhere = Signed (Got far (Invalid ∷ [])) ∷ []
+
+-- a port gets another character than its peer sent
+abbrev pub got_another : Char → Char → List TraceLine
+got_another sent other = Signed (Sent near (sent ∷ [])) ∷ Signed (Got far (other ∷ [])) ∷ []
+
+-- a character is still on its way
+abbrev pub still_under_way : List TraceLine
+still_under_way = Signed (Sent near (Invalid ∷ [])) ∷ []
+
+-- a packet was acted on that nobody sent
+abbrev pub acted_from_nowhere : Seen
+acted_from_nowhere = record (begins pair) { wires = λ p. record { chars = []; sent = []; acted = Pkt 0 [] ∷ [] } }

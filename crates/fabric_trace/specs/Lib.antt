@@ -1,0 +1,15 @@
+pub mod Lines
+pub mod Text
+pub mod Views
+pub mod Known
+pub mod Fold
+pub mod Blocks
+pub mod Runs
+pub mod Links
+pub mod Parts
+pub mod SetUps
+pub mod Wires
+pub mod Faithful
+pub mod Holds
+pub mod Ends
+pub mod Examples

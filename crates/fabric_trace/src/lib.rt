@@ -1,0 +1,30 @@
+//! What a trace over ports is, for any number of endpoints and links, and the laws of what a run shows.
+//!
+//! The crate has no running code. `specs` has the definitions:
+//!
+//! - `Lines`, `Text`: the lines of a trace, the steps that they say, and their text;
+//! - `Views`, `Known`: a port as the step tables see it, with its packets where the plain network has them; wires; and
+//!   what is known after lines;
+//! - `Fold`: the one fold that reads a trace, by its lines alone;
+//! - `Blocks`: which lines each event makes, from what is known before it;
+//! - `Runs`: what a trace of a script is; `SetUps`: which networks the lines of set-up may give;
+//! - `Parts`: what may stand in a trace, whatever script it is of;
+//! - `Links`, `Wires`, `Holds`, `Faithful`, `Ends`: what is true of each link, of the characters that a port got, of the
+//!   packets that it holds, of the events that it acted on, and of the last line;
+//! - `Examples`: a small run, and lines that the laws do not allow.
+//!
+//! The functions state the laws, as contracts of empty bodies. They speak of every script, or of all lines that are made of
+//! parts, from a network without a packet on.
+//!
+//! Left out: the lines of a script that are not built yet, which have no block; and that a trace exists.
+#![tactic(auto)]
+
+mod examples;
+mod laws;
+
+pub use examples::{laws_can_fail, small_run};
+pub use laws::{
+    a_trace_ends, acted_events_were_sent, first_blocks_are_a_front, links_stay_sound, one_trace,
+    runs_are_made, set_up, settling_leaves_a_link_at_rest, steps_are_legal,
+    what_a_port_got_was_on_the_wire, what_a_port_holds_came_to_it,
+};
