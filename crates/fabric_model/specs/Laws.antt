@@ -1,5 +1,5 @@
--- The laws of legal steps: each speaks of every list of steps that is legal from an empty network, and of the network
--- definitions alone. `Settling` is what a link that has settled leaves.
+-- The laws of legal steps: each speaks of every list of steps that is legal from an empty network,
+-- and of the network definitions alone. `Settling` is what a link that has settled leaves.
 pub mod History
 pub mod Holding
 pub mod Leaving

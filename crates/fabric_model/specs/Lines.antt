@@ -8,7 +8,8 @@ pub data Lack : Type 0 where
   Full : Lack
   Empty : Lack
 
--- an event of the script begins; a step of the network; an event that found nothing to do; the trace ends
+-- an event of the script begins; a step of the network; an event that found nothing to do; the
+-- trace ends
 pub data TraceLine : Type 0 where
   Begun : Line → TraceLine
   Stepped : Step → TraceLine

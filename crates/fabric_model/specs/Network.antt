@@ -3,8 +3,8 @@ use Rattle.std.specs.Prelude.{ℕ, ◌+◌, ◌-◌, Bool, ◌&&◌, ◌==◌, n
 use Rattle.rio_packets.specs.Fields.{prio_of}
 use Rattle.fabric_script.specs.declared.ports.PortRef.{PortRef}
 
--- A packet in the network: the number that it was given, the port where it was taken and what it was then, and what
--- it is now. A packet is the list of its bytes.
+-- A packet in the network: the number that it was given, the port where it was taken and what it
+-- was then, and what it is now. A packet is the list of its bytes.
 pub record Item : Type 0 where
   pub number : ℕ
   pub port : PortRef
@@ -19,9 +19,10 @@ pub record Registers : Type 0 where
 abbrev pub Lanes : Type 0
 Lanes = PortRef → ℕ → List Item
 
--- For each port and priority, the packets that it has received and those that wait there to be sent; for each port,
--- the packets that the next hop holds and it has not freed yet, and how many receive buffers it has. The links are
--- pairs of ports, in the order of their lines. `given` counts the numbers that were given out.
+-- For each port and priority, the packets that it has received and those that wait there to be
+-- sent; for each port, the packets that the next hop holds and it has not freed yet, and how many
+-- receive buffers it has. The links are pairs of ports, in the order of their lines. `given` counts
+-- the numbers that were given out.
 pub record Network : Type 0 where
   pub received : Lanes
   pub waiting : Lanes
@@ -49,12 +50,14 @@ with_lent lent p items q = if same_port q p then items else lent q
 -- the other end of a port's link
 abbrev pub peer_in : List (PortRef × PortRef) → PortRef → Option PortRef
 peer_in [] p = None
-peer_in (link ∷ links) p = if same_port link.0 p then Some link.1 else (if same_port link.1 p then Some link.0 else peer_in links p)
+peer_in (link ∷ links) p = if same_port link.0 p then Some link.1
+    else (if same_port link.1 p then Some link.0 else peer_in links p)
 
 -- the link of a port, its first end first
 abbrev pub link_in : List (PortRef × PortRef) → PortRef → Option (PortRef × PortRef)
 link_in [] p = None
-link_in (link ∷ links) p = if same_port link.0 p then Some link else (if same_port link.1 p then Some link else link_in links p)
+link_in (link ∷ links) p = if same_port link.0 p then Some link
+    else (if same_port link.1 p then Some link else link_in links p)
 
 -- the packet of the first item
 abbrev pub first_packet : List Item → Option (List ℕ)
@@ -73,8 +76,8 @@ next_packet lanes = first_packet (in_turn lanes)
 abbrev pub held : Network → PortRef → ℕ
 held net p = length (in_turn (net.received p))
 
--- A port has room to receive a packet of priority r where more than 3 - r buffers are free, so that no priority can
--- fill the buffers which a higher one needs.
+-- A port has room to receive a packet of priority r where more than 3 - r buffers are free, so that
+-- no priority can fill the buffers which a higher one needs.
 abbrev pub room_in : Network → PortRef → ℕ → Bool
 room_in net p r = nat_lt (held net p + (3 - r)) (net.buffers p)
 
@@ -84,7 +87,8 @@ places = 16
 
 -- how many packets of a priority a port has to be sent: those that wait, and those that are lent
 abbrev pub to_send : Network → PortRef → ℕ → ℕ
-to_send net p r = length (net.waiting p r) + length (filter (λ item. prio_of item.now == r) (net.lent p))
+to_send net p r =
+    length (net.waiting p r) + length (filter (λ item. prio_of item.now == r) (net.lent p))
 
 abbrev pub room_out : Network → PortRef → ℕ → Bool
 room_out net p r = nat_lt (to_send net p r) places

@@ -22,7 +22,8 @@ bare = record {
 
 -- the network with one more line of set-up
 abbrev pub set_up : Network → Line → Network
-set_up net (Endpoint name id) = record net { registers = net.registers ++ record { base = id } ∷ [] }
+set_up net (Endpoint name id) =
+    record net { registers = net.registers ++ record { base = id } ∷ [] }
 set_up net (Link a b) = record net { links = net.links ++ (a, b) ∷ [] }
 set_up net _ = net
 
@@ -36,13 +37,15 @@ start script = record { network = set_up_all bare script }
 
 -- the line that an event begins with, its block, and what comes behind
 abbrev pub BlockThen : (Seen → List TraceLine → Type 0) → Seen → Line → List TraceLine → Type 0
-BlockThen Behind s line lines = (block : List TraceLine) × (rest : List TraceLine) × (lines ≡ (Begun line ∷ block) ++ rest)
+BlockThen Behind s line lines =
+    (block : List TraceLine) × (rest : List TraceLine) × (lines ≡ (Begun line ∷ block) ++ rest)
     × IsBlock (seen_line s (Begun line)) line block × Behind (seen s (Begun line ∷ block)) rest
 
 -- For each event in turn, the line that it begins with and its block; then the last line.
 abbrev pub RunsFrom : Seen → List Numbered → List TraceLine → Type 0
 RunsFrom s [] lines = lines ≡ Ended ∷ []
-RunsFrom s (line ∷ script) lines = MatchBool (has_block line.line) (BlockThen (λ t rest. RunsFrom t script rest) s line.line lines) (RunsFrom s script lines)
+RunsFrom s (line ∷ script) lines = MatchBool (has_block line.line)
+    (BlockThen (λ t rest. RunsFrom t script rest) s line.line lines) (RunsFrom s script lines)
 
 -- the lines are a trace of the script
 abbrev pub Runs : List Numbered → List TraceLine → Type 0
@@ -51,7 +54,8 @@ Runs script lines = RunsFrom (start script) script lines
 -- The same with no last line: what a trace begins with.
 abbrev pub BlocksFrom : Seen → List Numbered → List TraceLine → Type 0
 BlocksFrom s [] lines = lines ≡ []
-BlocksFrom s (line ∷ script) lines = MatchBool (has_block line.line) (BlockThen (λ t rest. BlocksFrom t script rest) s line.line lines) (BlocksFrom s script lines)
+BlocksFrom s (line ∷ script) lines = MatchBool (has_block line.line)
+    (BlockThen (λ t rest. BlocksFrom t script rest) s line.line lines) (BlocksFrom s script lines)
 
 -- the lines are the blocks of the first events of the script
 pub record Begins (script : List Numbered) (lines : List TraceLine) : Type 0 where

@@ -10,10 +10,14 @@ use Rattle.fabric_model.specs.Lines.{Full, Empty, TraceLine, Begun, Stepped, Lac
 
 -- the text of a step, without its line feed
 abbrev pub step_text : List (List ℕ) → Step → List ℕ
-step_text names (Linked (Hold q packet)) = codes "hold " ++ port_text names q ++ codes " " ++ hex_of packet
-step_text names (Linked (Free p packet)) = codes "free " ++ port_text names p ++ codes " " ++ hex_of packet
-step_text names (AtNode (Take n packet)) = codes "take " ++ name_of names n ++ codes " " ++ hex_of packet
-step_text names (AtNode (Leave n packet)) = codes "leave " ++ name_of names n ++ codes " " ++ hex_of packet
+step_text names (Linked (Hold q packet)) =
+    codes "hold " ++ port_text names q ++ codes " " ++ hex_of packet
+step_text names (Linked (Free p packet)) =
+    codes "free " ++ port_text names p ++ codes " " ++ hex_of packet
+step_text names (AtNode (Take n packet)) =
+    codes "take " ++ name_of names n ++ codes " " ++ hex_of packet
+step_text names (AtNode (Leave n packet)) =
+    codes "leave " ++ name_of names n ++ codes " " ++ hex_of packet
 
 -- the text of a trace's line, with its line feed
 abbrev pub trace_line_text : List (List ℕ) → TraceLine → List ℕ

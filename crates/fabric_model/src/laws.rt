@@ -1,7 +1,8 @@
 //! The laws of the plain network, each as the contract of a function with an empty body.
 //!
-//! A law speaks of every script, of every list of steps that is legal from an empty network, or of every block that
-//! settles a link: of any number of nodes, ports and priorities, and of any buffers.
+//! A law speaks of every script, of every list of steps that is legal from an empty network, or of
+//! every block that settles a link: of any number of nodes, ports and priorities, and of any
+//! buffers.
 
 ghost use Rattle.std.specs.Prelude.{List, Some, ◌≡◌, ◌++◌};
 ghost use Rattle.fabric_script.specs.declared.lines.Numbered.{Numbered};
@@ -25,48 +26,60 @@ ghost use Rattle.fabric_model.specs.Laws.Settling.{IsSettled};
 /// A script has at most one trace.
 #[tactic(auto, using(crate::proofs::Unique::runs_one))]
 pub fn one_trace()
-    ensures { (script : List Numbered) (a b : List TraceLine) → Runs script a → Runs script b → a ≡ b }
+    ensures { (script : List Numbered) (a b : List TraceLine) → Runs script a → Runs script b
+        → a ≡ b }
 {}
 
 /// The blocks of a script's first events are a front of any trace of it.
 pub fn first_blocks_are_a_front()
-    ensures { (script : List Numbered) (lines all : List TraceLine) → Begins script lines → Runs script all → IsFront lines all }
+    ensures { (script : List Numbered) (lines all : List TraceLine) → Begins script lines
+        → Runs script all → IsFront lines all }
 {}
 
-/// The network holds exactly the packets taken: each number that was given out stands in exactly one place, in one list
-/// of a port and a priority or among those that have left.
+/// The network holds exactly the packets taken: each number that was given out stands in exactly
+/// one place, in one list of a port and a priority or among those that have left.
 pub fn holding_exactly()
-    ensures { (start : Network) (steps : List Step) (end : Network) → IsEmptyNetwork start → LegalFrom start steps end → HoldingExactly start steps end }
+    ensures { (start : Network) (steps : List Step) (end : Network) → IsEmptyNetwork start
+        → LegalFrom start steps end → HoldingExactly start steps end }
 {}
 
 /// No packet leaves twice.
 pub fn once()
-    ensures { (start : Network) (steps : List Step) (end : Network) → IsEmptyNetwork start → LegalFrom start steps end → Once start steps }
+    ensures { (start : Network) (steps : List Step) (end : Network) → IsEmptyNetwork start
+        → LegalFrom start steps end → Once start steps }
 {}
 
 /// What leaves is what was taken.
 pub fn unchanged()
-    ensures { (start : Network) (steps : List Step) (end : Network) → IsEmptyNetwork start → LegalFrom start steps end → Unchanged start steps }
+    ensures { (start : Network) (steps : List Step) (end : Network) → IsEmptyNetwork start
+        → LegalFrom start steps end → Unchanged start steps }
 {}
 
 /// No port frees a packet before the next hop holds it.
 pub fn freed_after_held()
-    ensures { (start : Network) (steps : List Step) (end : Network) → IsEmptyNetwork start → LegalFrom start steps end → FreedAfterHeld start steps }
+    ensures { (start : Network) (steps : List Step) (end : Network) → IsEmptyNetwork start
+        → LegalFrom start steps end → FreedAfterHeld start steps }
 {}
 
-/// Of two items of one flow the one that was taken first leaves first, where each port stands in at most one link.
+/// Of two items of one flow the one that was taken first leaves first, where each port stands in at
+/// most one link.
 pub fn in_order()
-    ensures { (start : Network) (steps : List Step) (end : Network) → IsEmptyNetwork start → AreProper start.links → LegalFrom start steps end → InOrder start steps }
+    ensures { (start : Network) (steps : List Step) (end : Network) → IsEmptyNetwork start
+        → AreProper start.links → LegalFrom start steps end → InOrder start steps }
 {}
 
-/// The same of any two items that were taken at one port with one priority, so of flows that are told apart by less.
+/// The same of any two items that were taken at one port with one priority, so of flows that are
+/// told apart by less.
 pub fn in_order_of_priority()
-    ensures { (start : Network) (steps : List Step) (end : Network) → IsEmptyNetwork start → AreProper start.links → LegalFrom start steps end → EarlierFirst SamePriority start steps }
+    ensures { (start : Network) (steps : List Step) (end : Network) → IsEmptyNetwork start
+        → AreProper start.links → LegalFrom start steps end
+        → EarlierFirst SamePriority start steps }
 {}
 
 /// Each list of a network holds packets of its own priority alone.
 pub fn by_priority()
-    ensures { (start : Network) (steps : List Step) (end : Network) → IsEmptyNetwork start → LegalFrom start steps end → ByPriority end }
+    ensures { (start : Network) (steps : List Step) (end : Network) → IsEmptyNetwork start
+        → LegalFrom start steps end → ByPriority end }
 {}
 
 /// A port never has more than 16 packets of a priority to be sent, those that are lent among them.
@@ -75,29 +88,37 @@ pub fn places_suffice()
         → IsEmptyNetwork start → LegalFrom start steps end → HasPlaces end }
 {}
 
-/// Settling a link leaves nothing that could pass over it: at each end nothing waits, or the packet whose turn it is has
-/// no room at the other.
+/// Settling a link leaves nothing that could pass over it: at each end nothing waits, or the packet
+/// whose turn it is has no room at the other.
 pub fn settled()
-    ensures { (s : Seen) (port : Port) (link : Port × Port) (block : List TraceLine) → AreProper s.network.links → link_in s.network.links port ≡ Some link → IsSettle s port block
-        → IsSettled (seen s block).network link.0 link.1 × IsSettled (seen s block).network link.1 link.0 }
+    ensures { (s : Seen) (port : Port) (link : Port × Port) (block : List TraceLine)
+        → AreProper s.network.links → link_in s.network.links port ≡ Some link
+        → IsSettle s port block
+        → IsSettled (seen s block).network link.0 link.1
+        × IsSettled (seen s block).network link.1 link.0 }
 {}
 
 /// Legal steps from one network end in one network.
 pub fn one_end()
-    ensures { (start : Network) (steps : List Step) (a b : Network) → LegalFrom start steps a → LegalFrom start steps b → a ≡ b }
+    ensures { (start : Network) (steps : List Step) (a b : Network) → LegalFrom start steps a
+        → LegalFrom start steps b → a ≡ b }
 {}
 
-/// The steps of joined lines are the steps joined. The parts of a legal list of steps are legal, each front among them,
-/// and two legal lists are legal together.
+/// The steps of joined lines are the steps joined. The parts of a legal list of steps are legal,
+/// each front among them, and two legal lists are legal together.
 pub fn joined()
     ensures lines { (a b : List TraceLine) → steps_of (a ++ b) ≡ steps_of a ++ steps_of b }
-    ensures parts { (start : Network) (a b : List Step) (end : Network) → LegalFrom start (a ++ b) end → LegalFrom start a (after_all start a) × LegalFrom (after_all start a) b end }
-    ensures whole { (start : Network) (a b : List Step) (mid end : Network) → LegalFrom start a mid → LegalFrom mid b end → LegalFrom start (a ++ b) end }
+    ensures parts { (start : Network) (a b : List Step) (end : Network)
+        → LegalFrom start (a ++ b) end
+        → LegalFrom start a (after_all start a) × LegalFrom (after_all start a) b end }
+    ensures whole { (start : Network) (a b : List Step) (mid end : Network) → LegalFrom start a mid
+        → LegalFrom mid b end → LegalFrom start (a ++ b) end }
 {}
 
-/// The network that the lines of set-up give is empty. Its links are proper where each line that links joins two ports
-/// that no line before it links.
+/// The network that the lines of set-up give is empty. Its links are proper where each line that
+/// links joins two ports that no line before it links.
 pub fn set_up()
     ensures empty { (script : List Numbered) → IsEmptyNetwork (set_up_all bare script) }
-    ensures proper { (net : Network) (script : List Numbered) → AreProper net.links → SetUpIsProper net script → AreProper (set_up_all net script).links }
+    ensures proper { (net : Network) (script : List Numbered) → AreProper net.links
+        → SetUpIsProper net script → AreProper (set_up_all net script).links }
 {}

@@ -1,7 +1,7 @@
 //! What a fabric is and what a trace of it says, apart from any link protocol.
 //!
-//! A script's types are those of `fabric_script`. The crate has, in `specs/`, the definitions that the contracts above
-//! cite:
+//! A script's types are those of `fabric_script`. The crate has, in `specs/`, the definitions that
+//! the contracts above cite:
 //!
 //! - `Network`: plain first-in first-out queues, one for each port and priority on either side of a link;
 //! - `Steps`: what a packet's taking, holding, freeing and leaving need and do, and which lists of steps are legal;
@@ -12,13 +12,15 @@
 //! - `Runs`: what a trace of a script is;
 //! - `Laws`: what holds of every legal list of steps, and what settling leaves.
 //!
-//! The module `laws` has each law as the contract of a function with an empty body, for every script or every list of
-//! steps: a script has at most one trace, of which the blocks of its first events are a front; in the plain network
-//! packets are held exactly, leave once, unchanged and in order, and are freed after the next hop holds them; and
-//! settling leaves no packet that could pass.
+//! The module `laws` has each law as the contract of a function with an empty body, for every
+//! script or every list of steps: a script has at most one trace, of which the blocks of its first
+//! events are a front; in the plain network packets are held exactly, leave once, unchanged and in
+//! order, and are freed after the next hop holds them; and settling leaves no packet that could
+//! pass.
 //!
-//! It leaves out how packets cross a link: no ackID, symbol, window or retry stands here. Of the lines of a script it
-//! says what endpoints, links, `send`, `settle` and `collect` do. A script with another line has no trace here.
+//! It leaves out how packets cross a link: no ackID, symbol, window or retry stands here. Of the
+//! lines of a script it says what endpoints, links, `send`, `settle` and `collect` do. A script
+//! with another line has no trace here.
 #![tactic(auto)]
 
 mod examples;

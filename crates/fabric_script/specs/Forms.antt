@@ -3,8 +3,8 @@ use Rattle.std.specs.Prelude.{ℕ, List, [], ◌∷◌, codes}
 use Rattle.fabric_script.specs.declared.forms.Form.{Form}
 use Rattle.fabric_script.specs.declared.forms.Form.TheVariants.{Endpoint, Switch, Link, Buffers, Route, Default, Lock, Send, Read, Write, Pump, Deliver, Alter, Insert, Erase, Timeout, Settle, Move, Collect, Run}
 
--- The kinds of words: the name of a new node, of a node, a port, a number of a range with both its ends, bytes in
--- hexadecimal digits, so many hexadecimal digits, a character.
+-- The kinds of words: the name of a new node, of a node, a port, a number of a range with both its
+-- ends, bytes in hexadecimal digits, so many hexadecimal digits, a character.
 pub data Field : Type 0 where
   NewName : Field
   Node : Field
@@ -46,7 +46,8 @@ fields_of Default = Node ∷ Number 0 255 ∷ []
 fields_of Lock = Node ∷ Number 0 65535 ∷ []
 fields_of Send = Node ∷ Number 0 3 ∷ Number 0 15 ∷ Number 0 255 ∷ Hex ∷ []
 fields_of Read = Node ∷ Number 0 3 ∷ Number 0 255 ∷ Number 0 255 ∷ Number 0 255 ∷ Digits 6 ∷ []
-fields_of Write = Node ∷ Number 0 3 ∷ Number 0 255 ∷ Number 0 255 ∷ Number 0 255 ∷ Digits 6 ∷ Digits 8 ∷ []
+fields_of Write = Node ∷ Number 0 3 ∷ Number 0 255 ∷ Number 0 255 ∷ Number 0 255 ∷ Digits 6
+    ∷ Digits 8 ∷ []
 fields_of Pump = Port ∷ Number 1 100000 ∷ []
 fields_of Deliver = Port ∷ Number 1 100000 ∷ []
 fields_of Alter = Port ∷ Number 0 100000 ∷ Character ∷ []

@@ -9,8 +9,8 @@ use Rattle.fabric_script.specs.declared.lines.Line.TheVariants.{Endpoint, Switch
 use Rattle.fabric_script.specs.Names.{is_name, name_of}
 use Rattle.fabric_script.specs.Lines.{is_event}
 
--- The names of the nodes and what each is, in the order of their lines; the links; whether an event has come; and what
--- the events cost.
+-- The names of the nodes and what each is, in the order of their lines; the links; whether an event
+-- has come; and what the events cost.
 pub record Known : Type 0 where
   pub names : List (List ℕ)
   pub nodes : List Node
@@ -96,4 +96,5 @@ known_after known new line = record {
 -- The names are names, and no two are the same.
 pub record IsOrderly (known : Known) : Type 0 where
   pub named : (n : ℕ) → n < length known.names → is_name (name_of known.names n) ≡ true
-  pub apart : (m n : ℕ) → m < length known.names → n < length known.names → name_of known.names m ≡ name_of known.names n → m ≡ n
+  pub apart : (m n : ℕ) → m < length known.names → n < length known.names
+      → name_of known.names m ≡ name_of known.names n → m ≡ n

@@ -15,7 +15,9 @@ IsNext known (Switch name ports) = name ≡ length known.names
 IsNext known _ = Unit {0}
 
 -- The words of a form are taken, as what the line says: a word that a reason hits as anything.
-pub record TakesLine (known : Known) (form : Form) (left : Left) (line : Line) (left_after : Left) : Type 0 where
+pub record TakesLine (known : Known) (form : Form) (left : Left) (line : Line) (left_after : Left) :
+    Type 0 where
   pub is : form_of line ≡ form
   pub next : IsNext known line
-  pub takes : TakesAll known (fields_of form) (values_of (first_word left.words) line) left left_after
+  pub takes : TakesAll known (fields_of form) (values_of (first_word left.words) line) left
+      left_after

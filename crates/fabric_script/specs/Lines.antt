@@ -40,9 +40,12 @@ values_of new (Buffers port n) = AtPort port ∷ Counted n ∷ []
 values_of new (Route node id p) = AtNode node ∷ Counted id ∷ Counted p ∷ []
 values_of new (Default node p) = AtNode node ∷ Counted p ∷ []
 values_of new (Lock node id) = AtNode node ∷ Counted id ∷ []
-values_of new (Send node prio ftype dest hex) = AtNode node ∷ Counted prio ∷ Counted ftype ∷ Counted dest ∷ Bytes hex ∷ []
-values_of new (Read node prio dest hop tid offset) = AtNode node ∷ Counted prio ∷ Counted dest ∷ Counted hop ∷ Counted tid ∷ InDigits 6 offset ∷ []
-values_of new (Write node prio dest hop tid offset value) = AtNode node ∷ Counted prio ∷ Counted dest ∷ Counted hop ∷ Counted tid ∷ InDigits 6 offset ∷ InDigits 8 value ∷ []
+values_of new (Send node prio ftype dest hex) =
+    AtNode node ∷ Counted prio ∷ Counted ftype ∷ Counted dest ∷ Bytes hex ∷ []
+values_of new (Read node prio dest hop tid offset) =
+    AtNode node ∷ Counted prio ∷ Counted dest ∷ Counted hop ∷ Counted tid ∷ InDigits 6 offset ∷ []
+values_of new (Write node prio dest hop tid offset value) = AtNode node ∷ Counted prio
+    ∷ Counted dest ∷ Counted hop ∷ Counted tid ∷ InDigits 6 offset ∷ InDigits 8 value ∷ []
 values_of new (Pump port n) = AtPort port ∷ Counted n ∷ []
 values_of new (Deliver port n) = AtPort port ∷ Counted n ∷ []
 values_of new (Alter port place ch) = AtPort port ∷ Counted place ∷ Code ch ∷ []

@@ -30,7 +30,8 @@ pub record HasForm (form : Form) (text : List ℕ) : Type 0 where
   pub words : words_of text ≡ keyword_of form ∷ rest
   pub count : length rest ≡ length (fields_of form)
 
--- A line may be said of which a new node has this name: so may each of its words, and the node has the next number.
+-- A line may be said of which a new node has this name: so may each of its words, and the node has
+-- the next number.
 pub record MayBe (known : Known) (new : List ℕ) (line : Line) : Type 0 where
   pub fit : FitAll known (fields_of (form_of line)) (values_of new line)
   pub next : IsNext known line
@@ -40,13 +41,16 @@ pub record Says (known : Known) (text : List ℕ) (line : Line) : Type 0 where
   pub words : words_of text ≡ line_words known.names (new_name_in text line) line
   pub may : MayBe known (new_name_in text line) line
 
--- A reason hits a text: 1, it has no form; or the reason hits one of its words; or it says a line that the reason hits.
--- A reason that looks at the whole line is asked only where each word says something: else a lesser one hits a word,
--- since no form has both an entry, a pair of ports or an ID, which 6 to 8 look at, and a word that 9 could hit.
+-- A reason hits a text: 1, it has no form; or the reason hits one of its words; or it says a line
+-- that the reason hits. A reason that looks at the whole line is asked only where each word says
+-- something: else a lesser one hits a word, since no form has both an entry, a pair of ports or an
+-- ID, which 6 to 8 look at, and a word that 9 could hit.
 pub data HitsText (known : Known) (text : List ℕ) : Reason → Type 0 where
   NoForm : ((form : Form) → HasForm form text → ⊥) → HitsText known text UnknownLine
-  AWord : {reason : Reason} (form : Form) (has : HasForm form text) → HitsOne known reason (fields_of form) has.rest → HitsText known text reason
-  TheLine : {reason : Reason} (line : Line) → Says known text line → refuses known reason line ≡ true → HitsText known text reason
+  AWord : {reason : Reason} (form : Form) (has : HasForm form text)
+      → HitsOne known reason (fields_of form) has.rest → HitsText known text reason
+  TheLine : {reason : Reason} (line : Line) → Says known text line
+      → refuses known reason line ≡ true → HitsText known text reason
 
 -- no reason looks at the whole line and hits it
 abbrev pub IsFree : Known → Line → Type 0
@@ -60,8 +64,10 @@ pub record Spells (known : Known) (text : List ℕ) (line : Line) : Type 0 where
 -- the reason is the least that hits the text
 pub record LeastHit (known : Known) (text : List ℕ) (reason : Reason) : Type 0 where
   pub hits : HitsText known text reason
-  pub least : (other : Reason) → HitsText known text other → reason_number reason ≤ reason_number other
+  pub least : (other : Reason) → HitsText known text other
+      → reason_number reason ≤ reason_number other
 
 -- what a text was read as: its line, or why it is refused
 abbrev pub ReadsText : Known → List ℕ → Result Line Reason → Type 0
-ReadsText known text read = MatchResult read (λ line. Spells known text line) (λ reason. LeastHit known text reason)
+ReadsText known text read =
+    MatchResult read (λ line. Spells known text line) (λ reason. LeastHit known text reason)

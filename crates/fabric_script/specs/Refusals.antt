@@ -12,9 +12,11 @@ use Rattle.fabric_script.specs.Known.{Known, ports_of, is_switch, has_id, same_p
 abbrev pub is_outside : Known → ℕ → ℕ → Bool
 is_outside known node p = not (p == 255) && nat_le (ports_of known.nodes node) p
 
--- the lengths that data may have: an even number of bytes, not more than a packet takes; of a maintenance packet, those of its forms
+-- the lengths that data may have: an even number of bytes, not more than a packet takes; of a
+-- maintenance packet, those of its forms
 abbrev pub is_bad_length : ℕ → ℕ → Bool
-is_bad_length ftype count = not (count % 2 == 0) || nat_lt most_rest count || ((ftype == 8) && not (nat_le 6 count && nat_le count 70 && (count % 8 == 6)))
+is_bad_length ftype count = not (count % 2 == 0) || nat_lt most_rest count
+    || ((ftype == 8) && not (nat_le 6 count && nat_le count 70 && (count % 8 == 6)))
 
 -- 6: a port of a table is neither 255 nor one of the node's
 abbrev pub entry_is_outside : Known → Line → Bool
@@ -24,7 +26,8 @@ entry_is_outside known _ = false
 
 -- 7: a port has an earlier link, or both are one
 abbrev pub port_is_taken : Known → Line → Bool
-port_is_taken known (Link a b) = same_port a b || (is_linked known.links a || is_linked known.links b)
+port_is_taken known (Link a b) =
+    same_port a b || (is_linked known.links a || is_linked known.links b)
 port_is_taken known _ = false
 
 -- 8: an earlier endpoint has the device ID
@@ -70,7 +73,8 @@ makes_node _ = false
 
 -- 14: it is the 65th node, or the cost up to and with the line is above 100,000
 abbrev pub too_much_work : Known → Line → Bool
-too_much_work known line = (makes_node line && nat_le 64 (length known.names)) || nat_lt 100000 (known.cost + cost_of known.links line)
+too_much_work known line = (makes_node line && nat_le 64 (length known.names))
+    || nat_lt 100000 (known.cost + cost_of known.links line)
 
 -- a reason hits the line
 abbrev pub refuses : Known → Reason → Line → Bool

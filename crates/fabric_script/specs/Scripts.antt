@@ -20,9 +20,12 @@ is_skipped (byte ∷ bytes) = byte == 35
 
 -- What one piece that is kept spells, with those behind it.
 abbrev pub KeptThen : (Known → List Numbered → Type 0) → ℕ → Known → List ℕ → List Numbered → Type 0
-KeptThen Behind number known text lines = (line : Line) × (rest : List Numbered) × (lines ≡ record { number = number; line = line } ∷ rest) × Spells known text line × Behind (known_after known (new_name_in text line) line) rest
+KeptThen Behind number known text lines = (line : Line) × (rest : List Numbered)
+    × (lines ≡ record { number = number; line = line } ∷ rest) × Spells known text line
+    × Behind (known_after known (new_name_in text line) line) rest
 
--- The pieces, of which the first has this number, spell these lines after what is known, and so much is known at the end.
+-- The pieces, of which the first has this number, spell these lines after what is known, and so
+-- much is known at the end.
 abbrev pub SpellsFrom : ℕ → Known → List (List ℕ) → List Numbered → Known → Type 0
 SpellsFrom number known [] lines end = (lines ≡ []) × (end ≡ known)
 SpellsFrom number known (text ∷ texts) lines end = MatchBool (is_skipped text)
@@ -31,10 +34,11 @@ SpellsFrom number known (text ∷ texts) lines end = MatchBool (is_skipped text)
 
 -- the bytes spell a script of these names and lines
 abbrev pub IsScript : List ℕ → List (List ℕ) → List Numbered → Type 0
-IsScript bytes names lines = (end : Known) × (end.names ≡ names) × SpellsFrom 1 nothing (pieces_of bytes) lines end
+IsScript bytes names lines =
+    (end : Known) × (end.names ≡ names) × SpellsFrom 1 nothing (pieces_of bytes) lines end
 
--- The bytes are refused: this line, counted from 1, is the first that any reason hits, and this is the number of the
--- least that hits it.
+-- The bytes are refused: this line, counted from 1, is the first that any reason hits, and this is
+-- the number of the least that hits it.
 pub record RefusedAt (bytes : List ℕ) (line number : ℕ) : Type 0 where
   pub before : List (List ℕ)
   pub text : List ℕ
@@ -52,14 +56,17 @@ pub record RefusedAt (bytes : List ℕ) (line number : ℕ) : Type 0 where
 -- each line may be said and no reason hits it, and the names at the end are these
 abbrev pub PassesFrom : Known → List (List ℕ) → List Numbered → Type 0
 PassesFrom known names [] = known.names ≡ names
-PassesFrom known names (line ∷ lines) = MayBe known (new_name names line.line) line.line × IsFree known line.line
+PassesFrom known names (line ∷ lines) =
+    MayBe known (new_name names line.line) line.line × IsFree known line.line
     × PassesFrom (known_after known (new_name names line.line) line.line) names lines
 
--- A script passes: its names are those of the lines of its nodes, in their order, and no reason hits one of its lines.
+-- A script passes: its names are those of the lines of its nodes, in their order, and no reason
+-- hits one of its lines.
 abbrev pub Passes : List (List ℕ) → List Numbered → Type 0
 Passes names lines = PassesFrom nothing names lines
 
 -- the same lines, numbered anew from this number on
 abbrev pub renumbered : ℕ → List Numbered → List Numbered
 renumbered number [] = []
-renumbered number (line ∷ lines) = record { number = number; line = line.line } ∷ renumbered (suc number) lines
+renumbered number (line ∷ lines) =
+    record { number = number; line = line.line } ∷ renumbered (suc number) lines

@@ -21,7 +21,8 @@ abbrev pub digits_text : ℕ → ℕ → List ℕ
 digits_text zero n = []
 digits_text (suc count) n = digits_text count (n / 16) ++ hex_digit (n % 16) ∷ []
 
--- What a word says: a name, a node, a port, a number, bytes, a number in so many hexadecimal digits, a character.
+-- What a word says: a name, a node, a port, a number, bytes, a number in so many hexadecimal
+-- digits, a character.
 pub data Value : Type 0 where
   Named : List ℕ → Value
   AtNode : ℕ → Value

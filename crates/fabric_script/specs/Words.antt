@@ -24,7 +24,8 @@ words_left (Some text) = words_of text.now
 -- the lesser of the reason so far and one more
 abbrev pub with_reason : Option Reason → Reason → Option Reason
 with_reason None reason = Some reason
-with_reason (Some before) reason = if nat_le (reason_number before) (reason_number reason) then Some before else Some reason
+with_reason (Some before) reason =
+    if nat_le (reason_number before) (reason_number reason) then Some before else Some reason
 
 abbrev pub noted_by : {T : Type 0} → Option Reason → Result T Reason → Option Reason
 noted_by hit (Ok value) = hit
@@ -62,17 +63,24 @@ TakesWord known field value word hit hit_after =
     ⊎ ((reason : Reason) × Hits known reason field word × (hit_after ≡ with_reason hit reason))
 
 -- the same of the first word that is left; where none is, the line is unknown
-abbrev pub TakesFirst : Known → Field → Value → List (List ℕ) → Option Reason → List (List ℕ) → Option Reason → Type 0
-TakesFirst known field value [] hit words_after hit_after = (words_after ≡ []) × (hit_after ≡ Some UnknownLine)
-TakesFirst known field value (word ∷ words) hit words_after hit_after = (words_after ≡ words) × TakesWord known field value word hit hit_after
+abbrev pub TakesFirst : Known → Field → Value → List (List ℕ) → Option Reason → List (List ℕ)
+    → Option Reason → Type 0
+TakesFirst known field value [] hit words_after hit_after =
+    (words_after ≡ []) × (hit_after ≡ Some UnknownLine)
+TakesFirst known field value (word ∷ words) hit words_after hit_after =
+    (words_after ≡ words) × TakesWord known field value word hit hit_after
 
-pub record Takes (known : Known) (field : Field) (value : Value) (left left_after : Left) : Type 0 where
+pub record Takes (known : Known) (field : Field) (value : Value) (left left_after : Left) :
+    Type 0 where
   pub first : TakesFirst known field value left.words left.hit left_after.words left_after.hit
 
 -- words are taken, one after another, as values of these kinds
 pub data TakesAll (known : Known) : List Field → List Value → Left → Left → Type 0 where
   Done : {left : Left} → TakesAll known [] [] left left
-  More : {field : Field} {fields : List Field} {value : Value} {values : List Value} {left next last : Left} → Takes known field value left next → TakesAll known fields values next last → TakesAll known (field ∷ fields) (value ∷ values) left last
+  More : {field : Field} {fields : List Field} {value : Value} {values : List Value}
+      {left next last : Left} → Takes known field value left next
+      → TakesAll known fields values next last
+      → TakesAll known (field ∷ fields) (value ∷ values) left last
 
 -- a word was read as a number of a range, or is none
 abbrev pub ReadsNumber : List ℕ → ℕ → ℕ → Result ℕ Reason → Type 0

@@ -139,7 +139,8 @@ impl Known {
     /// The number of the node that a word names.
     pub(crate) fn read_node(&self, word: &[u8]) -> Result<u8, Reason>
         ensures { MatchResult result
-            (λ n. Fits self.now ANode (AtNode n) × (word.now ≡ value_text self.now.names (AtNode n)))
+            (λ n. Fits self.now ANode (AtNode n)
+            × (word.now ≡ value_text self.now.names (AtNode n)))
             (λ reason. Hits self.now reason ANode word.now) }
     {
         if !is_name(word) {
@@ -154,7 +155,8 @@ impl Known {
     /// The port that a word names.
     pub(crate) fn read_port(&self, word: &[u8]) -> Result<PortRef, Reason>
         ensures { MatchResult result
-            (λ p. Fits self.now APort (AtPort p) × (word.now ≡ value_text self.now.names (AtPort p)))
+            (λ p. Fits self.now APort (AtPort p)
+            × (word.now ≡ value_text self.now.names (AtPort p)))
             (λ reason. Hits self.now reason APort word.now) }
     {
         let Some((name, port)) = split_port(word) else {

@@ -1,7 +1,8 @@
 //! The script language: what a script may say, and which line of other text is refused, and why.
 //!
-//! `parse` answers the script that bytes spell, or the first line that any of fourteen reasons hits and the least such
-//! reason; `print` and `line_text` go the other way. The language stands in `specs/`, once for both directions:
+//! `parse` answers the script that bytes spell, or the first line that any of fourteen reasons hits
+//! and the least such reason; `print` and `line_text` go the other way. The language stands in
+//! `specs/`, once for both directions:
 //!
 //! - `Forms`: the keyword and the kinds of words of each kind of line;
 //! - `Names`, `Texts`, `Lines`: the text of each word, and the words of a line;
@@ -9,11 +10,13 @@
 //! - `Refusals`: the reasons that look at a whole line, after what `Known` says of the earlier ones;
 //! - `Reading`, `Scripts`: which lines and which bytes are spelled, and which are refused.
 //!
-//! The types are `Script`, its `Numbered` lines, `Line` and their parts `Name`, `Hex` and `PortRef`; `Reason`, `Refusal`
-//! and `ScriptEnd` say why there is no script. The module `laws` has each law as the contract of a function with an empty
-//! body: a text is one line at most, and no reason hits it then; bytes spell one script at most, or are refused once.
+//! The types are `Script`, its `Numbered` lines, `Line` and their parts `Name`, `Hex` and
+//! `PortRef`; `Reason`, `Refusal` and `ScriptEnd` say why there is no script. The module `laws` has
+//! each law as the contract of a function with an empty body: a text is one line at most, and no
+//! reason hits it then; bytes spell one script at most, or are refused once.
 //!
-//! It leaves out what a line does. Only the lines, the names and the bytes of a script take memory, and no word does.
+//! It leaves out what a line does. Only the lines, the names and the bytes of a script take memory,
+//! and no word does.
 #![tactic(auto)]
 
 mod forms;

@@ -29,8 +29,8 @@ pub fn line_text(alloc: Global, names: &[Name], line: &Line) -> Result<Vec<u8>, 
     }
 }
 
-/// The text of a script that passes: a line for each kept line, and no comments. Where it is not too
-/// long for `parse`, `parse` gives the same names and lines again, numbered anew.
+/// The text of a script that passes: a line for each kept line, and no comments. Where it is not
+/// too long for `parse`, `parse` gives the same names and lines again, numbered anew.
 pub fn print(alloc: Global, script: &Script) -> Result<Vec<u8>, NoMemory>
     requires { Passes script.now.names.items script.now.lines.items }
     ensures text { IfOk result (λ text. text.items

@@ -10,8 +10,8 @@ use std::alloc::AllocError;
 /// The most digits that a number has.
 const MOST_DIGITS: usize = 10;
 
-/// The number that a word spells: decimal, without leading zeros, up to 4,294,967,295; or None if it
-/// spells no such number.
+/// The number that a word spells: decimal, without leading zeros, up to 4,294,967,295; or None if
+/// it spells no such number.
 pub fn read_number(word: &[u8]) -> Option<u32>
     ensures { MatchOption result
         ((n : ℕ) → n < 2 ^ 32 → word.now ≢ decimal n)

@@ -49,13 +49,15 @@ impl<T: Drop> From<AllocFailed<T>> for ScriptEnd {
     }
 }
 
-/// The script that the bytes spell, of at most 16,777,216 bytes. A line ends with a line feed, which
-/// the last may lack. An empty line and one that begins with `#` are skipped and counted. What is
-/// answered passes. Refused names the first line that any reason hits, and the least that hits it.
+/// The script that the bytes spell, of at most 16,777,216 bytes. A line ends with a line feed,
+/// which the last may lack. An empty line and one that begins with `#` are skipped and counted.
+/// What is answered passes. Refused names the first line that any reason hits, and the least that
+/// hits it.
 pub fn parse(alloc: Global, bytes: &[u8]) -> Result<Script, ScriptEnd>
     requires { length bytes.now ≤ 16777216 }
     // What is answered is spelled so, and what is refused is refused so.
-    ensures script { IfOk result (λ script. IsScript bytes.now script.names.items script.lines.items) }
+    ensures script { IfOk result (λ script.
+        IsScript bytes.now script.names.items script.lines.items) }
     ensures passes { IfOk result (λ script. Passes script.names.items script.lines.items) }
     ensures refused { (refusal : _) → IsErrOf result (ScriptEnd.Refused refusal)
         → RefusedAt bytes.now refusal.line refusal.reason }

@@ -173,8 +173,8 @@ const SET_UP: &[u8] = b"\
     12 lock A 1|\
 ";
 
-/// The reason for which the last line of a text is refused, and 0 if the text is accepted. A refusal at another line
-/// is 99.
+/// The reason for which the last line of a text is refused, and 0 if the text is accepted. A
+/// refusal at another line is 99.
 fn reason_of(alloc: Global, before: &[u8], line: &[u8], number: u32) -> Result<u8, AllocError> {
     let mut text = Vec::new(alloc);
     text.extend_from_slice(before)?;
@@ -189,7 +189,8 @@ fn reason_of(alloc: Global, before: &[u8], line: &[u8], number: u32) -> Result<u
     })
 }
 
-/// How many of these rows are answered as they say. A row is two digits, a space and a line; a bar is behind it.
+/// How many of these rows are answered as they say. A row is two digits, a space and a line; a bar
+/// is behind it.
 fn passed(
     alloc: Global,
     before: &[u8],

@@ -14,8 +14,8 @@ has_block (Endpoint name id) = false
 has_block (Link a b) = false
 has_block _ = true
 
--- These are the lines of the event, which begins in this state. What the lines that are not named here do is not said
--- yet: nothing is their block, so a script with one of them has no trace.
+-- These are the lines of the event, which begins in this state. What the lines that are not named
+-- here do is not said yet: nothing is their block, so a script with one of them has no trace.
 abbrev pub IsBlock : Seen → Line → List TraceLine → Type 0
 IsBlock s (Send node prio ftype dest hex) block = IsSend s node prio ftype dest hex block
 IsBlock s (Settle port) block = IsSettle s port block

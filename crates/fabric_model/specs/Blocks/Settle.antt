@@ -32,7 +32,8 @@ PassesAll p q = WhileOf seen (can_pass p q) (IsPass p q)
 -- both ways over a link; nothing where there is none
 abbrev pub PassesBoth : Option (PortRef × PortRef) → Seen → List TraceLine → Type 0
 PassesBoth None s block = block ≡ []
-PassesBoth (Some link) s block = NextOf seen (PassesAll link.0 link.1) (PassesAll link.1 link.0) s block
+PassesBoth (Some link) s block =
+    NextOf seen (PassesAll link.0 link.1) (PassesAll link.1 link.0) s block
 
 abbrev pub IsSettle : Seen → PortRef → List TraceLine → Type 0
 IsSettle s port block = PassesBoth (link_in s.network.links port) s block

@@ -1,4 +1,5 @@
--- Small lists of steps: a worked run over one link, and for laws that can fail a list of which each does not hold.
+-- Small lists of steps: a worked run over one link, and for laws that can fail a list of which each
+-- does not hold.
 use Rattle.std.specs.Prelude.{ℕ, List, [], ◌∷◌}
 use Rattle.fabric_script.specs.declared.lines.Line.TheVariants.{Endpoint, Link, Send, Settle, Collect}
 use Rattle.fabric_script.specs.declared.lines.Numbered.{Numbered}
@@ -7,7 +8,8 @@ use Rattle.fabric_model.specs.Steps.{Hold, Free, Take, Leave, Step, Linked, AtNo
 use Rattle.fabric_model.specs.Lines.{TraceLine, Begun, Stepped, Ended}
 use Rattle.fabric_model.specs.Runs.{bare, set_up_all}
 
--- what follows the source ID in the body of a packet, and the packet: priority 0, format type 15, from device 1 to 2
+-- what follows the source ID in the body of a packet, and the packet: priority 0, format type 15,
+-- from device 1 to 2
 abbrev pub rest_of_body : List ℕ
 rest_of_body = 0xca ∷ 0xfe ∷ 0x00 ∷ 0x01 ∷ []
 
@@ -57,15 +59,18 @@ kept_too = record (after_all pair held_once) { waiting = λ p r. first ∷ [] }
 
 -- it leaves twice
 abbrev pub left_twice : List Step
-left_twice = AtNode (Take 0 packet) ∷ Linked (Hold (port_of 1) packet) ∷ AtNode (Leave 1 packet) ∷ AtNode (Leave 1 packet) ∷ []
+left_twice = AtNode (Take 0 packet) ∷ Linked (Hold (port_of 1) packet) ∷ AtNode (Leave 1 packet)
+    ∷ AtNode (Leave 1 packet) ∷ []
 
 -- it leaves as another
 abbrev pub left_as_other : List Step
-left_as_other = AtNode (Take 0 packet) ∷ Linked (Hold (port_of 1) packet) ∷ AtNode (Leave 1 other) ∷ []
+left_as_other = AtNode (Take 0 packet) ∷ Linked (Hold (port_of 1) packet) ∷ AtNode (Leave 1 other)
+    ∷ []
 
 -- it is freed before it is held
 abbrev pub freed_too_early : List Step
-freed_too_early = AtNode (Take 0 packet) ∷ Linked (Free (port_of 0) packet) ∷ Linked (Hold (port_of 1) packet) ∷ []
+freed_too_early = AtNode (Take 0 packet) ∷ Linked (Free (port_of 0) packet)
+    ∷ Linked (Hold (port_of 1) packet) ∷ []
 
 -- it waits, and there is room for it
 abbrev pub not_passed : List Step

@@ -6,8 +6,8 @@ use Rattle.fabric_model.specs.Steps.{Step}
 use Rattle.fabric_model.specs.Laws.History.{gone, WasTaken}
 use Rattle.fabric_model.specs.Laws.Holding.{how_often}
 
--- The items are of one flow. Each field reads what they were when they were taken, so that a further field makes flows
--- finer, and the law weaker.
+-- The items are of one flow. Each field reads what they were when they were taken, so that a
+-- further field makes flows finer, and the law weaker.
 pub record SameFlow (x y : Item) : Type 0 where
   pub port : x.port ≡ y.port
   pub source : source_of x.taken ≡ source_of y.taken
@@ -21,10 +21,12 @@ pub record SamePriority (x y : Item) : Type 0 where
   pub port : x.port ≡ y.port
   pub priority : prio_of x.taken ≡ prio_of y.taken
 
--- Of two items that are alike the one that was taken first leaves first: where the later one, y, has left, the earlier
--- one is among those that left before it.
+-- Of two items that are alike the one that was taken first leaves first: where the later one, y,
+-- has left, the earlier one is among those that left before it.
 abbrev pub EarlierFirst : (Item → Item → Type 0) → Network → List Step → Type 0
-EarlierFirst Alike start steps = (x y : Item) (before later : List Item) → WasTaken start steps x → gone start steps ≡ before ++ y ∷ later → Alike x y → x.number < y.number → 0 < how_often x.number before
+EarlierFirst Alike start steps = (x y : Item) (before later : List Item) → WasTaken start steps x
+    → gone start steps ≡ before ++ y ∷ later → Alike x y → x.number < y.number
+    → 0 < how_often x.number before
 
 pub record InOrder (start : Network) (steps : List Step) : Type 0 where
   pub earlier_first : EarlierFirst SameFlow start steps

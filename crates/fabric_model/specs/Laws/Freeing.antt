@@ -12,7 +12,8 @@ is_port p (Some q) = same_port p q
 
 -- the packet that the next hop of a port holds by a step
 abbrev pub held_from : PortRef → Network → Step → List (List ℕ)
-held_from p net (Linked (Hold q packet)) = if is_port p (peer_in net.links q) then packet ∷ [] else []
+held_from p net (Linked (Hold q packet)) =
+    if is_port p (peer_in net.links q) then packet ∷ [] else []
 held_from p net (Linked (Free q packet)) = []
 held_from p net (AtNode step) = []
 
@@ -27,6 +28,8 @@ abbrev pub IsFront : {A : Type 0} → List A → List A → Type 0
 IsFront {A} front all = (rest : List A) × (all ≡ front ++ rest)
 
 pub record FreedAfterHeld (start : Network) (steps : List Step) : Type 0 where
-  -- However far the steps have come, what a port has freed is, in order, a front of what its next hop has held: the
-  -- i-th free at a port comes after the i-th hold at its peer, and has its packet.
-  pub front : (done later : List Step) → steps ≡ done ++ later → (p : PortRef) → IsFront (gathered (freed_at p) start done) (gathered (held_from p) start done)
+  -- However far the steps have come, what a port has freed is, in order, a front of what its next
+  -- hop has held: the i-th free at a port comes after the i-th hold at its peer, and has its
+  -- packet.
+  pub front : (done later : List Step) → steps ≡ done ++ later → (p : PortRef)
+      → IsFront (gathered (freed_at p) start done) (gathered (held_from p) start done)

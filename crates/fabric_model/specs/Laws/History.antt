@@ -20,7 +20,8 @@ gathered each net (step ∷ steps) = each net step ++ gathered each (after net s
 -- the item that a step makes
 abbrev pub taken_by : Network → Step → List Item
 taken_by net (Linked step) = []
-taken_by net (AtNode (Take n packet)) = record { number = net.given; port = port_of n; taken = packet; now = packet } ∷ []
+taken_by net (AtNode (Take n packet)) =
+    record { number = net.given; port = port_of n; taken = packet; now = packet } ∷ []
 taken_by net (AtNode (Leave n packet)) = []
 
 -- the item that leaves the fabric by a step
@@ -39,4 +40,5 @@ gone net steps = gathered left_by net steps
 
 -- the item of this number was taken at this port as this packet
 abbrev pub WasTaken : Network → List Step → Item → Type 0
-WasTaken start steps item = slice_get (taken start steps) item.number ≡ Some (record item { now = item.taken })
+WasTaken start steps item =
+    slice_get (taken start steps) item.number ≡ Some (record item { now = item.taken })

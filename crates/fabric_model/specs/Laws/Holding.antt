@@ -6,8 +6,8 @@ use Rattle.fabric_model.specs.Network.{Item, Network, same_port}
 use Rattle.fabric_model.specs.Steps.{Step}
 use Rattle.fabric_model.specs.Laws.History.{taken, gone, WasTaken}
 
--- Where an item can stand: in a list of a port and a priority, or among those that have left. What is lent are
--- copies.
+-- Where an item can stand: in a list of a port and a priority, or among those that have left. What
+-- is lent are copies.
 pub data Place : Type 0 where
   Received : PortRef → ℕ → Place
   Waiting : PortRef → ℕ → Place
@@ -37,12 +37,15 @@ how_often n (item ∷ items) = (if item.number == n then 1 else 0) + how_often n
 
 -- the number stands once at this place, and at no other
 abbrev pub StandsAt : (Place → List Item) → ℕ → Place → Type 0
-StandsAt board n place = (other : Place) → how_often n (board other) ≡ (if same_place other place then 1 else 0)
+StandsAt board n place =
+    (other : Place) → how_often n (board other) ≡ (if same_place other place then 1 else 0)
 
 pub record HoldingExactly (start : Network) (steps : List Step) (end : Network) : Type 0 where
   -- one number was given out for each packet taken
   pub counted : end.given ≡ length (taken start steps)
   -- each of them stands in exactly one place
-  pub placed : (n : ℕ) → n < end.given → (place : Place) × StandsAt (items_at end (gone start steps)) n place
+  pub placed : (n : ℕ) → n < end.given
+      → (place : Place) × StandsAt (items_at end (gone start steps)) n place
   -- and nothing else stands anywhere
-  pub known : (place : Place) → AllByRecursion (WasTaken start steps) (items_at end (gone start steps) place)
+  pub known : (place : Place) → AllByRecursion (WasTaken start steps)
+      (items_at end (gone start steps) place)

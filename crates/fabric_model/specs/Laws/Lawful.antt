@@ -7,8 +7,9 @@ use Rattle.fabric_model.specs.Laws.Leaving.{Once, Unchanged}
 use Rattle.fabric_model.specs.Laws.Freeing.{FreedAfterHeld}
 use Rattle.fabric_model.specs.Laws.Flows.{InOrder}
 
--- The steps are a legal run of plain first-in first-out queues that hold exactly the packets taken. Each packet leaves
--- at most once, unchanged, and in order per flow, and no port frees it before the next hop holds it.
+-- The steps are a legal run of plain first-in first-out queues that hold exactly the packets taken.
+-- Each packet leaves at most once, unchanged, and in order per flow, and no port frees it before
+-- the next hop holds it.
 pub record Lawful (start : Network) (steps : List Step) (end : Network) : Type 0 where
   pub legal : LegalFrom start steps end
   pub holding_exactly : HoldingExactly start steps end

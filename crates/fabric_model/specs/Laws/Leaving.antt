@@ -25,4 +25,5 @@ pub record Once (start : Network) (steps : List Step) : Type 0 where
 pub record Unchanged (start : Network) (steps : List Step) : Type 0 where
   -- the steps show the packets of the items that have left
   pub shown : packets_left steps ≡ map (λ item. item.now) (gone start steps)
-  pub same : AllByRecursion (λ item. (item.now ≡ item.taken) × WasTaken start steps item) (gone start steps)
+  pub same : AllByRecursion (λ item. (item.now ≡ item.taken) × WasTaken start steps item)
+      (gone start steps)
