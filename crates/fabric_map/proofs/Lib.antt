@@ -7,5 +7,6 @@ mod Firsts
 mod Endpoints
 mod Steps
 mod Ways
+mod EntryLaws
 mod Worked
 mod Ring

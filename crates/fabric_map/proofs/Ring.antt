@@ -3,7 +3,7 @@ use Rattle.std.proofs.Common.{◌≡◌, ℕ, zero, suc, ◌<◌, ◌==◌, true
 use Rattle.std.proofs.lemmas.List.Elements.{Contains-get_or}
 use Rattle.fabric_map.specs.Topology.{port_at, node_at}
 use Rattle.fabric_map.specs.Walked.{IsNotAfter, onward, IsMet, Walked, after_all_paths}
-use Rattle.fabric_map.specs.Numbered.{is_given, AreDescribed, IsMap}
+use Rattle.fabric_map.specs.Numbered.{is_given, AreDescribed, ids_of, IsMap}
 use Rattle.fabric_map.specs.Examples.{ring, ring_devices, ring_entries}
 use Rattle.fabric_map.proofs.Order.{front_of, front_of-onward}
 use Rattle.fabric_map.proofs.Lists.{AllPairs-rising}
@@ -231,4 +231,5 @@ ring_described = (
 )
 
 pub ring_has_its_map : IsMap ring 5 ring_devices ring_entries
+unfolding ids_of
 ring_has_its_map = record { walked = ring_walked; described = ring_described; listed = refl }

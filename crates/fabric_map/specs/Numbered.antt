@@ -68,13 +68,15 @@ toward [] (port ∷ path) = Some port
 toward (x ∷ front) [] = None
 toward (x ∷ front) (y ∷ path) = if x == y then toward front path else None
 
+-- the port by which a path leads to the endpoint with an ID, if it leads there
+abbrev pub port_toward : List Device → List ℕ → ℕ → Option ℕ
+port_toward devices path id =
+    option_and_then (λ (endpoint : Device). toward path endpoint.path) (find (has_id id) devices)
+
 -- The port by which a switch sends packets for an ID: that of the way to its endpoint if this is
 -- below the switch in the tree of paths, else the port by which the switch was entered.
 abbrev pub port_for : List Device → List ℕ → ℕ → ℕ → ℕ
-port_for devices path entry id =
-    unwrap_or
-    (option_and_then (λ (endpoint : Device). toward path endpoint.path) (find (has_id id) devices))
-    entry
+port_for devices path entry id = unwrap_or (port_toward devices path id) entry
 
 -- all numbers below this one, in order
 abbrev pub numbers_below : ℕ → List ℕ
@@ -82,7 +84,7 @@ numbers_below zero = []
 numbers_below (suc n) = numbers_below n ++ n ∷ []
 
 -- the IDs that are given, in order; 255 is given to none
-abbrev pub ids_of : List Device → List ℕ
+unfoldable pub ids_of : List Device → List ℕ
 ids_of devices = filter (is_given devices) (numbers_below 255)
 
 -- the entries of one device for these IDs

@@ -1,0 +1,15 @@
+//! How a host asks the devices of a fabric (RapidIO Interconnect Specification 1.3, Part 3,
+//! enumeration).
+//!
+//! Promised: whoever carries accesses as [`Maint`] answers each as the registers do at which it
+//! ends, and changes no others; an access has no answer only for want of memory, or if a count
+//! rose.
+//!
+//! Left out: whoever does so, and the walk of a host through its fabric.
+//!
+//! - [`Maint`] carries an [`Access`] to a device and brings back the [`Answer`], or tells the [`MaintEnd`].
+#![tactic(auto)]
+
+mod maint;
+
+pub use maint::{Access, Answer, Maint, MaintEnd};
