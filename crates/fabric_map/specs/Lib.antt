@@ -1,6 +1,7 @@
 pub mod Topology
 pub mod Walked
 pub mod Routes
+pub mod Fitting
 pub mod Numbered
 pub mod Locked
 pub mod Laws

@@ -3,6 +3,7 @@ ghost use Rattle.std.specs.Prelude.{◌≡◌, ◌<◌, ◌≤◌, ◌^◌, ℕ,
 ghost use Rattle.fabric_script.specs.declared.ports.PortRef.{PortRef};
 ghost use Rattle.fabric_map.specs.Topology.{Topology, IsTopology, port_at};
 ghost use Rattle.fabric_map.specs.Routes.{Registers};
+ghost use Rattle.fabric_map.specs.Fitting.{Fits};
 ghost use Rattle.host_enumerate.specs.Accesses.{answered, offset_of, after_access, IsAnswered};
 ghost use Rattle.host_enumerate.specs.Causes.{IsCaused};
 
@@ -61,6 +62,9 @@ pub trait Maint {
 
     /// What can be asked has a topology, in which every link joins two ports.
     ghost whole_is_proper: { (maint : Self) → IsWhole maint → IsTopology (topology maint) };
+
+    /// Its registers show the kinds, ports and links of its topology.
+    ghost whole_fits: { (maint : Self) → IsWhole maint → Fits (topology maint) (registers maint) };
 
     /// Asks the device at which a request for a destination ends after so many hops. `answered`
     /// says that there is one, other than the host, and that its answer comes back. After an end no
