@@ -16,3 +16,5 @@ pub mod Bounds
 pub mod PortBounds
 pub mod Carrying
 pub mod WorkedHistory
+pub mod Played
+pub mod WorkedRecoveries

@@ -95,7 +95,7 @@ test_packet : passes packet ≡ true
 unfolding shifted shifted_times fed
 test_packet = refl
 
-passes_packet : Passes packet
+pub passes_packet : Passes packet
 passes_packet = (decides_passes packet).0 test_packet
 
 pub whole : IsHistory new_one freed_link

@@ -1,5 +1,5 @@
--- A packet's way between two ports, worked through.
-use Rattle.std.specs.Prelude.{ℕ, List, [], ◌∷◌}
+-- What became of the packets in the histories that are worked through.
+use Rattle.std.specs.Prelude.{ℕ, List, [], ◌∷◌, replicate}
 use Rattle.link_sound.specs.Histories.{Journeys}
 
 -- a packet of priority 0
@@ -9,3 +9,8 @@ packet = 0x00 ∷ 0x0f ∷ 0x02 ∷ 0x01 ∷ 0xde ∷ 0xb2 ∷ 0x00 ∷ 0x00 ∷
 -- it was put, held and freed
 abbrev pub arrived : Journeys
 arrived = record { put = packet ∷ []; held = packet ∷ []; freed = packet ∷ [] }
+
+-- such packets were put, held and freed
+abbrev pub arrivals : ℕ → Journeys
+arrivals n =
+    record { put = replicate n packet; held = replicate n packet; freed = replicate n packet }

@@ -1,11 +1,12 @@
 //! Whole histories of two ports of a link.
 
-ghost use Rattle.std.specs.Prelude.{◌≡◌, ◌≢◌, ℕ};
+ghost use Rattle.std.specs.Prelude.{◌≡◌, ◌≢◌, ℕ, true, [], ◌∷◌};
 ghost use Rattle.link_model.specs.Output as out;
+ghost use Rattle.link_model.specs.Outstanding.{from_ack};
 ghost use Rattle.link_port.specs.Ports.{IsPort};
 ghost use Rattle.link_sound.specs.Histories.{Link, AreBuffers, new_link, IsHistory, AreCarried};
 ghost use Rattle.link_sound.specs.Sound.{IsSound};
-ghost use Rattle.link_sound.specs.Worked.{arrived};
+ghost use Rattle.link_sound.specs.Worked.{arrived, arrivals};
 
 /// After every history from two new ports, of any number of turns, events, losses, time-outs and packets put and taken, where each
 /// event that is acted on is one that the far port has sent: both are as every port is, they are sound, and no sender has
@@ -26,4 +27,23 @@ pub fn every_history_carries_packets()
 /// symbols, held by the other and accepted, and freed.
 pub fn worked_history()
     ensures { (end : Link) × IsHistory (new_link 4 4) end × (end.of_a ≡ arrived) }
+{}
+
+/// A history with a retry. The second of two packets finds no buffer and is asked for again: it is
+/// sent again after a restart-from-retry, held and freed.
+pub fn worked_retry()
+    ensures { (stopped end : Link) × IsHistory (new_link 4 4) stopped
+        × (stopped.a.output ≡ out.Output.RetryStopped (record { oldest = 1; prios = 0 ∷ [] }))
+        × IsHistory stopped end × (end.of_a ≡ arrivals 2) }
+{}
+
+/// A history with a recovery past ackID 31. Of two packets with ackIDs 31 and 0 the first is
+/// corrupted: after a link-request and its link-response both are sent again, held and freed, as the
+/// 31 packets before them.
+pub fn worked_recovery()
+    ensures { (asked end : Link) × IsHistory (new_link 4 4) asked
+        × (asked.a.output
+        ≡ out.Output.ErrorStopped true (record { oldest = 31; prios = 0 ∷ 0 ∷ [] }))
+        × IsHistory asked end × (end.a.output ≡ out.Output.Ok (from_ack 1))
+        × (end.of_a ≡ arrivals 33) }
 {}

@@ -8,8 +8,8 @@
 //! - `Between`: the direction from one port's output half to the other's input half;
 //! - `Sound`: `IsSound`, which is both directions;
 //! - `Lent`: which of the packets to be sent the far port holds, and what becomes of them where one is held or freed;
-//! - `Histories`: what may happen at either port, one thing after another, and what became of the packets; `Worked` is
-//!   one of them.
+//! - `Histories`: what may happen at either port, one thing after another, and what became of the
+//!   packets; `Worked` has what became of those of three histories.
 //!
 //! The functions state, as contracts of empty bodies, that each step of a port by the tables keeps `IsSound`, that each
 //! packet held and freed is a step of plain first-in first-out queues, what every history does to the packets, and that
@@ -23,7 +23,7 @@ mod histories;
 mod laws;
 mod queues;
 
-pub use histories::{every_history_carries_packets, worked_history};
+pub use histories::{every_history_carries_packets, worked_history, worked_recovery, worked_retry};
 pub use laws::{
     events_may_be_lost, links_begin_sound, no_sender_fails, steps_keep_it,
     the_layer_above_keeps_it, what_is_not_sound,
