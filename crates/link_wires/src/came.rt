@@ -4,7 +4,6 @@ ghost use Rattle.link_port.specs.Acts.{held_of};
 ghost use Rattle.link_wires.specs.declared.moves.Move.TheVariants.{Held, Freed};
 
 use crate::moves::Move;
-use arrayvec::ArrayVec;
 use link_model::Event;
 use link_port::Done;
 use rio_chars::NoMemory;
@@ -12,26 +11,29 @@ use rio_packets::Packet;
 use rio_symbols::Symbol;
 
 /// What came of events, as they happened: what the port did with packets, and the symbols that
-/// answer. `freed` has the packets that the last event freed: it is made once, since a list with
-/// room for so many packets is dear to make.
+/// answer.
 #[derive(Drop)]
 pub(crate) struct Came {
     pub(crate) moves: Vec<Move>,
     pub(crate) replies: Vec<Symbol>,
-    pub(crate) freed: ArrayVec<Packet, 31>,
 }
 
 impl Came {
-    /// What an event did, apart from the packets that it freed, which stand in `freed`.
-    pub(crate) fn note(&mut self, event: Event, done: Done) -> Result<(), NoMemory>
+    /// What an event did, and the packets that it freed.
+    pub(crate) fn note(
+        &mut self,
+        event: Event,
+        done: Done,
+        freed: &[Packet],
+    ) -> Result<(), NoMemory>
         ensures moves { OnOk result (self.new.moves.items ≡ self.old.moves.items
             ++ (map (λ packet. Held packet) (option_to_list (held_of event done.held))
-            ++ map (λ packet. Freed packet) self.old.freed.items)) }
+            ++ map (λ packet. Freed packet) freed.now)) }
         ensures replies { OnOk result (self.new.replies.items ≡ self.old.replies.items
             ++ option_to_list done.reply) }
     {
         self.hold(event, done.held)?;
-        push_freed(&mut self.moves, self.freed.as_slice())?;
+        push_freed(&mut self.moves, freed)?;
         self.reply(done.reply)?;
         Ok(())
     }
@@ -41,7 +43,6 @@ impl Came {
         ensures moves { OnOk result (self.new.moves.items ≡ self.old.moves.items
             ++ map (λ packet. Held packet) (option_to_list (held_of event held))) }
         ensures replies { self.new.replies ≡ self.old.replies }
-        ensures freed { self.new.freed ≡ self.old.freed }
     {
         match event {
             Event::Pkt(_, packet) => {

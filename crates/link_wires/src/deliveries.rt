@@ -19,6 +19,9 @@ use rio_symbols::Symbol;
 use std::alloc::Global;
 use std::collections::VecDeque;
 
+/// The packets that the last event freed. A list with room for so many is dear to make, so it is made with the first event.
+type Freed = Option<ArrayVec<Packet, 31>>;
+
 /// What came of characters that a port took.
 #[derive(Drop)]
 pub struct Delivery {
@@ -62,7 +65,6 @@ impl Wire {
         let mut came = Came {
             moves: Vec::new(alloc),
             replies: Vec::new(alloc),
-            freed: ArrayVec::new(),
         };
         let (taken, undetected) = lead(port, &mut self.kept, got.as_slice(), &mut came)?;
         got.truncate(taken);
@@ -89,11 +91,12 @@ fn lead(
     ensures within { IfOk result (λ end. end.0 ≤ length chars.now) }
 {
     let mut packet = Packet::default();
+    let mut freed = None;
     let mut taken = 0;
     while taken < chars.len() {
         let (count, completed) = port.read(rest(chars, taken), &mut packet);
         taken += count;
-        if let Some(event) = act_all(port, kept, completed, &packet, came)? {
+        if let Some(event) = act_all(port, kept, completed, &packet, &mut freed, came)? {
             return Ok((taken, Some(event)));
         }
     }
@@ -115,6 +118,7 @@ fn act_all(
     kept: &mut VecDeque<Event>,
     completed: Completed,
     packet: &Packet,
+    freed: &mut Freed,
     came: &mut Came,
 ) -> Result<Option<Event>, NoMemory>
     ensures shows { IfOk result (λ found. (acted : List Event) (at : ℕ)
@@ -126,13 +130,20 @@ fn act_all(
 {
     match completed {
         Completed::Nothing => Ok(None),
-        Completed::Symbol(symbol) => act_one(port, kept, Event::Ctl(symbol), came),
-        Completed::Bad(cause) => act_one(port, kept, Event::Bad(cause), came),
+        Completed::Symbol(symbol) => act_one(port, kept, Event::Ctl(symbol), freed, came),
+        Completed::Bad(cause) => act_one(port, kept, Event::Bad(cause), freed, came),
         Completed::Packet(ack, symbol) => {
-            act_two(port, kept, Event::Pkt(ack, packet.copy()), symbol, came)
+            act_two(
+                port,
+                kept,
+                Event::Pkt(ack, packet.copy()),
+                symbol,
+                freed,
+                came,
+            )
         }
         Completed::NoPacket(cause, symbol) => {
-            act_two(port, kept, Event::Bad(cause), symbol, came)
+            act_two(port, kept, Event::Bad(cause), symbol, freed, came)
         }
     }
 }
@@ -142,6 +153,7 @@ fn act_one(
     port: &mut Port,
     kept: &mut VecDeque<Event>,
     event: Event,
+    freed: &mut Freed,
     came: &mut Came,
 ) -> Result<Option<Event>, NoMemory>
     ensures shows { IfOk result (λ found. (acted : List Event) (at : ℕ)
@@ -150,7 +162,7 @@ fn act_one(
         came.new.moves.items came.new.replies.items) }
     ensures place { OnOk result (port.new.place ≡ port.old.place) }
 {
-    let found = act(port, kept, event, came)?;
+    let found = act(port, kept, event, freed, came)?;
     Ok(found)
 }
 
@@ -160,6 +172,7 @@ fn act_two(
     kept: &mut VecDeque<Event>,
     event: Event,
     symbol: Symbol,
+    freed: &mut Freed,
     came: &mut Came,
 ) -> Result<Option<Event>, NoMemory>
     ensures shows { IfOk result (λ found. (acted : List Event) (at : ℕ)
@@ -169,10 +182,10 @@ fn act_two(
         came.new.replies.items) }
     ensures place { OnOk result (port.new.place ≡ port.old.place) }
 {
-    if let Some(event) = act(port, kept, event, came)? {
+    if let Some(event) = act(port, kept, event, freed, came)? {
         return Ok(Some(event));
     }
-    let found = act(port, kept, Event::Ctl(symbol), came)?;
+    let found = act(port, kept, Event::Ctl(symbol), freed, came)?;
     Ok(found)
 }
 
@@ -181,6 +194,7 @@ fn act(
     port: &mut Port,
     kept: &mut VecDeque<Event>,
     event: Event,
+    freed: &mut Freed,
     came: &mut Came,
 ) -> Result<Option<Event>, NoMemory>
     ensures shows { IfOk result (λ found. (acted : List Event) (at : ℕ)
@@ -192,9 +206,10 @@ fn act(
     if !meet(port, kept, &event) {
         return Ok(Some(event));
     }
-    came.freed.clear();
-    let done = port.act(&event, &mut came.freed);
-    came.note(event, done)?;
+    let freed = freed.get_or_insert_with(ArrayVec::new);
+    freed.clear();
+    let done = port.act(&event, freed);
+    came.note(event, done, freed.as_slice())?;
     Ok(None)
 }
 
