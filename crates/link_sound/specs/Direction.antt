@@ -9,23 +9,30 @@ use Rattle.link_sound.specs.Kept.{Lacks, AcceptsInTurn, PacketsInTurn, RetryOnce
 -- what is on its way, by the state of the sender, where it has freed so many packets and the receiver has held so many
 abbrev pub FitsSender : Sender → Receiver → (freed held : ℕ) → List Forward → List Backward → Type 0
 FitsSender Sender.Ok r freed held kept_ahead kept_back =
-    Lacks is_request kept_ahead × Lacks is_response kept_back × RetryOnce held kept_back × (Lacks is_retry kept_back ⊎ (IsShut r × Lacks is_restart kept_ahead))
+    Lacks is_request kept_ahead × Lacks is_response kept_back × RetryOnce held kept_back
+    × (Lacks is_retry kept_back ⊎ (IsShut r × Lacks is_restart kept_ahead))
 FitsSender Sender.RetryStopped r freed held kept_ahead kept_back =
-    (held ≡ freed) × IsShut r × Lacks is_request kept_ahead × Lacks is_restart kept_ahead × Lacks is_retry kept_back × Lacks is_response kept_back
-FitsSender Sender.ErrorStopped r freed held kept_ahead kept_back = Lacks is_request kept_ahead × Lacks is_response kept_back
-FitsSender Sender.ErrorStoppedAsked r freed held kept_ahead kept_back = RequestLast kept_ahead × ResponseLast held kept_back × (Lacks is_response kept_back ⊎ Lacks is_forward kept_ahead)
+    (held ≡ freed) × IsShut r × Lacks is_request kept_ahead × Lacks is_restart kept_ahead
+    × Lacks is_retry kept_back × Lacks is_response kept_back
+FitsSender Sender.ErrorStopped r freed held kept_ahead kept_back =
+    Lacks is_request kept_ahead × Lacks is_response kept_back
+FitsSender Sender.ErrorStoppedAsked r freed held kept_ahead kept_back =
+    RequestLast kept_ahead × ResponseLast held kept_back
+    × (Lacks is_response kept_back ⊎ Lacks is_forward kept_ahead)
 FitsSender Sender.Failed r freed held kept_ahead kept_back = ⊥
 
 -- what is on its way, by the state of the receiver
 abbrev pub FitsReceiver : Receiver → (held : ℕ) → List (List ℕ) → List Forward → Type 0
-FitsReceiver Receiver.Ok held sent kept_ahead = Lacks is_restart kept_ahead × PacketsInTurn sent held kept_ahead
+FitsReceiver Receiver.Ok held sent kept_ahead =
+    Lacks is_restart kept_ahead × PacketsInTurn sent held kept_ahead
 FitsReceiver Receiver.RetryStopped held sent kept_ahead = RestartOnce sent held kept_ahead
 FitsReceiver Receiver.ErrorStopped held sent kept_ahead = Unit {0}
 
 -- The sender has freed the first `freed` of the packets `sent`, the receiver has held the first `held`, and the rest
 -- from `freed` on is outstanding. What went to be sent again is not in `sent`. `kept_ahead` is on its way to the receiver,
 -- `kept_back` to the sender.
-pub record IsDirection (s : Sender) (r : Receiver) (freed held : ℕ) (sent : List (List ℕ)) (kept_ahead : List Forward) (kept_back : List Backward) : Type 0 where
+pub record IsDirection (s : Sender) (r : Receiver) (freed held : ℕ) (sent : List (List ℕ))
+    (kept_ahead : List Forward) (kept_back : List Backward) : Type 0 where
   pub held_first : freed ≤ held
   pub sent_first : held ≤ length sent
   pub few : length sent ≤ freed + window

@@ -36,11 +36,20 @@ AreBuffers n = (4 ≤ n) × (n ≤ 30)
 
 -- two new ports
 abbrev pub new_link : ℕ → ℕ → Link
-new_link m n = record { a = new_port m; b = new_port n; kept_a = []; kept_b = []; of_a = no_journeys; of_b = no_journeys }
+new_link m n =
+    record {
+      a = new_port m;
+      b = new_port n;
+      kept_a = [];
+      kept_b = [];
+      of_a = no_journeys;
+      of_b = no_journeys;
+    }
 
 -- the ports in the other order
 abbrev pub turned_round : Link → Link
-turned_round l = record { a = l.b; b = l.a; kept_a = l.kept_b; kept_b = l.kept_a; of_a = l.of_b; of_b = l.of_a }
+turned_round l =
+    record { a = l.b; b = l.a; kept_a = l.kept_b; kept_b = l.kept_a; of_a = l.of_b; of_b = l.of_a }
 
 -- the first port takes a turn
 abbrev pub after_turn : Link → Link
@@ -72,7 +81,8 @@ after_put l packet = record l {
 pub data IsStep : Link → Link → Type 0 where
   Turns : (l : Link) → IsStep l (after_turn l)
   -- an event that the other port sent; what it sent before it is lost already
-  Acts : (l : Link) (e : Event) (rest : List Event) → l.kept_b ≡ e ∷ rest → is_acted l.a e ≡ true → IsStep l (after_event l e rest)
+  Acts : (l : Link) (e : Event) (rest : List Event) → l.kept_b ≡ e ∷ rest → is_acted l.a e ≡ true
+      → IsStep l (after_event l e rest)
   -- an event that is not acted on, whoever sent it; it may be an error, and have a reply
   Others : (l : Link) (e : Event) → is_acted l.a e ≡ false → IsStep l (after_event l e l.kept_b)
   -- after it nothing that was sent before arrives
@@ -81,15 +91,19 @@ pub data IsStep : Link → Link → Type 0 where
   Puts : (l : Link) (packet : List ℕ) → prio_of packet < 4 → Passes packet
       → length (list_at l.a.queued (prio_of packet)) < 16 → IsStep l (after_put l packet)
   -- what was sent first is lost, both ways
-  Loses : (l : Link) (lost_a kept_a lost_b kept_b : List Event) → l.kept_a ≡ lost_a ++ kept_a → l.kept_b ≡ lost_b ++ kept_b → IsStep l (record l { kept_a = kept_a; kept_b = kept_b })
+  Loses : (l : Link) (lost_a kept_a lost_b kept_b : List Event) → l.kept_a ≡ lost_a ++ kept_a
+      → l.kept_b ≡ lost_b ++ kept_b → IsStep l (record l { kept_a = kept_a; kept_b = kept_b })
   -- the store of packets received becomes any other, as where some are taken away, and the framer reads on
-  GoesOn : (l : Link) (received : Buffered) (place : Place) → IsInStore received → IsBounded place.text → IsStep l (record l { a = record l.a { received = received; place = place } })
+  GoesOn : (l : Link) (received : Buffered) (place : Place) → IsInStore received
+      → IsBounded place.text
+      → IsStep l (record l { a = record l.a { received = received; place = place } })
 
 -- one step after another, each at one of the ports
 pub data IsHistory : Link → Link → Type 0 where
   Rests : (l : Link) → IsHistory l l
   AtFirst : {next end : Link} (l : Link) → IsStep l next → IsHistory next end → IsHistory l end
-  AtSecond : {next end : Link} (l : Link) → IsStep (turned_round l) next → IsHistory (turned_round next) end → IsHistory l end
+  AtSecond : {next end : Link} (l : Link) → IsStep (turned_round l) next
+      → IsHistory (turned_round next) end → IsHistory l end
 
 -- Of each priority, what was put at the port p is what the far port q has held, in order, and then what still waits; and
 -- what was held is what p has freed, in order, and then what is lent.

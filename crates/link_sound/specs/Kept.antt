@@ -12,7 +12,8 @@ Lacks kind (e ∷ kept) = (kind e ≡ false) × Lacks kind kept
 -- the acceptances are of packets that are held, the first at least of `least`, each of a later one than those before it
 abbrev pub AcceptsInTurn : (least held : ℕ) → List Backward → Type 0
 AcceptsInTurn least held [] = Unit {0}
-AcceptsInTurn least held (Accept ack ∷ kept) = (n : ℕ) × (ack ≡ n % 32) × (least ≤ n) × (n < held) × AcceptsInTurn (suc n) held kept
+AcceptsInTurn least held (Accept ack ∷ kept) =
+    (n : ℕ) × (ack ≡ n % 32) × (least ≤ n) × (n < held) × AcceptsInTurn (suc n) held kept
 AcceptsInTurn least held (Retry ack ∷ kept) = AcceptsInTurn least held kept
 AcceptsInTurn least held (Response ack ∷ kept) = AcceptsInTurn least held kept
 AcceptsInTurn least held (Neutral ∷ kept) = AcceptsInTurn least held kept
@@ -20,7 +21,9 @@ AcceptsInTurn least held (Neutral ∷ kept) = AcceptsInTurn least held kept
 -- the packets are among those sent, the first at least at `least`, each a later one than those before it
 abbrev pub PacketsInTurn : List (List ℕ) → (least : ℕ) → List Forward → Type 0
 PacketsInTurn sent least [] = Unit {0}
-PacketsInTurn sent least (Packet ack packet ∷ kept) = (n : ℕ) × (ack ≡ n % 32) × (least ≤ n) × (slice_get sent n ≡ Some packet) × PacketsInTurn sent (suc n) kept
+PacketsInTurn sent least (Packet ack packet ∷ kept) =
+    (n : ℕ) × (ack ≡ n % 32) × (least ≤ n) × (slice_get sent n ≡ Some packet)
+    × PacketsInTurn sent (suc n) kept
 PacketsInTurn sent least (Restart ∷ kept) = PacketsInTurn sent least kept
 PacketsInTurn sent least (Request ∷ kept) = PacketsInTurn sent least kept
 PacketsInTurn sent least (Other ∷ kept) = PacketsInTurn sent least kept

@@ -15,10 +15,13 @@ ghost use Rattle.link_sound.specs.Worked.{arrived, arrivals};
 /// first has freed, in order, and then those lent. So no packet is held twice, none is lost, and none is freed before it
 /// is held.
 pub fn every_history_carries_packets()
-    ensures carried { (m n : ℕ) (l : Link) → AreBuffers m → AreBuffers n → IsHistory (new_link m n) l
+    ensures carried { (m n : ℕ) (l : Link) → AreBuffers m → AreBuffers n
+        → IsHistory (new_link m n) l
         → AreCarried l.of_a l.a l.b × AreCarried l.of_b l.b l.a }
-    ensures sound { (m n : ℕ) (l : Link) → AreBuffers m → AreBuffers n → IsHistory (new_link m n) l → IsSound l.a l.b l.kept_a l.kept_b }
-    ensures ports { (m n : ℕ) (l : Link) → AreBuffers m → AreBuffers n → IsHistory (new_link m n) l → IsPort l.a × IsPort l.b }
+    ensures sound { (m n : ℕ) (l : Link) → AreBuffers m → AreBuffers n → IsHistory (new_link m n) l
+        → IsSound l.a l.b l.kept_a l.kept_b }
+    ensures ports { (m n : ℕ) (l : Link) → AreBuffers m → AreBuffers n → IsHistory (new_link m n) l
+        → IsPort l.a × IsPort l.b }
     ensures failed { (m n : ℕ) (l : Link) → AreBuffers m → AreBuffers n → IsHistory (new_link m n) l
         → (l.a.output ≢ out.Output.Failed) × (l.b.output ≢ out.Output.Failed) }
 {}

@@ -19,16 +19,20 @@ ghost use Rattle.link_sound.specs.Sound.{IsSound, reply_sent};
 /// Two new ports, with nothing on its way between them. Either port may be named first.
 pub fn links_begin_sound()
     ensures new { (m n : ℕ) → IsSound (new_port m) (new_port n) [] [] }
-    ensures exchanged { (a b : PortState) (kept_a kept_b : List Event) → IsSound a b kept_a kept_b → IsSound b a kept_b kept_a }
+    ensures exchanged { (a b : PortState) (kept_a kept_b : List Event) → IsSound a b kept_a kept_b
+        → IsSound b a kept_b kept_a }
 {}
 
 /// The steps of a port: a turn; an event that the far port sent and that is acted on; what comes and is not acted on,
 /// whoever sent it; and a time-out, after which nothing that was sent before arrives. A reply goes to what the port has
 /// sent.
 pub fn steps_keep_it()
-    ensures turn { (a b : PortState) (kept_a kept_b : List Event) → Covers (prios_of a.output) a.queued
-        → IsSound a b kept_a kept_b → IsSound (turns_to a) b (kept_a ++ (turn_sends a).sent) kept_b }
-    ensures acted { (a b : PortState) (kept_a kept_b : List Event) (e : Event) → Covers (prios_of a.output) a.queued
+    ensures turn { (a b : PortState) (kept_a kept_b : List Event)
+        → Covers (prios_of a.output) a.queued
+        → IsSound a b kept_a kept_b
+        → IsSound (turns_to a) b (kept_a ++ (turn_sends a).sent) kept_b }
+    ensures acted { (a b : PortState) (kept_a kept_b : List Event) (e : Event)
+        → Covers (prios_of a.output) a.queued
         → is_acted a e ≡ true → IsSound a b kept_a (e ∷ kept_b)
         → IsSound (acts a e).port b (kept_a ++ reply_sent (acts a e).reply) kept_b }
     ensures other { (a b : PortState) (kept_a kept_b : List Event) (e : Event)
@@ -49,25 +53,35 @@ pub fn events_may_be_lost()
 pub fn the_layer_above_keeps_it()
     ensures put { (a b : PortState) (kept_a kept_b : List Event) (prio : ℕ) (packet : List ℕ)
         → Covers (prios_of a.output) a.queued → prio < length a.queued
-        → IsSound a b kept_a kept_b → IsSound (record a { queued = appended a.queued prio packet }) b kept_a kept_b }
-    ensures other_parts { (a b : PortState) (kept_a kept_b : List Event) (received : Buffered) (place : Place)
-        → IsSound a b kept_a kept_b → IsSound (record a { received = received; place = place }) b kept_a kept_b }
+        → IsSound a b kept_a kept_b
+        → IsSound (record a { queued = appended a.queued prio packet }) b kept_a kept_b }
+    ensures other_parts { (a b : PortState) (kept_a kept_b : List Event) (received : Buffered)
+        (place : Place)
+        → IsSound a b kept_a kept_b
+        → IsSound (record a { received = received; place = place }) b kept_a kept_b }
 {}
 
 /// No sender has failed. The far port expects the oldest packet that is not acknowledged, or a later one, at most the next
 /// to be sent; where the sender has still to send a restart-from-retry, it expects the oldest.
 pub fn no_sender_fails()
-    ensures failed { (a b : PortState) (kept_a kept_b : List Event) → IsSound a b kept_a kept_b → a.output ≢ out.Output.Failed }
-    ensures lent { (a b : PortState) (kept_a kept_b : List Event) → Covers (prios_of a.output) a.queued
-        → IsSound a b kept_a kept_b → distance (oldest_of a.output) (expected_of b.input) ≤ length (prios_of a.output) }
-    ensures retry { (a b : PortState) (kept_a kept_b : List Event) (w : Outstanding) → a.output ≡ out.Output.RetryStopped w
+    ensures failed { (a b : PortState) (kept_a kept_b : List Event) → IsSound a b kept_a kept_b
+        → a.output ≢ out.Output.Failed }
+    ensures lent { (a b : PortState) (kept_a kept_b : List Event)
+        → Covers (prios_of a.output) a.queued
+        → IsSound a b kept_a kept_b
+        → distance (oldest_of a.output) (expected_of b.input) ≤ length (prios_of a.output) }
+    ensures retry { (a b : PortState) (kept_a kept_b : List Event) (w : Outstanding)
+        → a.output ≡ out.Output.RetryStopped w
         → IsSound a b kept_a kept_b → distance w.oldest (expected_of b.input) ≡ 0 }
 {}
 
 /// Not everything is sound: between two new ports there is no acceptance on its way, no link-response that nothing asked
 /// for, and no packet that the sender does not know of, each with ackID 0.
 pub fn what_is_not_sound()
-    ensures acceptance { (m n : ℕ) → IsSound (new_port m) (new_port n) [] (Ctl (packet_accepted 0) ∷ []) → ⊥ }
-    ensures response { (m n : ℕ) → IsSound (new_port m) (new_port n) [] (Ctl (link_response 0 16) ∷ []) → ⊥ }
-    ensures packet { (m n : ℕ) (packet : List ℕ) → IsSound (new_port m) (new_port n) (Pkt 0 packet ∷ []) [] → ⊥ }
+    ensures acceptance { (m n : ℕ)
+        → IsSound (new_port m) (new_port n) [] (Ctl (packet_accepted 0) ∷ []) → ⊥ }
+    ensures response { (m n : ℕ)
+        → IsSound (new_port m) (new_port n) [] (Ctl (link_response 0 16) ∷ []) → ⊥ }
+    ensures packet { (m n : ℕ) (packet : List ℕ)
+        → IsSound (new_port m) (new_port n) (Pkt 0 packet ∷ []) [] → ⊥ }
 {}

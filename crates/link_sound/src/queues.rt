@@ -18,7 +18,8 @@ pub fn packets_are_held_in_order()
     ensures acted { (a b : PortState) (kept_a kept_b : List Event) (e : Event)
         → Covers (prios_of b.output) b.queued → IsOutStore b.queued → is_acted a e ≡ true
         → IsSound a b kept_a (e ∷ kept_b) → Holds b a (acts a e).port (acts a e).held }
-    ensures other { (a b : PortState) (e : Event) → is_acted a e ≡ false → Holds b a (acts a e).port (acts a e).held }
+    ensures other { (a b : PortState) (e : Event) → is_acted a e ≡ false
+        → Holds b a (acts a e).port (acts a e).held }
 {}
 
 /// The packets that are freed are the first of those lent, which the far port holds.
@@ -26,12 +27,14 @@ pub fn packets_are_freed_in_order()
     ensures acted { (a b : PortState) (kept_a kept_b : List Event) (e : Event)
         → Covers (prios_of a.output) a.queued → is_acted a e ≡ true
         → IsSound a b kept_a (e ∷ kept_b) → Frees a (acts a e).port b (acts a e).freed }
-    ensures other { (a b : PortState) (e : Event) → is_acted a e ≡ false → Frees a (acts a e).port b (acts a e).freed }
+    ensures other { (a b : PortState) (e : Event) → is_acted a e ≡ false
+        → Frees a (acts a e).port b (acts a e).freed }
 {}
 
 /// Turns and time-outs move no packet: what is to be sent again has waited all the time.
 pub fn turns_and_time_outs_move_nothing()
-    ensures turn { (a b : PortState) (kept_a kept_b : List Event) → Covers (prios_of a.output) a.queued → IsSound a b kept_a kept_b
+    ensures turn { (a b : PortState) (kept_a kept_b : List Event)
+        → Covers (prios_of a.output) a.queued → IsSound a b kept_a kept_b
         → (lent (turns_to a) b ≡ lent a b) × (waiting (turns_to a) b ≡ waiting a b)
         × (lent b (turns_to a) ≡ lent b a) × (waiting b (turns_to a) ≡ waiting b a) }
     ensures time_out { (a b : PortState)

@@ -53,7 +53,8 @@ impl Watch for NoteList {
 
     ghost grew_none = { λ list. Prim.search (sym, append-nil) };
 
-    ghost grew_on = { λ list next last first rest h k. k ∙ ap (λ (l : List Note). l ++ rest) h ∙ append_assoc list first rest };
+    ghost grew_on = { λ list next last first rest h k. k ∙ ap (λ (l : List Note). l ++ rest) h ∙ append_assoc
+        list first rest };
 
     ghost cut_none = { λ list note. refl };
 

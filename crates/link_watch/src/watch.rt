@@ -51,7 +51,8 @@ pub trait Watch {
     ghost grew_none: { (watch : Self) → grew watch [] watch };
 
     /// Notes taken in after others are taken in behind them.
-    ghost grew_on: { (watch next last : Self) (first rest : List Note) → grew watch first next → grew next rest last → grew watch (first ++ rest) last };
+    ghost grew_on: { (watch next last : Self) (first rest : List Note) → grew watch first next
+        → grew next rest last → grew watch (first ++ rest) last };
 
     /// A watch may stop before anything of a note.
     ghost cut_none: { (watch : Self) (note : Note) → cut watch note watch };
