@@ -35,7 +35,7 @@ within-append Ends more = more
 within-append (Takes e rest) more = Takes e (within-append rest more)
 within-append (Skips y rest) more = Skips y (within-append rest more)
 
-within_more : {xs ys : List Event} (more : List Event) → IsSubsequence xs ys → IsSubsequence xs (ys ++ more)
+pub within_more : {xs ys : List Event} (more : List Event) → IsSubsequence xs ys → IsSubsequence xs (ys ++ more)
 within_more {xs} {ys} more within = subst (λ (l : List Event). IsSubsequence l (ys ++ more)) (append-nil xs) (within-append within (none_within more))
 
 pub numbered-append : (n m : ℕ) (ps qs : List (List ℕ)) → m ≡ n + length ps → numbered n (ps ++ qs) ≡ numbered n ps ++ numbered m qs

@@ -18,3 +18,5 @@ pub mod Coming
 pub mod HoldsRead
 pub mod Ending
 pub mod Worked
+pub mod Heard
+pub mod FreesRead

@@ -33,6 +33,8 @@ use Rattle.fabric_trace.specs.SetUps.{IsSetUp, MaySetUp, MaySetUpAll}
 use Rattle.link_model.specs.Places.{start as place_start}
 use Rattle.link_model.proofs.PlacesLaws.{place_after-none}
 use Rattle.fabric_trace.specs.Ends.{EndsAs}
+use Rattle.fabric_trace.specs.Frees.{nothing_got, FreesSaid}
+use Rattle.fabric_trace.proofs.FreesRead.{made_freed, start_freed}
 use Rattle.fabric_trace.specs.Holds.{HoldsCame}
 use Rattle.fabric_trace.proofs.Coming.{none_within}
 use Rattle.fabric_trace.proofs.Ending.{runs_end}
@@ -181,3 +183,10 @@ holds_came net lines q is all =
 
 pub ends_as : (script : List Numbered) (lines : List TraceLine) → Runs script lines → EndsAs (start script) lines
 ends_as script lines runs = runs_end script (start script) lines refl runs
+
+pub frees_said : (net : Network) (lines : List TraceLine) (p : PortRef) → IsSetUp net → Made (begins net) lines → FreesSaid p nothing_got 0 lines
+frees_said net lines p is all = (made_freed [] p (good_start net is) all (start_freed (begins net) p refl refl)).said
+
+-- of every trace of a script
+pub runs_lawful : (script : List Numbered) (lines : List TraceLine) → MaySetUpAll bare script → Runs script lines → Lawful (set_up_all bare script) (steps_of lines) (seen (start script) lines).network
+runs_lawful script lines may runs = lawful (set_up_all bare script) lines (set_up_bare script may) (made script lines may runs)

@@ -1,5 +1,5 @@
 -- A small run is one, and the laws fail of lines that they must not allow.
-use Rattle.std.proofs.Common.{◌≡◌, ◌≢◌, List, [], ◌∷◌, ◌++◌, Some, refl, sym, subst, if◌then◌else◌}
+use Rattle.std.proofs.Common.{◌≡◌, ◌≢◌, List, [], ◌∷◌, ◌++◌, Some, refl, sym, subst, if◌then◌else◌, inl, inr, drop, arith, ap, ◌∙◌}
 use Rattle.rio_chars.specs.declared.chars.Char.{Char}
 use Rattle.link_model.specs.declared.event.Event.{Event}
 use Rattle.link_rest.specs.Rest.{IsSettled}
@@ -16,10 +16,14 @@ use Rattle.fabric_trace.specs.Known.{link_at}
 use Rattle.fabric_trace.specs.Fold.{seen}
 use Rattle.fabric_trace.specs.Runs.{bare, begins, Runs}
 use Rattle.fabric_trace.specs.Faithful.{IsFaithful}
+use Rattle.rio_symbols.specs.Fields.{Fields}
+use Rattle.link_model.specs.declared.event.Event.TheVariants.{Ctl, Pkt, Bad}
+use Rattle.link_model.specs.Symbols.{packet_accepted}
+use Rattle.fabric_trace.specs.Frees.{Acknowledges, Gotten, nothing_got, completed, FreesSaid}
 use Rattle.fabric_trace.specs.Holds.{HoldsCame}
 use Rattle.fabric_trace.specs.SetUps.{MaySetUpAll}
 use Rattle.fabric_trace.specs.Wires.{WireFold}
-use Rattle.fabric_trace.specs.Examples.{near, far, pair, idle_script, idle_trace, joined_with_itself, held_from_nowhere, got_from_nowhere, got_another, still_under_way, acted_from_nowhere}
+use Rattle.fabric_trace.specs.Examples.{near, far, pair, idle_script, idle_trace, joined_with_itself, held_from_nowhere, freed, freed_twice, got_from_nowhere, got_another, still_under_way, acted_from_nowhere}
 use Rattle.fabric_trace.proofs.Folding.{says_none}
 
 pub idle_runs : Runs idle_script idle_trace
@@ -99,3 +103,39 @@ moving_breaks settled = absurd (cc settled.quiet.wire_a)
 pub acted_breaks : IsFaithful acted_from_nowhere near far [] → ⊥
 unfolding run
 acted_breaks faithful = no_more faithful.acted refl refl
+
+pub freed_breaks : FreesSaid near nothing_got 0 freed → ⊥
+unfolding run
+freed_breaks said = no_more (said.0 refl).among refl refl
+
+one_in : {e x : Event} {xs ys : List Event} → IsSubsequence xs ys → xs ≡ e ∷ [] → ys ≡ x ∷ [] → e ≡ x
+one_in Ends is one = absurd cc
+one_in (Takes y rest) is one = cc
+one_in (Skips y rest) is one = let none : _ ≡ [] = ap (drop 1) one in absurd (no_more rest is none)
+
+twice : (e : Event) → e ≡ Ctl (packet_accepted 0) → Acknowledges 1 e → ⊥
+twice (Ctl symbol) is (inl own) =
+    let same : symbol ≡ packet_accepted 0 = ap (λ (x : Event). symbol_of x symbol) is in
+    let zero_is : 0 ≡ 1 = sym (ap (λ (s : Fields). s.p0) same) ∙ own.1 in
+    omega (arith, zero_is)
+  where
+    symbol_of : Event → Fields → Fields
+    symbol_of (Ctl s) other = s
+    symbol_of (Pkt ack packet) other = other
+    symbol_of (Bad cause) other = other
+twice (Ctl symbol) is (inr own) =
+    let same : symbol ≡ packet_accepted 0 = ap (λ (x : Event). symbol_in x symbol) is in
+    let zero_is : 0 ≡ 6 = sym (ap (λ (s : Fields). s.s0) same) ∙ own in
+    omega (arith, zero_is)
+  where
+    symbol_in : Event → Fields → Fields
+    symbol_in (Ctl s) other = s
+    symbol_in (Pkt ack packet) other = other
+    symbol_in (Bad cause) other = other
+twice (Pkt ack packet) is none = absurd none
+twice (Bad cause) is none = absurd none
+
+pub twice_breaks : (known : Gotten) → completed known ≡ Ctl (packet_accepted 0) ∷ [] → FreesSaid near known 0 freed_twice → ⊥
+twice_breaks known one said =
+    let second = said.1.0 refl in
+    twice second.event (one_in second.among refl one) second.acknowledges

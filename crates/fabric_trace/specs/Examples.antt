@@ -7,7 +7,7 @@ use Rattle.fabric_script.specs.declared.ports.PortRef.{PortRef}
 use Rattle.fabric_script.specs.declared.lines.Line.TheVariants.{Endpoint, Link, Pump, Deliver, Alter, Insert, Timeout, Collect}
 use Rattle.fabric_script.specs.declared.lines.Numbered.{Numbered}
 use Rattle.fabric_model.specs.Network.{Network, port_of}
-use Rattle.fabric_model.specs.Steps.{Hold, Linked}
+use Rattle.fabric_model.specs.Steps.{Hold, Free, Linked}
 use Rattle.fabric_trace.specs.Lines.{Empty, Short, Early, Sent, Got, Fired, TraceLine, Begun, Stepped, Signed, Lacked, Ended}
 use Rattle.fabric_trace.specs.Known.{Seen}
 use Rattle.fabric_trace.specs.Runs.{bare, set_up_all, begins}
@@ -65,6 +65,13 @@ joined_with_itself = record { number = 1; line = Link near near } ∷ []
 -- a packet is held that nobody sent
 abbrev pub held_from_nowhere : List TraceLine
 held_from_nowhere = Stepped (Linked (Hold far [])) ∷ []
+
+-- a port frees a packet, and frees two
+abbrev pub freed : List TraceLine
+freed = Stepped (Linked (Free near [])) ∷ []
+
+abbrev pub freed_twice : List TraceLine
+freed_twice = Stepped (Linked (Free near [])) ∷ Stepped (Linked (Free near [])) ∷ []
 
 -- a port gets a character that was not on the wire
 abbrev pub got_from_nowhere : List TraceLine

@@ -11,5 +11,6 @@ pub mod SetUps
 pub mod Wires
 pub mod Faithful
 pub mod Holds
+pub mod Frees
 pub mod Ends
 pub mod Examples

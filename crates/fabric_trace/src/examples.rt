@@ -1,13 +1,16 @@
 //! A small run, and lines of which the laws do not hold.
 
-ghost use Rattle.std.specs.Prelude.{◌≢◌, []};
+ghost use Rattle.std.specs.Prelude.{◌≡◌, ◌≢◌, [], ◌∷◌};
 ghost use Rattle.rio_chars.specs.declared.chars.Char.{Char};
 ghost use Rattle.link_rest.specs.Rest.{IsSettled};
 ghost use Rattle.fabric_model.specs.Network.{Network};
 ghost use Rattle.fabric_model.specs.Steps.{LegalFrom};
-ghost use Rattle.fabric_trace.specs.Examples.{near, far, pair, idle_script, idle_trace, joined_with_itself, held_from_nowhere, got_from_nowhere, got_another, still_under_way, acted_from_nowhere};
+ghost use Rattle.fabric_trace.specs.Examples.{near, far, pair, idle_script, idle_trace, joined_with_itself, held_from_nowhere, freed, freed_twice, got_from_nowhere, got_another, still_under_way, acted_from_nowhere};
 ghost use Rattle.fabric_trace.specs.Faithful.{IsFaithful};
 ghost use Rattle.fabric_trace.specs.Fold.{seen};
+ghost use Rattle.link_model.specs.Symbols.{packet_accepted};
+ghost use Rattle.link_model.specs.declared.event.Event.TheVariants.{Ctl};
+ghost use Rattle.fabric_trace.specs.Frees.{Gotten, nothing_got, completed, FreesSaid};
 ghost use Rattle.fabric_trace.specs.Holds.{HoldsCame};
 ghost use Rattle.fabric_trace.specs.Known.{link_at};
 ghost use Rattle.fabric_trace.specs.Lines.{steps_of};
@@ -20,13 +23,17 @@ pub fn small_run()
     ensures { Runs idle_script idle_trace }
 {}
 
-/// The laws do not hold of these lines: a port is linked with itself; a packet is held that nobody sent; a port gets a
+/// The laws do not hold of these lines: a port is linked with itself; a packet is held that nobody sent; a packet is
+/// freed before it was accepted, or two are by one acceptance; a port gets a
 /// character that was not on the wire, or another one than was; a character is still on its way; an event was acted on
 /// that nobody sent.
 pub fn laws_can_fail()
     ensures joined { MaySetUpAll bare joined_with_itself → ⊥ }
     ensures held { (end : Network) → LegalFrom pair (steps_of held_from_nowhere) end → ⊥ }
     ensures came { HoldsCame far held_from_nowhere → ⊥ }
+    ensures freed { FreesSaid near nothing_got 0 freed → ⊥ }
+    ensures twice { (known : Gotten) → completed known ≡ Ctl (packet_accepted 0) ∷ []
+        → FreesSaid near known 0 freed_twice → ⊥ }
     ensures got { WireFold pair.links (λ p. []) got_from_nowhere → ⊥ }
     ensures another { (sent other : Char) → sent ≢ other → WireFold pair.links (λ p. []) (got_another sent other) → ⊥ }
     ensures moving { IsSettled (link_at (seen (begins pair) still_under_way) near far) → ⊥ }

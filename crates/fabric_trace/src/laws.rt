@@ -12,6 +12,7 @@ ghost use Rattle.fabric_model.specs.Laws.Lawful.{Lawful};
 ghost use Rattle.fabric_trace.specs.Blocks.{IsSettle};
 ghost use Rattle.fabric_trace.specs.Ends.{EndsAs};
 ghost use Rattle.fabric_trace.specs.Faithful.{Faithful};
+ghost use Rattle.fabric_trace.specs.Frees.{nothing_got, FreesSaid};
 ghost use Rattle.fabric_trace.specs.Holds.{HoldsCame};
 ghost use Rattle.fabric_trace.specs.Fold.{seen};
 ghost use Rattle.fabric_trace.specs.Known.{peer_of, port_at, link_at};
@@ -48,7 +49,8 @@ pub fn runs_are_made()
 {}
 
 /// The steps that lines made of parts say are legal in the plain network, and lead to the network that is known after
-/// them; so are the steps of each front of the lines. All laws of legal steps hold of them.
+/// them; so are the steps of each front of the lines. All laws of legal steps hold of them, and of
+/// the steps of every trace of a script.
 pub fn steps_are_legal()
     ensures all { (net : Network) (lines : List TraceLine) → IsSetUp net → Made (begins net) lines
         → LegalFrom net (steps_of lines) (seen (begins net) lines).network }
@@ -56,6 +58,8 @@ pub fn steps_are_legal()
         → LegalFrom net (steps_of front) (seen (begins net) front).network }
     ensures lawful { (net : Network) (lines : List TraceLine) → IsSetUp net → Made (begins net) lines
         → Lawful net (steps_of lines) (seen (begins net) lines).network }
+    ensures of_script { (script : List Numbered) (lines : List TraceLine) → MaySetUpAll bare script → Runs script lines
+        → Lawful (set_up_all bare script) (steps_of lines) (seen (start script) lines).network }
 {}
 
 /// The two ports of each link, as the network shows them, are sound with the wires between them, as long as every event
@@ -88,6 +92,13 @@ pub fn what_a_port_got_was_on_the_wire()
 pub fn what_a_port_holds_came_to_it()
     ensures { (net : Network) (lines : List TraceLine) (q : PortRef) → IsSetUp net → Made (begins net) lines
         → HoldsCame q lines }
+{}
+
+/// The j-th packet that a port frees, counted from 0, stands behind a delivery to it whose characters complete an acceptance
+/// with ackID j modulo 32, or a link-response: in the reading of everything that it got.
+pub fn what_a_port_frees_was_acknowledged()
+    ensures { (net : Network) (lines : List TraceLine) (p : PortRef) → IsSetUp net → Made (begins net) lines
+        → FreesSaid p nothing_got 0 lines }
 {}
 
 /// A trace ends with the line that says so, where every event that was acted on was sent; or with the line that names the

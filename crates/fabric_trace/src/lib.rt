@@ -9,7 +9,7 @@
 //! - `Blocks`: which lines each event makes, from what is known before it;
 //! - `Runs`: what a trace of a script is; `SetUps`: which networks the lines of set-up may give;
 //! - `Parts`: what may stand in a trace, whatever script it is of;
-//! - `Links`, `Wires`, `Holds`, `Faithful`, `Ends`: what is true of each link, of the characters that a port got, of the
+//! - `Links`, `Wires`, `Holds`, `Frees`, `Faithful`, `Ends`: what is true of each link, of the characters that a port got, of the
 //!   packets that it holds, of the events that it acted on, and of the last line;
 //! - `Examples`: a small run, and lines that the laws do not allow.
 //!
@@ -26,5 +26,6 @@ pub use examples::{laws_can_fail, small_run};
 pub use laws::{
     a_trace_ends, acted_events_were_sent, first_blocks_are_a_front, links_stay_sound, one_trace,
     runs_are_made, set_up, settling_leaves_a_link_at_rest, steps_are_legal,
-    what_a_port_got_was_on_the_wire, what_a_port_holds_came_to_it,
+    what_a_port_frees_was_acknowledged, what_a_port_got_was_on_the_wire,
+    what_a_port_holds_came_to_it,
 };

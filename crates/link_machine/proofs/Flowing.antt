@@ -89,7 +89,7 @@ met_flowing :
 met_flowing b kept_a start flow at e None far acted found f = (queues_between flow.port b, f.walks)
 met_flowing b kept_a start flow at e (Some rest) far acted found f = acted_flowing b kept_a start flow e rest far acted found f
 
-comes_flowing :
+pub comes_flowing :
     (b : PortState) (kept_a : List Event) (start : Queues) (flow : Flow) (placed : ℕ × Event) → IsPort b → IsFlowing b kept_a start flow → AreFlowing b kept_a start (comes flow placed)
 comes_flowing b kept_a start flow placed far f =
     elim (is_acted flow.port placed.1) as (λ t. is_acted flow.port placed.1 ≡ t
