@@ -3,14 +3,14 @@ use crate::{ScriptEnd, parse, print};
 use std::alloc::{AllocError, Global};
 use std::test::Fail;
 
-// Five lines before the one that is tried.
+/// Five lines before the one that is tried.
 const BEFORE: &[u8] = b"endpoint A 1\nendpoint B 2\nlink A.0 B.0\nswitch S 4\nswitch T 16\n";
 
-// The same with an event behind them.
+/// The same with an event behind them.
 const BEGUN: &[u8] =
     b"endpoint A 1\nendpoint B 2\nlink A.0 B.0\nswitch S 4\nswitch T 16\ncollect A\n";
 
-// Reasons 1 and 2, each before a line that it hits.
+/// Reasons 1 and 2, each before a line that it hits.
 const MISSPELLED: &[u8] = b"\
     01 nothing|\
     01 Run 1|\
@@ -48,7 +48,7 @@ const MISSPELLED: &[u8] = b"\
     02 run 4294967296|\
 ";
 
-// Reasons 3 to 8.
+/// Reasons 3 to 8.
 const MISNAMED: &[u8] = b"\
     03 endpoint 1A 3|\
     03 endpoint ABCDEFGHI 3|\
@@ -76,7 +76,7 @@ const MISNAMED: &[u8] = b"\
     08 endpoint C 2|\
 ";
 
-// Reasons 9 to 14.
+/// Reasons 9 to 14.
 const MISPLACED: &[u8] = b"\
     09 send A 0 0 0 f|\
     09 send A 0 0 0 FF|\
@@ -106,7 +106,7 @@ const MISPLACED: &[u8] = b"\
     14 run 5001|\
 ";
 
-// Lines that two reasons hit, and the lesser.
+/// Lines that two reasons hit, and the lesser.
 const TWO_REASONS: &[u8] = b"\
     02 endpoint 1 256|\
     02 endpoint A 256|\
@@ -127,7 +127,7 @@ const TWO_REASONS: &[u8] = b"\
     13 pump S.0 100000|\
 ";
 
-// The same behind an event.
+/// The same behind an event.
 const TWO_BEHIND_AN_EVENT: &[u8] = b"\
     04 endpoint A 3|\
     06 route S 1 4|\
@@ -137,7 +137,7 @@ const TWO_BEHIND_AN_EVENT: &[u8] = b"\
     01 lock A 1 |\
 ";
 
-// Lines at their limits, which no reason hits.
+/// Lines at their limits, which no reason hits.
 const ACCEPTED: &[u8] = b"\
     00 endpoint ABCDEFGH 255|\
     00 endpoint C 0|\
@@ -162,7 +162,7 @@ const ACCEPTED: &[u8] = b"\
     00 # anything\n\nsettle A.0\n|\
 ";
 
-// Lines that set a fabric up, behind an event.
+/// Lines that set a fabric up, behind an event.
 const SET_UP: &[u8] = b"\
     12 endpoint C 3|\
     12 switch C 2|\
@@ -271,7 +271,7 @@ fn sixty_fourth_node_is_the_last(rt: HostRuntime) -> Result<(), Fail> {
     Ok(())
 }
 
-// A line of each kind, as it is printed.
+/// A line of each kind, as it is printed.
 const EACH_KIND: &[u8] = b"endpoint A 1\nswitch S 4\nlink A.0 S.3\nbuffers A.0 30\nroute S 9 3\n\
 default S 255\nlock S 65535\nsend A 3 15 255 00ff\nsend A 0 15 1 -\nread A 1 2 3 4 00000c\n\
 write A 1 2 3 4 000070 0000beef\npump A.0 100\ndeliver S.3 20\nalter A.0 8 k7c\n\

@@ -31,7 +31,8 @@ takes s node packet =
 
 -- The packet is the link form of the body that the line spells, with the endpoint's base device ID as
 -- source. One for registers has no block yet.
-pub record IsSend (s : Seen) (node prio ftype dest : ℕ) (rest : List ℕ) (block : List TraceLine) : Type 0 where
+pub record IsSend (s : Seen) (node prio ftype dest : ℕ) (rest : List ℕ) (block : List TraceLine) :
+    Type 0 where
   pub packet : List ℕ
   pub endpoint : IsEndpoint s.network node
   pub form : LinkForm (body_of prio ftype dest (base_of s.network node) rest) packet
@@ -41,7 +42,8 @@ pub record IsSend (s : Seen) (node prio ftype dest : ℕ) (rest : List ℕ) (blo
 -- a packet leaves, or nothing is held; one for registers has no block yet
 abbrev pub Leaves : ℕ → Option (List ℕ) → List TraceLine → Type 0
 Leaves node None block = block ≡ Lacked Empty ∷ []
-Leaves node (Some packet) block = (is_request packet ≡ false) × (block ≡ Stepped (AtNode (Leave node packet)) ∷ [])
+Leaves node (Some packet) block =
+    (is_request packet ≡ false) × (block ≡ Stepped (AtNode (Leave node packet)) ∷ [])
 
 -- the packet whose turn it is leaves the fabric at an endpoint
 abbrev pub IsCollect : Seen → ℕ → List TraceLine → Type 0
@@ -101,7 +103,8 @@ WithPeer None lines block = ⊥
 WithPeer (Some q) lines block = block ≡ lines q
 
 -- by the link of the line's port, its first end first
-abbrev pub WithLink : Option (PortRef × PortRef) → (PortRef → PortRef → List TraceLine → Type 0) → List TraceLine → Type 0
+abbrev pub WithLink : Option (PortRef × PortRef) → (PortRef → PortRef → List TraceLine → Type 0)
+    → List TraceLine → Type 0
 WithLink None Block block = ⊥
 WithLink (Some link) Block block = Block link.0 link.1 block
 

@@ -87,4 +87,5 @@ still_under_way = Signed (Sent near (Invalid ∷ [])) ∷ []
 
 -- a packet was acted on that nobody sent
 abbrev pub acted_from_nowhere : Seen
-acted_from_nowhere = record (begins pair) { wires = λ p. record { chars = []; sent = []; acted = Pkt 0 [] ∷ [] } }
+acted_from_nowhere =
+    record (begins pair) { wires = λ p. record { chars = []; sent = []; acted = Pkt 0 [] ∷ [] } }

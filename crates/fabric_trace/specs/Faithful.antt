@@ -17,11 +17,14 @@ IsUnsent acted sent (Some e) = IsSubsequence (acted ++ e ∷ []) sent → ⊥
 -- What a port acted on of the characters that it got, with what was acted on from that wire since the last silence, is a
 -- subsequence of what was sent on it since then. An event that it found not to be sent is indeed none of those behind.
 pub record IsFaithful (s : Seen) (p q : PortRef) (chars : List Char) : Type 0 where
-  pub acted : IsSubsequence ((s.wires p).acted ++ (told_of (taken_from s p q chars)).acted) (s.wires p).sent
-  pub unsent : IsUnsent ((s.wires p).acted ++ (told_of (taken_from s p q chars)).acted) (s.wires p).sent (undetected (taken_from s p q chars))
+  pub acted : IsSubsequence ((s.wires p).acted ++ (told_of (taken_from s p q chars)).acted)
+      (s.wires p).sent
+  pub unsent : IsUnsent ((s.wires p).acted ++ (told_of (taken_from s p q chars)).acted)
+      (s.wires p).sent (undetected (taken_from s p q chars))
 
 abbrev pub FaithfulLine : Seen → TraceLine → Type 0
-FaithfulLine s (Signed (Got q chars)) = (p : PortRef) → peer_of s q ≡ Some p → IsFaithful s p q chars
+FaithfulLine s (Signed (Got q chars)) =
+    (p : PortRef) → peer_of s q ≡ Some p → IsFaithful s p q chars
 FaithfulLine s _ = Unit {0}
 
 -- at each line

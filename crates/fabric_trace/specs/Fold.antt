@@ -38,7 +38,8 @@ changed edit chars = if fits edit chars then edited edit chars else chars
 abbrev pub edited_by : Seen → Option (PortRef × Edit) → Seen
 edited_by s None = s
 edited_by s (Some edit) = record s {
-  wires = with_wire s.wires edit.0 (record (s.wires edit.0) { chars = changed edit.1 (s.wires edit.0).chars });
+  wires = with_wire s.wires edit.0
+      (record (s.wires edit.0) { chars = changed edit.1 (s.wires edit.0).chars });
 }
 
 -- ---- characters that are sent
@@ -51,8 +52,11 @@ says chars = said start chars
 -- other symbols change nothing.
 abbrev pub symbol_leaves : ℕ → out.Output → out.Output
 symbol_leaves s1 (out.Output.Ok w) = out.Output.Ok w
-symbol_leaves s1 (out.Output.RetryStopped w) = if s1 == RESTART_FROM_RETRY then out.Output.Ok (from_ack w.oldest) else out.Output.RetryStopped w
-symbol_leaves s1 (out.Output.ErrorStopped asked w) = if s1 == LINK_REQUEST then out.Output.ErrorStopped true w else out.Output.ErrorStopped asked w
+symbol_leaves s1 (out.Output.RetryStopped w) =
+    if s1 == RESTART_FROM_RETRY then out.Output.Ok (from_ack w.oldest)
+    else out.Output.RetryStopped w
+symbol_leaves s1 (out.Output.ErrorStopped asked w) =
+    if s1 == LINK_REQUEST then out.Output.ErrorStopped true w else out.Output.ErrorStopped asked w
 symbol_leaves s1 out.Output.Failed = out.Output.Failed
 
 -- after a packet was sent: one more is outstanding

@@ -14,7 +14,8 @@ use Rattle.fabric_trace.specs.Lines.{Got, TraceLine, Stepped, Signed}
 
 -- an acceptance of the packet of this number, whose ackID is the number modulo 32, or a link-response
 abbrev pub Acknowledges : ℕ → Event → Type 0
-Acknowledges j (Ctl symbol) = ((symbol.s0 ≡ PACKET_ACCEPTED) × (symbol.p0 ≡ j % 32)) ⊎ (symbol.s0 ≡ LINK_RESPONSE)
+Acknowledges j (Ctl symbol) =
+    ((symbol.s0 ≡ PACKET_ACCEPTED) × (symbol.p0 ≡ j % 32)) ⊎ (symbol.s0 ≡ LINK_RESPONSE)
 Acknowledges j (Pkt ack packet) = ⊥
 Acknowledges j (Bad cause) = ⊥
 
@@ -33,7 +34,8 @@ abbrev pub nothing_got : Gotten
 nothing_got = record { before = []; last = [] }
 
 abbrev pub gets : PortRef → Gotten → TraceLine → Gotten
-gets p known (Signed (Got q chars)) = if same_port p q then record { before = known.before ++ known.last; last = chars } else known
+gets p known (Signed (Got q chars)) =
+    if same_port p q then record { before = known.before ++ known.last; last = chars } else known
 gets p known _ = known
 
 -- the events that its last delivery completed, in the reading of everything that it got
@@ -50,11 +52,13 @@ frees_by p (Stepped step) = frees_by_step p step
 frees_by p _ = 0
 
 abbrev pub FreeSaid : PortRef → Gotten → ℕ → TraceLine → Type 0
-FreeSaid p known j (Stepped (Linked (Free q packet))) = same_port p q ≡ true → IsSaid j (completed known)
+FreeSaid p known j (Stepped (Linked (Free q packet))) =
+    same_port p q ≡ true → IsSaid j (completed known)
 FreeSaid p known j _ = Unit {0}
 
 -- The j-th packet that a port frees, counted from 0, stands in a delivery that completes an acceptance with ackID j
 -- modulo 32, or a link-response.
 abbrev pub FreesSaid : PortRef → Gotten → ℕ → List TraceLine → Type 0
 FreesSaid p known j [] = Unit {0}
-FreesSaid p known j (line ∷ lines) = FreeSaid p known j line × FreesSaid p (gets p known line) (j + frees_by p line) lines
+FreesSaid p known j (line ∷ lines) =
+    FreeSaid p known j line × FreesSaid p (gets p known line) (j + frees_by p line) lines

@@ -26,19 +26,26 @@ pub data Part (s : Seen) (lines : List TraceLine) : Type 0 where
   Lacks : (lack : Lack) → lines ≡ Lacked lack ∷ [] → Part s lines
   -- the last line, of either kind
   Ends : lines ≡ Ended ∷ [] → Part s lines
-  Names : (number : ℕ) (q : PortRef) (e : Event) → s.unfaithful ≡ Some (record { port = q; event = e }) → lines ≡ Undetected number q e ∷ [] → Part s lines
+  Names : (number : ℕ) (q : PortRef) (e : Event)
+      → s.unfaithful ≡ Some (record { port = q; event = e }) → lines ≡ Undetected number q e ∷ []
+      → Part s lines
   -- a step at a node
-  Steps : (step : NodeStep) → Needs s.network (AtNode step) → prio_of (packet_of step) < 4 → lines ≡ Stepped (AtNode step) ∷ [] → Part s lines
+  Steps : (step : NodeStep) → Needs s.network (AtNode step) → prio_of (packet_of step) < 4
+      → lines ≡ Stepped (AtNode step) ∷ [] → Part s lines
   -- turns of a port
-  Turns : (p q : PortRef) (n : ℕ) → peer_of s p ≡ Some q → s.unfaithful ≡ None → lines ≡ lines_of p q (pump_notes A n (link_at s p q)) → Part s lines
+  Turns : (p q : PortRef) (n : ℕ) → peer_of s p ≡ Some q → s.unfaithful ≡ None
+      → lines ≡ lines_of p q (pump_notes A n (link_at s p q)) → Part s lines
   -- characters of the wire of p come to q
-  Delivers : (p q : PortRef) (n : ℕ) → peer_of s p ≡ Some q → s.unfaithful ≡ None → has_chars A n (link_at s p q) ≡ true
+  Delivers : (p q : PortRef) (n : ℕ) → peer_of s p ≡ Some q → s.unfaithful ≡ None
+      → has_chars A n (link_at s p q) ≡ true
       → lines ≡ lines_of p q (delivery_notes A n (link_at s p q)) → Part s lines
   -- a time-out, where both wires are empty
-  Fires : (p q : PortRef) → peer_of s p ≡ Some q → s.unfaithful ≡ None → is_silent (link_at s p q) ≡ true
+  Fires : (p q : PortRef) → peer_of s p ≡ Some q → s.unfaithful ≡ None
+      → is_silent (link_at s p q) ≡ true
       → lines ≡ lines_of p q (time_out_notes A (link_at s p q)) → Part s lines
 
 -- parts, one after another
 pub data Made : Seen → List TraceLine → Type 0 where
   Done : {s : Seen} {lines : List TraceLine} → lines ≡ [] → Made s lines
-  Then : {s : Seen} {lines : List TraceLine} (first rest : List TraceLine) → lines ≡ first ++ rest → Part s first → Made (seen s first) rest → Made s lines
+  Then : {s : Seen} {lines : List TraceLine} (first rest : List TraceLine) → lines ≡ first ++ rest
+      → Part s first → Made (seen s first) rest → Made s lines

@@ -30,7 +30,8 @@ with_buffers buffers p n q = if same_port q p then n else buffers q
 
 -- the network with one more line of set-up
 abbrev pub set_up : Network → Line → Network
-set_up net (Endpoint name id) = record net { registers = net.registers ++ record { base = id } ∷ [] }
+set_up net (Endpoint name id) =
+    record net { registers = net.registers ++ record { base = id } ∷ [] }
 set_up net (Link a b) = record net { links = net.links ++ (a, b) ∷ [] }
 set_up net (Buffers port n) = record net { buffers = with_buffers net.buffers port n }
 set_up net _ = net
@@ -62,15 +63,18 @@ has_block (Buffers port n) = false
 has_block _ = true
 
 -- More follows while every event that was acted on was sent; else the last part.
-abbrev pub Follows : Option Found → (List TraceLine → Type 0) → (Found → List TraceLine → Type 0) → List TraceLine → Type 0
+abbrev pub Follows : Option Found → (List TraceLine → Type 0) → (Found → List TraceLine → Type 0)
+    → List TraceLine → Type 0
 Follows None More Last rest = More rest
 Follows (Some found) More Last rest = Last found rest
 
 -- the line that an event begins with, its block, and what comes behind
-abbrev pub BlockThen : (Seen → List TraceLine → Type 0) → (Found → List TraceLine → Type 0) → Seen → Line → List TraceLine → Type 0
+abbrev pub BlockThen : (Seen → List TraceLine → Type 0) → (Found → List TraceLine → Type 0) → Seen
+    → Line → List TraceLine → Type 0
 BlockThen More Last s line lines = (block : List TraceLine) × (rest : List TraceLine)
     × (lines ≡ (Begun line ∷ block) ++ rest) × IsBlock s line block
-    × Follows (seen s (Begun line ∷ block)).unfaithful (More (seen s (Begun line ∷ block))) Last rest
+    × Follows (seen s (Begun line ∷ block)).unfaithful (More (seen s (Begun line ∷ block))) Last
+    rest
 
 -- the line that names an event that was not sent is the last
 abbrev pub Names : ℕ → Found → List TraceLine → Type 0

@@ -18,7 +18,8 @@ pub record IsSetUp (net : Network) : Type 0 where
 
 -- a line of a link joins two ports that have none, and one of buffers has 4 to 30
 abbrev pub MaySetUp : Network → Line → Type 0
-MaySetUp net (Link a b) = (same_port a b ≡ false) × (peer_in net.links a ≡ None) × (peer_in net.links b ≡ None)
+MaySetUp net (Link a b) =
+    (same_port a b ≡ false) × (peer_in net.links a ≡ None) × (peer_in net.links b ≡ None)
 MaySetUp net (Buffers port n) = AreBuffers n
 MaySetUp net _ = ⊤
 

@@ -14,10 +14,14 @@ use Rattle.fabric_model.specs.Steps.{Hold, Free, Take, Leave, Step, Linked, AtNo
 use Rattle.fabric_trace.specs.Lines.{Lack, Full, Empty, Short, Early, Sign, Sent, Got, Fired, TraceLine, Begun, Stepped, Signed, Lacked, Ended, Undetected}
 
 abbrev pub step_text : List (List ℕ) → Step → List ℕ
-step_text names (Linked (Hold q packet)) = codes "hold " ++ port_text names q ++ codes " " ++ hex_of packet
-step_text names (Linked (Free p packet)) = codes "free " ++ port_text names p ++ codes " " ++ hex_of packet
-step_text names (AtNode (Take n packet)) = codes "take " ++ name_of names n ++ codes " " ++ hex_of packet
-step_text names (AtNode (Leave n packet)) = codes "leave " ++ name_of names n ++ codes " " ++ hex_of packet
+step_text names (Linked (Hold q packet)) =
+    codes "hold " ++ port_text names q ++ codes " " ++ hex_of packet
+step_text names (Linked (Free p packet)) =
+    codes "free " ++ port_text names p ++ codes " " ++ hex_of packet
+step_text names (AtNode (Take n packet)) =
+    codes "take " ++ name_of names n ++ codes " " ++ hex_of packet
+step_text names (AtNode (Leave n packet)) =
+    codes "leave " ++ name_of names n ++ codes " " ++ hex_of packet
 
 abbrev pub sign_text : List (List ℕ) → Sign → List ℕ
 sign_text names (Sent p chars) = codes "sent " ++ port_text names p ++ spaced_chars chars
@@ -33,7 +37,9 @@ lack_text Early = codes "early"
 -- A symbol is told by stype0, its two parameters, stype1 and cmd; a packet by its ackID and its bytes.
 -- What is neither is never acted on, and has no text.
 abbrev pub event_text : Event → List ℕ
-event_text (Ctl symbol) = codes "symbol " ++ decimal symbol.s0 ++ codes " " ++ decimal symbol.p0 ++ codes " " ++ decimal symbol.p1 ++ codes " " ++ decimal symbol.s1 ++ codes " " ++ decimal symbol.cmd
+event_text (Ctl symbol) =
+    codes "symbol " ++ decimal symbol.s0 ++ codes " " ++ decimal symbol.p0 ++ codes " "
+    ++ decimal symbol.p1 ++ codes " " ++ decimal symbol.s1 ++ codes " " ++ decimal symbol.cmd
 event_text (Pkt ack packet) = codes "packet " ++ decimal ack ++ codes " " ++ hex_of packet
 event_text (Bad cause) = []
 
@@ -44,7 +50,9 @@ trace_line_text names (Stepped step) = step_text names step
 trace_line_text names (Signed sign) = sign_text names sign
 trace_line_text names (Lacked lack) = lack_text lack
 trace_line_text names Ended = codes "end"
-trace_line_text names (Undetected number q e) = codes "undetected " ++ decimal number ++ codes " " ++ port_text names q ++ codes " " ++ event_text e
+trace_line_text names (Undetected number q e) =
+    codes "undetected " ++ decimal number ++ codes " " ++ port_text names q ++ codes " "
+    ++ event_text e
 
 -- the text of a trace: each line with a line feed
 abbrev pub trace_text : List (List ℕ) → List TraceLine → List ℕ

@@ -29,7 +29,8 @@ packets_in items = map (λ item. item.now) items
 
 -- the packets of four lanes, one for each priority
 abbrev pub lists_in : (ℕ → List Item) → List (List (List ℕ))
-lists_in lanes = packets_in (lanes 0) ∷ packets_in (lanes 1) ∷ packets_in (lanes 2) ∷ packets_in (lanes 3) ∷ []
+lists_in lanes =
+    packets_in (lanes 0) ∷ packets_in (lanes 1) ∷ packets_in (lanes 2) ∷ packets_in (lanes 3) ∷ []
 
 -- what a port has to send of a priority: what it has lent, and then what waits
 abbrev pub queue : Network → PortRef → ℕ → List Item

@@ -36,7 +36,8 @@ on_wires links wires (Signed sign) = signed_chars links wires sign
 on_wires links wires _ = wires
 
 -- the characters stand at the front of the peer's wire
-pub record IsFrontOf (links : List (PortRef × PortRef)) (wires : WireChars) (q : PortRef) (chars : List Char) : Type 0 where
+pub record IsFrontOf (links : List (PortRef × PortRef)) (wires : WireChars) (q : PortRef)
+    (chars : List Char) : Type 0 where
   pub peer : PortRef
   pub behind : List Char
   pub peer_is : peer_in links q ≡ Some peer
@@ -50,4 +51,5 @@ StoodThere links wires _ = Unit {0}
 -- at each line, from these wires on
 abbrev pub WireFold : List (PortRef × PortRef) → WireChars → List TraceLine → Type 0
 WireFold links wires [] = Unit {0}
-WireFold links wires (line ∷ lines) = StoodThere links wires line × WireFold links (on_wires links wires line) lines
+WireFold links wires (line ∷ lines) =
+    StoodThere links wires line × WireFold links (on_wires links wires line) lines

@@ -35,7 +35,8 @@ pub fn laws_can_fail()
     ensures twice { (known : Gotten) → completed known ≡ Ctl (packet_accepted 0) ∷ []
         → FreesSaid near known 0 freed_twice → ⊥ }
     ensures got { WireFold pair.links (λ p. []) got_from_nowhere → ⊥ }
-    ensures another { (sent other : Char) → sent ≢ other → WireFold pair.links (λ p. []) (got_another sent other) → ⊥ }
+    ensures another { (sent other : Char) → sent ≢ other
+        → WireFold pair.links (λ p. []) (got_another sent other) → ⊥ }
     ensures moving { IsSettled (link_at (seen (begins pair) still_under_way) near far) → ⊥ }
     ensures acted { IsFaithful acted_from_nowhere near far [] → ⊥ }
 {}

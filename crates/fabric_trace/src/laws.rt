@@ -26,7 +26,8 @@ ghost use Rattle.fabric_trace.specs.Wires.{WireFold};
 /// A script has at most one trace.
 #[tactic(auto, using(crate::proofs::Unique::runs_one))]
 pub fn one_trace()
-    ensures { (script : List Numbered) (a b : List TraceLine) → Runs script a → Runs script b → a ≡ b }
+    ensures { (script : List Numbered) (a b : List TraceLine) → Runs script a → Runs script b
+        → a ≡ b }
 {}
 
 /// The blocks of a script's first events are a front of any trace of it.
@@ -38,7 +39,8 @@ pub fn first_blocks_are_a_front()
 /// The lines of set-up give a network with no packet in it, in which each port stands in at most one link and has
 /// 4 to 30 receive buffers, if each line may stand behind those before it.
 pub fn set_up()
-    ensures { (script : List Numbered) → MaySetUpAll bare script → IsSetUp (set_up_all bare script) }
+    ensures { (script : List Numbered) → MaySetUpAll bare script
+        → IsSetUp (set_up_all bare script) }
 {}
 
 /// Every trace of a script is made of parts: event lines, steps at nodes, turns, deliveries and time-outs, each in the
@@ -54,11 +56,14 @@ pub fn runs_are_made()
 pub fn steps_are_legal()
     ensures all { (net : Network) (lines : List TraceLine) → IsSetUp net → Made (begins net) lines
         → LegalFrom net (steps_of lines) (seen (begins net) lines).network }
-    ensures front { (net : Network) (front rest : List TraceLine) → IsSetUp net → Made (begins net) (front ++ rest)
+    ensures front { (net : Network) (front rest : List TraceLine) → IsSetUp net
+        → Made (begins net) (front ++ rest)
         → LegalFrom net (steps_of front) (seen (begins net) front).network }
-    ensures lawful { (net : Network) (lines : List TraceLine) → IsSetUp net → Made (begins net) lines
+    ensures lawful { (net : Network) (lines : List TraceLine) → IsSetUp net
+        → Made (begins net) lines
         → Lawful net (steps_of lines) (seen (begins net) lines).network }
-    ensures of_script { (script : List Numbered) (lines : List TraceLine) → MaySetUpAll bare script → Runs script lines
+    ensures of_script { (script : List Numbered) (lines : List TraceLine) → MaySetUpAll bare script
+        → Runs script lines
         → Lawful (set_up_all bare script) (steps_of lines) (seen (start script) lines).network }
 {}
 
@@ -67,7 +72,8 @@ pub fn steps_are_legal()
 pub fn links_stay_sound()
     ensures sound { (net : Network) (lines : List TraceLine) → IsSetUp net → Made (begins net) lines
         → (seen (begins net) lines).unfaithful ≡ None → AreLinks (seen (begins net) lines) }
-    ensures working { (net : Network) (lines : List TraceLine) (p q : PortRef) → IsSetUp net → Made (begins net) lines
+    ensures working { (net : Network) (lines : List TraceLine) (p q : PortRef) → IsSetUp net
+        → Made (begins net) lines
         → (seen (begins net) lines).unfaithful ≡ None → peer_of (seen (begins net) lines) p ≡ Some q
         → (port_at (seen (begins net) lines) p).output ≢ out.Output.Failed }
 {}
@@ -75,9 +81,12 @@ pub fn links_stay_sound()
 /// Settling leaves a link at rest: both wires are empty, nothing is outstanding or lent, and at each end nothing waits
 /// that has room at the other; if every event that was acted on was sent.
 pub fn settling_leaves_a_link_at_rest()
-    ensures { (net : Network) (before block : List TraceLine) (a b : PortRef) → IsSetUp net → Made (begins net) before
-        → peer_of (seen (begins net) before) a ≡ Some b → (seen (begins net) before).unfaithful ≡ None
-        → IsSettle (seen (begins net) before) a b block → (seen (begins net) (before ++ block)).unfaithful ≡ None
+    ensures { (net : Network) (before block : List TraceLine) (a b : PortRef) → IsSetUp net
+        → Made (begins net) before
+        → peer_of (seen (begins net) before) a ≡ Some b
+        → (seen (begins net) before).unfaithful ≡ None
+        → IsSettle (seen (begins net) before) a b block
+        → (seen (begins net) (before ++ block)).unfaithful ≡ None
         → IsSettled (link_at (seen (begins net) (before ++ block)) a b) }
 {}
 
@@ -90,21 +99,24 @@ pub fn what_a_port_got_was_on_the_wire()
 /// The i-th packet that a port holds came to it with ackID i modulo 32, in the order of the holds: in the reading of
 /// everything that it got.
 pub fn what_a_port_holds_came_to_it()
-    ensures { (net : Network) (lines : List TraceLine) (q : PortRef) → IsSetUp net → Made (begins net) lines
+    ensures { (net : Network) (lines : List TraceLine) (q : PortRef) → IsSetUp net
+        → Made (begins net) lines
         → HoldsCame q lines }
 {}
 
 /// The j-th packet that a port frees, counted from 0, stands behind a delivery to it whose characters complete an acceptance
 /// with ackID j modulo 32, or a link-response: in the reading of everything that it got.
 pub fn what_a_port_frees_was_acknowledged()
-    ensures { (net : Network) (lines : List TraceLine) (p : PortRef) → IsSetUp net → Made (begins net) lines
+    ensures { (net : Network) (lines : List TraceLine) (p : PortRef) → IsSetUp net
+        → Made (begins net) lines
         → FreesSaid p nothing_got 0 lines }
 {}
 
 /// A trace ends with the line that says so, where every event that was acted on was sent; or with the line that names the
 /// event that was not.
 pub fn a_trace_ends()
-    ensures { (script : List Numbered) (lines : List TraceLine) → Runs script lines → EndsAs (start script) lines }
+    ensures { (script : List Numbered) (lines : List TraceLine) → Runs script lines
+        → EndsAs (start script) lines }
 {}
 
 /// Of any lines: what was acted on since the last silence of a link is a subsequence of what was sent since then. An

@@ -118,9 +118,11 @@ abbrev pub SaysOfInput : Command → Status → Option (List ℕ) → Option (Li
     → Option (List ℕ) → ℕ → Option (List ℕ) → ℕ → Type 0
 SaysOfInput command Done left left_after read read_after written faults written_after faults_after =
     OfInput left left_after (λ bytes. Completes command bytes written written_after)
-SaysOfInput command Words left left_after read read_after written faults written_after faults_after =
+SaysOfInput command Words left left_after read read_after written faults written_after faults_after
+    =
     ⊥
-SaysOfInput command Script left left_after read read_after written faults written_after faults_after =
+SaysOfInput command Script left left_after read read_after written faults written_after faults_after
+    =
     OfInput left left_after (λ bytes. Declines command bytes written written_after)
 SaysOfInput command ReadFault left left_after read read_after written faults written_after
     faults_after = Rose read read_after × Keeps written written_after
@@ -136,7 +138,8 @@ SaysOfInput command Undetected left left_after read read_after written faults wr
 SaysOfInput command TooLong left left_after read read_after written faults written_after
     faults_after = ConsumesJust left left_after (most_input + 1)
     × Appends written written_after refused_length
-SaysOfInput command Locked left left_after read read_after written faults written_after faults_after =
+SaysOfInput command Locked left left_after read read_after written faults written_after faults_after
+    =
     ⊥
 
 -- a refusal of what the source gave is answered exactly with the status Script
