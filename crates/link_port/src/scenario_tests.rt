@@ -95,7 +95,8 @@ fn a_corrupted_packet_is_sent_again(rt: HostRuntime) {
     };
     put(&mut pair.near);
     let burst = pair.near.turn();
-    let (before, after) = burst.chars.as_slice().split_at(8);
+    let chars = burst.chars.as_slice();
+    let (before, after) = chars.split_at(chars.len().min(8));
     meet(&mut pair.far, before);
     let reply = match after {
         [Char::Data(byte), rest @ ..] => {
