@@ -3,13 +3,18 @@
 //!
 //! Promised: whoever carries accesses as [`Maint`] answers each as the registers do at which it
 //! ends, and changes no others; an access has no answer only for want of memory, or if a count
-//! rose.
+//! rose. Plain registers and links do so.
 //!
-//! Left out: whoever does so, and the walk of a host through its fabric.
+//! Left out: packets and the links that carry them, and the walk of a host through its fabric.
 //!
 //! - [`Maint`] carries an [`Access`] to a device and brings back the [`Answer`], or tells the [`MaintEnd`].
+//! - [`PlainMaint`] does so for registers and links that it holds itself.
 #![tactic(auto)]
 
 mod maint;
+mod plain;
+#[cfg(test)]
+mod tests;
 
 pub use maint::{Access, Answer, Maint, MaintEnd};
+pub use plain::PlainMaint;

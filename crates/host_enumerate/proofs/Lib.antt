@@ -1,0 +1,2 @@
+mod Accessed
+mod PlainWalks

@@ -1,0 +1,178 @@
+//! `PlainMaint`: accesses to plain registers, with no packets and no links to carry them.
+ghost use Rattle.std.specs.Prelude.{◌≡◌, ◌<◌, ◌≤◌, ◌^◌, length, slice_set, OnOk, IfOk, IfErr};
+ghost use Rattle.fabric_script.specs.Known.{same_port};
+ghost use Rattle.fabric_script.specs.declared.ports.PortRef.{PortRef};
+ghost use Rattle.maint_registers.specs.Devices.{IsDevice, IsSameDevice};
+ghost use Rattle.fabric_map.specs.Topology.{Topology, IsTopology, peer_in};
+ghost use Rattle.fabric_map.specs.Routes.{walk};
+ghost use Rattle.fabric_map.specs.Fitting.{Fits};
+ghost use Rattle.host_enumerate.specs.Accesses.{answered};
+ghost use Rattle.host_enumerate.specs.Plain.{topology_of, registers_of};
+
+use crate::maint::{Access, Answer, Maint, MaintEnd};
+use fabric_script::PortRef;
+use maint_registers::Registers;
+use std::alloc::Global;
+
+/// The answer to an access that was not done.
+const FAILED: Answer = Answer {
+    status: 7,
+    value: 0,
+};
+
+/// The registers of devices and the links between them, and a host that is one of the endpoints.
+#[derive(Debug, Drop)]
+pub struct PlainMaint {
+    devices: Vec<Registers>,
+    links: Vec<(PortRef, PortRef)>,
+    host: u8,
+}
+
+impl PlainMaint {
+    /// A fabric of these devices and links. It can be asked if each link joins two ports, the host
+    /// has one, and the devices show their links.
+    pub fn new(devices: Vec<Registers>, links: Vec<(PortRef, PortRef)>, host: u8) -> PlainMaint
+        ensures devices { result.devices.items ≡ devices.items }
+        ensures links { result.links.items ≡ links.items }
+        ensures host { result.host ≡ host }
+    {
+        PlainMaint {
+            devices,
+            links,
+            host,
+        }
+    }
+
+    /// The registers of a device.
+    pub fn device(&self, node: u8) -> &Registers
+        requires { node < length self.now.devices.items }
+        ensures { result.now ≡ registers_of self.now.devices.items node }
+    {
+        &self.devices[node as usize]
+    }
+
+    /// Where a request ends that leaves a port.
+    fn walk(&self, dest: u8, hops: u8, from: PortRef) -> Option<PortRef>
+        requires { IsTopology
+            (topology_of self.now.devices.items self.now.links.items self.now.host) }
+        ensures { result ≡ walk
+            (topology_of self.now.devices.items self.now.links.items self.now.host)
+            (registers_of self.now.devices.items) dest hops from }
+    {
+        let at = peer_in(self.links.as_slice(), from)?;
+        if hops == 0 {
+            return Some(at);
+        }
+        let device = &self.devices[at.node as usize];
+        if !device.is_switch() {
+            return Some(at);
+        }
+        let port = device.next_port(dest)?;
+        let next = PortRef {
+            node: at.node,
+            port,
+        };
+        self.walk(dest, hops - 1, next)
+    }
+}
+
+/// Whether two ports are one.
+fn same_port(p: PortRef, q: PortRef) -> bool
+    ensures { result ≡ same_port p q }
+{
+    p.node == q.node && p.port == q.port
+}
+
+/// The other end of a port's link, in a list of links.
+pub(crate) fn peer_in(links: &[(PortRef, PortRef)], at: PortRef) -> Option<PortRef>
+    ensures { result ≡ peer_in links.now at }
+{
+    let [link, rest @ ..] = links else {
+        return None;
+    };
+    if same_port(link.0, at) {
+        Some(link.1)
+    } else if same_port(link.1, at) {
+        Some(link.0)
+    } else {
+        peer_in(rest, at)
+    }
+}
+
+/// Does an access that came to a port of a device.
+pub(crate) fn respond(device: &mut Registers, port: u8, access: Access) -> Answer
+    ensures answer { result ≡ (answered device.old port access).answer }
+    ensures becomes { device.new ≡ (answered device.old port access).device }
+    ensures same { IsSameDevice device.old device.new }
+    ensures device { IsDevice device.new }
+    ensures id { device.new.base_id < 256 }
+{
+    let answer = match access {
+        Access::Read(offset) => match device.read(offset, port) {
+            Some(value) => done(value),
+            None => FAILED,
+        },
+        Access::Write(offset, value) => {
+            if device.write(offset, value) {
+                done(0)
+            } else {
+                FAILED
+            }
+        }
+    };
+    prove!(device.base_id() <= u8::MAX);
+    prove!(device.ports() <= 16);
+    answer
+}
+
+/// The answer to an access that was done.
+fn done(value: u32) -> Answer
+    ensures { result ≡ record { status = 0; value = value } }
+{
+    Answer { status: 0, value }
+}
+
+impl Maint for PlainMaint {
+    ghost topology = { λ maint. topology_of maint.devices.items maint.links.items maint.host };
+
+    ghost registers = { λ maint. registers_of maint.devices.items };
+
+    ghost undetected = { λ _. 0 };
+
+    ghost faults = { λ _. 0 };
+
+    ghost IsWhole = { λ maint.
+        IsTopology (topology_of maint.devices.items maint.links.items maint.host)
+        × Fits (topology_of maint.devices.items maint.links.items maint.host)
+        (registers_of maint.devices.items) };
+
+    ghost IsOrderly = { λ _. Unit {0} };
+
+    ghost whole_is_orderly = { λ maint whole. tt };
+
+    ghost whole_is_proper = { λ maint whole. whole.0 };
+
+    ghost whole_fits = { λ maint whole. whole.1 };
+
+    fn ask(
+        &mut self,
+        _alloc: Global,
+        dest: u8,
+        hops: u8,
+        access: Access,
+    ) -> Result<Answer, MaintEnd> {
+        let host = PortRef {
+            node: self.host,
+            port: 0,
+        };
+        // The answer comes back, as the caller has shown.
+        match self.walk(dest, hops, host) {
+            Some(at) => Ok(respond(&mut self.devices[at.node as usize], at.port, access)),
+            None => unreachable!(),
+        }
+    }
+
+    fn own(&mut self, access: Access) -> Answer {
+        respond(&mut self.devices[self.host as usize], 0, access)
+    }
+}
