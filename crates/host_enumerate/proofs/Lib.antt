@@ -1,2 +1,3 @@
 mod Accessed
 mod PlainWalks
+mod Pairs

@@ -1,3 +1,4 @@
 pub mod Accesses
 pub mod Causes
 pub mod Plain
+pub mod Examples

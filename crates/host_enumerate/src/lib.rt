@@ -9,12 +9,15 @@
 //!
 //! - [`Maint`] carries an [`Access`] to a device and brings back the [`Answer`], or tells the [`MaintEnd`].
 //! - [`PlainMaint`] does so for registers and links that it holds itself.
+//! - [`a_pair_can_be_asked`] says so of the least fabric.
 #![tactic(auto)]
 
+mod examples;
 mod maint;
 mod plain;
 #[cfg(test)]
 mod tests;
 
+pub use examples::a_pair_can_be_asked;
 pub use maint::{Access, Answer, Maint, MaintEnd};
 pub use plain::PlainMaint;

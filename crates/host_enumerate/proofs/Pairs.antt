@@ -1,0 +1,119 @@
+-- A host and an endpoint with a link between them.
+use Rattle.std.proofs.Common.{◌≡◌, ℕ, zero, suc, ◌/◌, ◌%◌, ◌^◌, ◌<◌, ◌≤◌, ◌==◌, is_some, ◌&&◌, Bool, true, false, Some, None, ◌⊎◌, inl, inr, arith, refl, sym, ap, subst, ◌∙◌, if◌then◌else◌}
+use Rattle.std.proofs.lemmas.Bool.{eqb-true}
+use Rattle.std.proofs.lemmas.Option.{same_Some}
+use Rattle.std.proofs.lemmas.List.{length-replicate}
+use Rattle.fabric_script.specs.declared.ports.PortRef.{PortRef}
+use Rattle.fabric_script.specs.Known.{same_port}
+use Rattle.maint_registers.specs.Devices.{IsDevice, new_endpoint, no_routes, is_switch}
+use Rattle.fabric_map.specs.Topology.{IsTopology, IsPort, port_at, ports_of, peer_in}
+use Rattle.fabric_map.specs.Fitting.{Fits}
+use Rattle.host_enumerate.specs.Plain.{topology_of, registers_of}
+use Rattle.host_enumerate.specs.Examples.{pair_devices, pair_links}
+
+same_port-true : (p q : PortRef) → same_port p q ≡ true → p ≡ q
+same_port-true p q is = go (p.node == q.node) (p.port == q.port) refl refl is
+  where
+    go : (a b : Bool) → (p.node == q.node) ≡ a → (p.port == q.port) ≡ b → (a && b) ≡ true
+        → p ≡ q
+    go true true node port both =
+        let same_node = eqb-true p.node q.node node in
+        let same_number = eqb-true p.port q.port port in
+        λ i. record { node = same_node i; port = same_number i }
+    go true false node port both = absurd (cc)
+    go false b node port both = absurd (cc)
+
+abbrev Ends : PortRef → PortRef → Type 0
+Ends p q =
+    ((port_at 0 0 ≡ p) × (port_at 1 0 ≡ q)) ⊎ ((port_at 1 0 ≡ p) × (port_at 0 0 ≡ q))
+
+-- the link has two ends
+ends : (p q : PortRef) → peer_in pair_links p ≡ Some q → Ends p q
+ends p q linked = go (same_port (port_at 0 0) p) (same_port (port_at 1 0) p) refl refl linked
+  where
+    go : (a b : Bool) → same_port (port_at 0 0) p ≡ a → same_port (port_at 1 0) p ≡ b
+        → (if a then Some (port_at 1 0) else (if b then Some (port_at 0 0) else None)) ≡ Some q
+        → Ends p q
+    go true b first second at =
+        inl (same_port-true (port_at 0 0) p first, same_Some (port_at 1 0) q at)
+    go false true first second at =
+        inr (same_port-true (port_at 1 0) p second, same_Some (port_at 0 0) q at)
+    go false false first second at = absurd (cc)
+
+pub pair-topology : IsTopology (topology_of pair_devices pair_links 0)
+pair-topology = record {
+  most = omega arith;
+  host = omega arith;
+  host_is_endpoint = refl;
+  host_is_linked = refl;
+  most_ports = most;
+  ports = λ p q linked. port p q (ends p q linked);
+  both_ways = λ p q linked. back p q (ends p q linked);
+  two_ports = λ p linked. apart p (ends p p linked);
+}
+  where
+    most : (node : ℕ) → ports_of (topology_of pair_devices pair_links 0) node ≤ 16
+    most zero = omega arith
+    most (suc zero) = omega arith
+    most (suc (suc node)) = omega arith
+
+    port : (p q : PortRef) → Ends p q → IsPort (topology_of pair_devices pair_links 0) p
+    port p q (inl at) = subst (λ r. IsPort (topology_of pair_devices pair_links 0) r) at.0
+        (record { node = omega arith; port = omega arith })
+    port p q (inr at) = subst (λ r. IsPort (topology_of pair_devices pair_links 0) r) at.0
+        (record { node = omega arith; port = omega arith })
+
+    back : (p q : PortRef) → Ends p q → peer_in pair_links q ≡ Some p
+    back p q (inl at) = subst (λ r. peer_in pair_links r ≡ Some p) at.1
+        (ap (λ (r : PortRef). Some r) at.0)
+    back p q (inr at) = subst (λ r. peer_in pair_links r ≡ Some p) at.1
+        (ap (λ (r : PortRef). Some r) at.0)
+
+    apart : (p : PortRef) → ¬ Ends p p
+    apart p (inl at) =
+        let same = ap (λ (r : PortRef). r.node) (at.0 ∙ sym at.1) in omega (arith, same)
+    apart p (inr at) =
+        let same = ap (λ (r : PortRef). r.node) (at.0 ∙ sym at.1) in omega (arith, same)
+
+new_endpoint-device : (id : ℕ) → IsDevice (new_endpoint id true)
+unfolding no_routes
+new_endpoint-device id = record {
+  most_ports = omega arith;
+  destinations = length-replicate {A = ℕ} 256 255;
+  selected = omega arith;
+}
+
+-- what holds of both devices holds of all
+both : (P : ℕ → Type 0) → P 0 → P 1 → (node : ℕ) → node < 2 → P node
+both P first second zero inside = first
+both P first second (suc zero) inside = second
+both P first second (suc (suc node)) inside = absurd (omega (arith, inside))
+
+-- a device with one port
+only : (P : ℕ → Type 0) → P 0 → (port : ℕ) → port < 1 → P port
+only P first zero inside = first
+only P first (suc port) inside = absurd (omega (arith, inside))
+
+abbrev Shows : ℕ → ℕ → Type 0
+Shows node port =
+    (registers_of pair_devices node).linked / 2 ^ port % 2
+    ≡ (if is_some (peer_in pair_links (port_at node port)) then 1 else 0)
+
+pub pair-fits : Fits (topology_of pair_devices pair_links 0) (registers_of pair_devices)
+pair-fits = record {
+  devices = both (λ node. IsDevice (registers_of pair_devices node)) (new_endpoint-device 5)
+      (new_endpoint-device 255);
+  ids = both (λ node. (registers_of pair_devices node).base_id < 256) (omega arith) (omega arith);
+  endpoints = both (λ node. (topology_of pair_devices pair_links 0).switch_ports node ≡ None
+      → is_switch (registers_of pair_devices node) ≡ false) (λ _. refl) (λ _. refl);
+  switches = λ node ports inside is. both
+      (λ node. (topology_of pair_devices pair_links 0).switch_ports node ≡ Some ports
+      → is_switch (registers_of pair_devices node) ≡ true)
+      (λ none. absurd (cc)) (λ none. absurd (cc)) node inside is;
+  ports = both (λ node. (registers_of pair_devices node).ports
+      ≡ ports_of (topology_of pair_devices pair_links 0) node) refl refl;
+  linked = λ node port inside below. both
+      (λ node. (port : ℕ) → port < ports_of (topology_of pair_devices pair_links 0) node
+      → Shows node port)
+      (only (λ port. Shows 0 port) refl) (only (λ port. Shows 1 port) refl) node inside port below;
+}
