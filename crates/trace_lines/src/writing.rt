@@ -1,0 +1,161 @@
+//! One function for each line of a trace.
+ghost use Rattle.std.specs.Prelude.{◌<◌, ◌++◌, length, codes, []};
+ghost use Rattle.rio_chars.specs.HexText.{hex_of};
+ghost use Rattle.rio_chars.specs.CharText.{spaced_chars};
+ghost use Rattle.rio_chars.specs.Written.{Writes};
+ghost use Rattle.fabric_model.specs.Steps.{Hold, Free, Linked, Take, Leave, AtNode};
+ghost use Rattle.fabric_script.specs.Names.{name_of};
+ghost use Rattle.fabric_script.specs.Texts.{port_text};
+ghost use Rattle.fabric_trace.specs.Lines.{Sent, Got, Fired, Full, Empty, Short, Early, Stepped, Signed, Lacked, Ended};
+ghost use Rattle.fabric_trace.specs.Text.{trace_line_text};
+
+use fabric_script::{Name, PortRef};
+use rio_chars::{Char, Outbox, Sink};
+use rio_packets::Packet;
+
+/// Writes that a port holds a packet.
+pub fn write_hold<K: Sink>(outbox: &mut Outbox<K>, names: &[Name], port: PortRef, packet: &Packet)
+    requires { port.node < length names.now }
+    ensures { Writes K.written K.faults outbox.old outbox.new
+        (trace_line_text names.now (Stepped (Linked (Hold port packet.now))) ++ codes "\n") }
+{
+    outbox.write(b"hold ");
+    write_port(outbox, names, port);
+    write_packet(outbox, packet);
+}
+
+/// Writes that a port frees a packet.
+pub fn write_free<K: Sink>(outbox: &mut Outbox<K>, names: &[Name], port: PortRef, packet: &Packet)
+    requires { port.node < length names.now }
+    ensures { Writes K.written K.faults outbox.old outbox.new
+        (trace_line_text names.now (Stepped (Linked (Free port packet.now))) ++ codes "\n") }
+{
+    outbox.write(b"free ");
+    write_port(outbox, names, port);
+    write_packet(outbox, packet);
+}
+
+/// Writes that an endpoint takes a packet.
+pub fn write_take<K: Sink>(outbox: &mut Outbox<K>, names: &[Name], node: u8, packet: &Packet)
+    requires { node < length names.now }
+    ensures { Writes K.written K.faults outbox.old outbox.new
+        (trace_line_text names.now (Stepped (AtNode (Take node packet.now))) ++ codes "\n") }
+{
+    outbox.write(b"take ");
+    write_name(outbox, names, node);
+    write_packet(outbox, packet);
+}
+
+/// Writes that a packet leaves at an endpoint.
+pub fn write_leave<K: Sink>(outbox: &mut Outbox<K>, names: &[Name], node: u8, packet: &Packet)
+    requires { node < length names.now }
+    ensures { Writes K.written K.faults outbox.old outbox.new
+        (trace_line_text names.now (Stepped (AtNode (Leave node packet.now))) ++ codes "\n") }
+{
+    outbox.write(b"leave ");
+    write_name(outbox, names, node);
+    write_packet(outbox, packet);
+}
+
+/// Writes that a port put these characters on its wire.
+pub fn write_sent<K: Sink>(outbox: &mut Outbox<K>, names: &[Name], port: PortRef, chars: &[Char])
+    requires { port.node < length names.now }
+    ensures { Writes K.written K.faults outbox.old outbox.new
+        (trace_line_text names.now (Signed (Sent port chars.now)) ++ codes "\n") }
+{
+    outbox.write(b"sent ");
+    write_port(outbox, names, port);
+    outbox.write_chars(chars);
+    outbox.write(b"\n");
+}
+
+/// Writes that a port took these characters from its peer's wire.
+pub fn write_got<K: Sink>(outbox: &mut Outbox<K>, names: &[Name], port: PortRef, chars: &[Char])
+    requires { port.node < length names.now }
+    ensures { Writes K.written K.faults outbox.old outbox.new
+        (trace_line_text names.now (Signed (Got port chars.now)) ++ codes "\n") }
+{
+    outbox.write(b"got ");
+    write_port(outbox, names, port);
+    outbox.write_chars(chars);
+    outbox.write(b"\n");
+}
+
+/// Writes that the time-out of a port fired.
+pub fn write_fire<K: Sink>(outbox: &mut Outbox<K>, names: &[Name], port: PortRef)
+    requires { port.node < length names.now }
+    ensures { Writes K.written K.faults outbox.old outbox.new
+        (trace_line_text names.now (Signed (Fired port)) ++ codes "\n") }
+{
+    outbox.write(b"fire ");
+    write_port(outbox, names, port);
+    outbox.write(b"\n");
+}
+
+/// Writes that there was no room for a packet to be sent.
+pub fn write_full<K: Sink>(outbox: &mut Outbox<K>)
+    ensures { Writes K.written K.faults outbox.old outbox.new
+        (trace_line_text [] (Lacked Full) ++ codes "\n") }
+{
+    outbox.write(b"full\n");
+}
+
+/// Writes that nothing was held.
+pub fn write_empty<K: Sink>(outbox: &mut Outbox<K>)
+    ensures { Writes K.written K.faults outbox.old outbox.new
+        (trace_line_text [] (Lacked Empty) ++ codes "\n") }
+{
+    outbox.write(b"empty\n");
+}
+
+/// Writes that a wire had too few characters.
+pub fn write_short<K: Sink>(outbox: &mut Outbox<K>)
+    ensures { Writes K.written K.faults outbox.old outbox.new
+        (trace_line_text [] (Lacked Short) ++ codes "\n") }
+{
+    outbox.write(b"short\n");
+}
+
+/// Writes that a wire of the link was not empty.
+pub fn write_early<K: Sink>(outbox: &mut Outbox<K>)
+    ensures { Writes K.written K.faults outbox.old outbox.new
+        (trace_line_text [] (Lacked Early) ++ codes "\n") }
+{
+    outbox.write(b"early\n");
+}
+
+/// Writes that the trace ends.
+pub fn write_end<K: Sink>(outbox: &mut Outbox<K>)
+    ensures { Writes K.written K.faults outbox.old outbox.new
+        (trace_line_text [] (Ended) ++ codes "\n") }
+{
+    outbox.write(b"end\n");
+}
+
+/// Writes a packet, which ends its line.
+fn write_packet<K: Sink>(outbox: &mut Outbox<K>, packet: &Packet)
+    ensures { Writes K.written K.faults outbox.old outbox.new (codes " "
+        ++ (hex_of packet.now ++ codes "\n")) }
+{
+    outbox.write(b" ");
+    outbox.write_hex(packet.bytes());
+    outbox.write(b"\n");
+}
+
+/// Writes the name of a node.
+fn write_name<K: Sink>(outbox: &mut Outbox<K>, names: &[Name], node: u8)
+    requires { node < length names.now }
+    ensures { Writes K.written K.faults outbox.old outbox.new (name_of names.now node) }
+{
+    outbox.write(names[usize::from(node)].as_slice());
+}
+
+/// Writes a port.
+fn write_port<K: Sink>(outbox: &mut Outbox<K>, names: &[Name], port: PortRef)
+    requires { port.node < length names.now }
+    ensures { Writes K.written K.faults outbox.old outbox.new (port_text names.now port) }
+{
+    write_name(outbox, names, port.node);
+    outbox.write(b".");
+    outbox.write_decimal(u32::from(port.port));
+}
