@@ -1,2 +1,4 @@
 pub mod StatusLaws
 pub mod WriteLaws
+pub mod AccessLaws
+pub mod RouteLaws

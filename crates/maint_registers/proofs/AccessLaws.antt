@@ -1,0 +1,146 @@
+-- What a device answers at the offsets that a host asks for, and what a write makes of it.
+use Rattle.std.proofs.Common.{◌≡◌, ℕ, ◌+◌, ◌*◌, ◌/◌, ◌%◌, ◌<◌, true, false, List, [], ◌∷◌, Some, None, option_map, slice_set, arith, refl, ap, ◌∙◌, if◌then◌else◌, ne_eqb}
+use Rattle.std.specs.Option.{option_and_then, option_or}
+use Rattle.maint_registers.specs.declared.registers.Kind.{Kind}
+use Rattle.maint_registers.specs.declared.registers.Kind.TheVariants.{Endpoint, Switch}
+use Rattle.maint_registers.specs.declared.table.Register.{Register}
+use Rattle.maint_registers.specs.declared.table.Register.TheVariants.{Fixed, PortInformation, BaseId, HostLock, ComponentTag, RouteSelect, RouteEntry, DefaultPort}
+use Rattle.maint_registers.specs.Devices.{Device, is_switch}
+use Rattle.maint_registers.specs.Table.{Row, table, in_rows, status_offset, status_port, status_of, register_at}
+use Rattle.maint_registers.specs.Access.{value_of, value_at, written_to, written_at, locked}
+use Rattle.maint_registers.proofs.StatusLaws.{status_port-found}
+
+-- what stands in the rows of a device's kind stands at the offset
+in_its_rows : (device : Device) (offset : ℕ) (kind : Kind) (register : Register)
+    → device.kind ≡ kind → in_rows kind table offset ≡ Some register
+    → register_at device offset ≡ Some register
+in_its_rows device offset kind register is stands =
+    ap (λ o. option_or o (option_map (λ n. Fixed (status_of device n))
+    (status_port device.ports offset)))
+    (ap (λ k. in_rows k table offset) is ∙ stands)
+
+pub kind-switch : (device : Device) → is_switch device ≡ true → device.kind ≡ Switch
+kind-switch device is = go device.kind refl is
+  where
+    go : (kind : Kind) → device.kind ≡ kind
+        → is_switch (record device { kind = kind }) ≡ true → kind ≡ Switch
+    go Switch same is = refl
+    go Endpoint same is = absurd (cc)
+
+pub kind-endpoint : (device : Device) → is_switch device ≡ false → device.kind ≡ Endpoint
+kind-endpoint device is = go device.kind is
+  where
+    go : (kind : Kind) → is_switch (record device { kind = kind }) ≡ false → kind ≡ Endpoint
+    go Endpoint is = refl
+    go Switch is = absurd (cc)
+
+-- what stands at an offset in both columns
+in_both : (device : Device) (offset : ℕ) (register : Register)
+    → in_rows Endpoint table offset ≡ Some register → in_rows Switch table offset ≡ Some register
+    → register_at device offset ≡ Some register
+in_both device offset register endpoint switch = go device.kind refl
+  where
+    go : (kind : Kind) → device.kind ≡ kind → register_at device offset ≡ Some register
+    go Endpoint is = in_its_rows device offset Endpoint register is endpoint
+    go Switch is = in_its_rows device offset Switch register is switch
+
+at-lock : (device : Device) → register_at device 0x68 ≡ Some HostLock
+at-lock device = in_both device 0x68 HostLock refl refl
+
+at-tag : (device : Device) → register_at device 0x6c ≡ Some ComponentTag
+at-tag device = in_both device 0x6c ComponentTag refl refl
+
+reads : (device : Device) (offset port : ℕ) (register : Register)
+    → register_at device offset ≡ Some register
+    → value_at device offset port ≡ Some (value_of device port register)
+reads device offset port register at = ap (λ o. option_map (value_of device port) o) at
+
+writes : (device : Device) (offset value : ℕ) (register : Register)
+    → register_at device offset ≡ Some register
+    → written_at device offset value ≡ written_to device value register
+writes device offset value register at = ap (λ o. option_and_then (written_to device value) o) at
+
+pub lock-read : (device : Device) (port : ℕ) → value_at device 0x68 port ≡ Some device.lock
+lock-read device port = reads device 0x68 port HostLock (at-lock device)
+
+pub tag-read : (device : Device) (port : ℕ) → value_at device 0x6c port ≡ Some device.tag
+tag-read device port = reads device 0x6c port ComponentTag (at-tag device)
+
+pub features-read : (device : Device) (port : ℕ)
+    → value_at device 0x10 port ≡ Some (if is_switch device then 0x10000108 else 0x8)
+features-read device port = go (is_switch device) refl
+  where
+    go : (b : _) → is_switch device ≡ b
+        → value_at device 0x10 port ≡ Some (if b then 0x10000108 else 0x8)
+    go true is = reads device 0x10 port (Fixed 0x10000108)
+        (in_its_rows device 0x10 Switch (Fixed 0x10000108) (kind-switch device is) refl)
+    go false is = reads device 0x10 port (Fixed 0x8)
+        (in_its_rows device 0x10 Endpoint (Fixed 0x8) (kind-endpoint device is) refl)
+
+pub port_information-read : (device : Device) (port : ℕ) → is_switch device ≡ true
+    → value_at device 0x14 port ≡ Some (device.ports * 0x100 + port)
+port_information-read device port is =
+    reads device 0x14 port PortInformation
+    (in_its_rows device 0x14 Switch PortInformation (kind-switch device is) refl)
+
+pub lock-written : (device : Device) (value : ℕ)
+    → written_at device 0x68 value
+    ≡ Some (record device { lock = locked device.lock (value % 0x10000) })
+lock-written device value = writes device 0x68 value HostLock (at-lock device)
+
+pub tag-written : (device : Device) (value : ℕ)
+    → written_at device 0x6c value ≡ Some (record device { tag = value })
+tag-written device value = writes device 0x6c value ComponentTag (at-tag device)
+
+pub base_id-written : (device : Device) (value : ℕ) → is_switch device ≡ false
+    → written_at device 0x60 value
+    ≡ Some (record device { base_id = value / 0x10000 % 0x100 })
+base_id-written device value is =
+    writes device 0x60 value BaseId
+    (in_its_rows device 0x60 Endpoint BaseId (kind-endpoint device is) refl)
+
+pub select-written : (device : Device) (value : ℕ) → is_switch device ≡ true
+    → written_at device 0x70 value ≡ Some (record device { select = value % 0x100 })
+select-written device value is =
+    writes device 0x70 value RouteSelect
+    (in_its_rows device 0x70 Switch RouteSelect (kind-switch device is) refl)
+
+pub entry-written : (device : Device) (value : ℕ) → is_switch device ≡ true
+    → written_at device 0x74 value
+    ≡ Some (record device { routes = slice_set device.routes device.select (value % 0x100) })
+entry-written device value is =
+    writes device 0x74 value RouteEntry
+    (in_its_rows device 0x74 Switch RouteEntry (kind-switch device is) refl)
+
+pub default_port-written : (device : Device) (value : ℕ) → is_switch device ≡ true
+    → written_at device 0x78 value ≡ Some (record device { default_port = value % 0x100 })
+default_port-written device value is =
+    writes device 0x78 value DefaultPort
+    (in_its_rows device 0x78 Switch DefaultPort (kind-switch device is) refl)
+
+-- every offset of these rows is less than a number
+abbrev Less : List Row → ℕ → Type 0
+Less [] offset = Unit {0}
+Less (row ∷ rows) offset = (row.0 < offset) × Less rows offset
+
+past_rows : (kind : Kind) (rows : List Row) (offset : ℕ) → Less rows offset
+    → in_rows kind rows offset ≡ None
+past_rows kind [] offset less = refl
+past_rows kind (row ∷ rows) offset less =
+    rw (ne_eqb row.0 offset (λ same. omega (arith, same, less.0)))
+    (past_rows kind rows offset less.1)
+
+past_table : (offset : ℕ) → 0x78 < offset → Less table offset
+past_table offset past =
+    (omega (arith, past), (omega (arith, past), (omega (arith, past), (omega (arith, past), (omega (arith, past), (omega (arith, past), (omega (arith, past), (omega (arith, past), (omega (arith, past), (omega (arith, past), (omega (arith, past), tt)))))))))))
+
+-- 2 of a port with a link, 1 of one without
+pub status-read : (device : Device) (n port : ℕ) → n < device.ports
+    → value_at device (status_offset n) port ≡ Some (status_of device n)
+status-read device n port below =
+    reads device (status_offset n) port (Fixed (status_of device n))
+    (ap (λ o. option_or o (option_map (λ n. Fixed (status_of device n))
+    (status_port device.ports (status_offset n))))
+    (past_rows device.kind table (status_offset n) (past_table (status_offset n) (omega arith)))
+    ∙ ap (λ o. option_map (λ n. Fixed (status_of device n)) o)
+    (status_port-found device.ports (status_offset n) n below refl))
