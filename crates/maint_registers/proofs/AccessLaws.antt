@@ -1,5 +1,5 @@
 -- What a device answers at the offsets that a host asks for, and what a write makes of it.
-use Rattle.std.proofs.Common.{◌≡◌, ℕ, ◌+◌, ◌*◌, ◌/◌, ◌%◌, ◌<◌, true, false, List, [], ◌∷◌, Some, None, option_map, slice_set, arith, refl, ap, ◌∙◌, if◌then◌else◌, ne_eqb}
+use Rattle.std.proofs.Common.{◌≡◌, ℕ, ◌+◌, ◌*◌, ◌/◌, ◌%◌, ◌<◌, ◌≤◌, ◌&&◌, nat_lt, Bool, true, false, List, [], ◌∷◌, Some, None, option_map, slice_set, arith, refl, ap, ◌∙◌, if◌then◌else◌, ne_eqb, ltb-true}
 use Rattle.std.specs.Option.{option_and_then, option_or}
 use Rattle.maint_registers.specs.declared.registers.Kind.{Kind}
 use Rattle.maint_registers.specs.declared.registers.Kind.TheVariants.{Endpoint, Switch}
@@ -119,20 +119,27 @@ default_port-written device value is =
     (in_its_rows device 0x78 Switch DefaultPort (kind-switch device is) refl)
 
 -- every offset of these rows is less than a number
-abbrev Less : List Row → ℕ → Type 0
-Less [] offset = Unit {0}
-Less (row ∷ rows) offset = (row.0 < offset) × Less rows offset
+abbrev are_less : List Row → ℕ → Bool
+are_less [] limit = true
+are_less (row ∷ rows) limit = nat_lt row.0 limit && are_less rows limit
 
-past_rows : (kind : Kind) (rows : List Row) (offset : ℕ) → Less rows offset
-    → in_rows kind rows offset ≡ None
-past_rows kind [] offset less = refl
-past_rows kind (row ∷ rows) offset less =
-    rw (ne_eqb row.0 offset (λ same. omega (arith, same, less.0)))
-    (past_rows kind rows offset less.1)
-
-past_table : (offset : ℕ) → 0x78 < offset → Less table offset
-past_table offset past =
-    (omega (arith, past), (omega (arith, past), (omega (arith, past), (omega (arith, past), (omega (arith, past), (omega (arith, past), (omega (arith, past), (omega (arith, past), (omega (arith, past), (omega (arith, past), (omega (arith, past), tt)))))))))))
+-- at an offset that is greater than those of all rows, none stands
+past_rows : (kind : Kind) (rows : List Row) (limit offset : ℕ) → are_less rows limit ≡ true
+    → limit ≤ offset → in_rows kind rows offset ≡ None
+past_rows kind [] limit offset less past = refl
+past_rows kind (row ∷ rows) limit offset less past =
+    go (nat_lt row.0 limit) (are_less rows limit) refl refl less
+    (λ rest. past_rows kind rows limit offset rest past)
+  where
+    go : (a b : Bool) → nat_lt row.0 limit ≡ a → are_less rows limit ≡ b → (a && b) ≡ true
+        → (are_less rows limit ≡ true → in_rows kind rows offset ≡ None)
+        → in_rows kind (row ∷ rows) offset ≡ None
+    go true true first rest both on =
+        let below = ltb-true row.0 limit first in
+        rw (ne_eqb row.0 offset (λ same. omega (arith, same, below, past)))
+        (on rest)
+    go true false first rest both on = absurd (cc)
+    go false b first rest both on = absurd (cc)
 
 -- 2 of a port with a link, 1 of one without
 pub status-read : (device : Device) (n port : ℕ) → n < device.ports
@@ -141,6 +148,6 @@ status-read device n port below =
     reads device (status_offset n) port (Fixed (status_of device n))
     (ap (λ o. option_or o (option_map (λ n. Fixed (status_of device n))
     (status_port device.ports (status_offset n))))
-    (past_rows device.kind table (status_offset n) (past_table (status_offset n) (omega arith)))
+    (past_rows device.kind table 0x79 (status_offset n) refl (omega arith))
     ∙ ap (λ o. option_map (λ n. Fixed (status_of device n)) o)
     (status_port-found device.ports (status_offset n) n below refl))
