@@ -1,3 +1,4 @@
 mod Accessed
+mod Frames
 mod PlainWalks
 mod Pairs
