@@ -34,7 +34,7 @@ and_then-Some None = refl
 and_then-Some (Some x) = refl
 
 -- one port more
-along-onward : (topology : Topology) (at : PortRef) (path : List ℕ) (port : ℕ)
+pub along-onward : (topology : Topology) (at : PortRef) (path : List ℕ) (port : ℕ)
     → along topology at (onward path port) ≡ option_and_then (λ
     (p : PortRef). behind topology p.node port) (along topology at path)
 along-onward topology at [] port = and_then-Some (behind topology at.node port)
@@ -67,7 +67,7 @@ along-append topology at (x ∷ path) rest last leads =
     go (Some next) leads on = on next leads
 
 -- where a path leads on depends on the device alone
-along-same_device : (topology : Topology) (p q : PortRef) (path : List ℕ) → p.node ≡ q.node
+pub along-same_device : (topology : Topology) (p q : PortRef) (path : List ℕ) → p.node ≡ q.node
     → option_map (λ (p : PortRef). p.node) (along topology p path) ≡ option_map (λ
     (p : PortRef). p.node) (along topology q path)
 along-same_device topology p q [] same = ap (λ n. Some n) same
@@ -93,7 +93,7 @@ onward_is_followed topology path at port enters leads =
     go false is leads = absurd (cc)
 
 -- what is met has a port of entry
-port_of_entry : (o : Option PortRef) (node : ℕ)
+pub port_of_entry : (o : Option PortRef) (node : ℕ)
     → option_map (λ (p : PortRef). p.node) o ≡ Some node
     → (at : PortRef) × (o ≡ Some at) × (at.node ≡ node)
 port_of_entry None node same = absurd (cc)

@@ -1,12 +1,14 @@
-mod Order
-mod Lists
-mod Walks
-mod Leading
-mod Maps
-mod Firsts
-mod Endpoints
-mod Steps
-mod Ways
-mod EntryLaws
-mod Worked
-mod Ring
+pub mod Order
+pub mod Lists
+pub mod Walks
+pub mod Leading
+pub mod Maps
+pub mod Firsts
+pub mod Endpoints
+pub mod Steps
+pub mod Branches
+pub mod Few
+pub mod Ways
+pub mod EntryLaws
+pub mod Worked
+pub mod Ring

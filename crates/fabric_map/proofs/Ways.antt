@@ -65,7 +65,7 @@ arrive-endpoint topology registers dest (suc hops) at is =
     arrive-through topology registers dest hops at None is
 
 -- a port that is followed has a link
-behind-link : (topology : Topology) (node port : ℕ) (next : PortRef)
+pub behind-link : (topology : Topology) (node port : ℕ) (next : PortRef)
     → behind topology node port ≡ Some next
     → (topology.peer (port_at node port) ≡ Some next) × (port < followed topology node)
 behind-link topology node port next same = go (nat_lt port (followed topology node)) refl same
@@ -77,7 +77,7 @@ behind-link topology node port next same = go (nat_lt port (followed topology no
     go false less found = absurd (cc)
 
 -- what follows a port, other than the host, is a switch
-followed-switch : (topology : Topology) (node port : ℕ) → node ≢ topology.host
+pub followed-switch : (topology : Topology) (node port : ℕ) → node ≢ topology.host
     → port < followed topology node
     → (ports : ℕ) × (topology.switch_ports node ≡ Some ports)
 followed-switch topology node port other less = go (node == topology.host) refl

@@ -1,4 +1,4 @@
 mod Accessed
-mod Frames
+pub mod Frames
 mod PlainWalks
 mod Pairs

@@ -83,6 +83,12 @@ port_information-read device port is =
     reads device 0x14 port PortInformation
     (in_its_rows device 0x14 Switch PortInformation (kind-switch device is) refl)
 
+pub base_id-read : (device : Device) (port : ℕ) → is_switch device ≡ false
+    → value_at device 0x60 port ≡ Some (device.base_id * 0x10000)
+base_id-read device port is =
+    reads device 0x60 port BaseId
+    (in_its_rows device 0x60 Endpoint BaseId (kind-endpoint device is) refl)
+
 pub lock-written : (device : Device) (value : ℕ)
     → written_at device 0x68 value
     ≡ Some (record device { lock = locked device.lock (value % 0x10000) })
