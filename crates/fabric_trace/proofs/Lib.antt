@@ -12,6 +12,7 @@ pub mod Keeping
 pub mod Making
 pub mod Running
 pub mod Starting
+pub mod Happening
 pub mod Wiring
 pub mod Faith
 pub mod Coming

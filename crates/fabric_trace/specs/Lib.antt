@@ -8,6 +8,7 @@ pub mod Runs
 pub mod Links
 pub mod Parts
 pub mod SetUps
+pub mod Events
 pub mod Wires
 pub mod Faithful
 pub mod Holds

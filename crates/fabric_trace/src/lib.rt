@@ -7,20 +7,22 @@
 //!   what is known after lines;
 //! - `Fold`: the one fold that reads a trace, by its lines alone;
 //! - `Blocks`: which lines each event makes, from what is known before it;
-//! - `Runs`: what a trace of a script is; `SetUps`: which networks the lines of set-up may give;
+//! - `Runs`: what a trace of a script is; `SetUps`: which networks the lines of set-up may give; `Events`: which events
+//!   may happen in a network;
 //! - `Parts`: what may stand in a trace, whatever script it is of;
 //! - `Links`, `Wires`, `Holds`, `Frees`, `Faithful`, `Ends`: what is true of each link, of the characters that a port got, of the
 //!   packets that it holds, of the events that it acted on, and of the last line;
 //! - `Examples`: a small run, and lines that the laws do not allow.
 //!
-//! The functions state the laws, as contracts of empty bodies. They speak of every script, or of all lines that are made of
-//! parts, from a network without a packet on.
+//! The functions state the laws, as contracts of empty bodies. They speak of every script, of each that passes, or of all
+//! lines that are made of parts, from a network without a packet on.
 //!
 //! Left out: the lines of a script that are not built yet, which have no block; and that a trace exists.
 #![tactic(auto)]
 
 mod examples;
 mod laws;
+mod scripts;
 
 pub use examples::{laws_can_fail, small_run};
 pub use laws::{
@@ -29,3 +31,4 @@ pub use laws::{
     what_a_port_frees_was_acknowledged, what_a_port_got_was_on_the_wire,
     what_a_port_holds_came_to_it,
 };
+pub use scripts::{events_may_happen, ports_are_there, scripts_may_set_up};

@@ -1,0 +1,5 @@
+use Rattle.fabric_trace.proofs.Happening.{may_happen}
+use Rattle.fabric_trace.proofs.scripts.events_may_happen.Goals as goal
+
+pub returns : goal.returns
+returns c = may_happen

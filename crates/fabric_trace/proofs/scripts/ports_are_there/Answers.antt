@@ -1,0 +1,5 @@
+use Rattle.fabric_trace.proofs.Happening.{ports_there}
+use Rattle.fabric_trace.proofs.scripts.ports_are_there.Goals as goal
+
+pub returns : goal.returns
+returns c = ports_there

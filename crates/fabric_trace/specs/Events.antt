@@ -1,0 +1,95 @@
+-- What an event of a script names, and where that is in a network.
+use Rattle.std.specs.Prelude.{◌≡◌, ℕ, ◌%◌, ◌^◌, ◌<◌, ◌≤◌, List, [], ◌∷◌, ◌++◌, length, get_or, IsSome, ⊤}
+use Rattle.rio_packets.specs.Making.{most_rest}
+use Rattle.fabric_script.specs.declared.ports.PortRef.{PortRef}
+use Rattle.fabric_script.specs.declared.lines.Line.{Line}
+use Rattle.fabric_script.specs.declared.lines.Line.TheVariants.{Endpoint, Switch, Link, Buffers, Send, Read, Write, Pump, Deliver, Alter, Insert, Erase, Timeout, Settle, Collect, Run}
+use Rattle.fabric_script.specs.declared.lines.Numbered.{Numbered}
+use Rattle.fabric_script.specs.LineTexts.{AreNamed}
+use Rattle.fabric_model.specs.Network.{Network, IsEndpoint, peer_in}
+
+-- ---- nodes and their ports
+
+-- how many ports each node has, in the order of their lines, with one more line
+abbrev pub counts_after : List ℕ → Line → List ℕ
+counts_after counts (Endpoint name id) = counts ++ 1 ∷ []
+counts_after counts (Switch name ports) = counts ++ ports ∷ []
+counts_after counts _ = counts
+
+abbrev pub counts_after_all : List ℕ → List Numbered → List ℕ
+counts_after_all counts [] = counts
+counts_after_all counts (line ∷ lines) = counts_after_all (counts_after counts line.line) lines
+
+-- how many ports each node of a script has
+abbrev pub port_counts : List Numbered → List ℕ
+port_counts lines = counts_after_all [] lines
+
+-- a node has this port
+abbrev pub IsPort : List ℕ → PortRef → Type 0
+IsPort counts p = p.port < get_or counts p.node 0
+
+-- the ports that a line names are there
+abbrev pub ArePorts : List ℕ → Line → Type 0
+ArePorts counts (Link a b) = IsPort counts a × IsPort counts b
+ArePorts counts (Buffers port n) = IsPort counts port
+ArePorts counts (Pump port n) = IsPort counts port
+ArePorts counts (Deliver port n) = IsPort counts port
+ArePorts counts (Alter port place ch) = IsPort counts port
+ArePorts counts (Insert port place ch) = IsPort counts port
+ArePorts counts (Erase port place n) = IsPort counts port
+ArePorts counts (Timeout port) = IsPort counts port
+ArePorts counts (Settle port) = IsPort counts port
+ArePorts counts _ = ⊤
+
+-- a line makes no switch
+abbrev pub MakesNoSwitch : Line → Type 0
+MakesNoSwitch (Switch name ports) = ⊥
+MakesNoSwitch _ = ⊤
+
+-- ---- events
+
+-- so many bytes may follow the source ID of a packet of this format type
+pub record IsDataLength (ftype count : ℕ) : Type 0 where
+  pub even : count % 2 ≡ 0
+  pub most : count ≤ most_rest
+  pub maintenance : ftype ≡ 8 → (6 ≤ count) × (count ≤ 70) × (count % 8 ≡ 6)
+
+-- The numbers of an event are of their ranges, and its data has a length that a packet may have.
+abbrev pub IsInRange : Line → Type 0
+IsInRange (Send node prio ftype dest hex) =
+    (prio < 4) × (ftype < 16) × IsDataLength ftype (length hex)
+IsInRange (Read node prio dest hop tid offset) = (prio < 4) × (offset < 16 ^ 6)
+IsInRange (Write node prio dest hop tid offset value) =
+    (prio < 4) × (offset < 16 ^ 6) × (value < 16 ^ 8)
+IsInRange (Pump port n) = (1 ≤ n) × (n ≤ 100000)
+IsInRange (Deliver port n) = (1 ≤ n) × (n ≤ 100000)
+IsInRange (Alter port place ch) = place ≤ 100000
+IsInRange (Insert port place ch) = place ≤ 100000
+IsInRange (Erase port place n) = (place ≤ 100000) × (1 ≤ n) × (n ≤ 100000)
+IsInRange (Run n) = (1 ≤ n) × (n ≤ 100000)
+IsInRange _ = ⊤
+
+-- a port is one end of a link
+abbrev pub HasLink : Network → PortRef → Type 0
+HasLink net port = IsSome (peer_in net.links port)
+
+-- what an event names is there: its node is an endpoint, or its port has a link
+abbrev pub IsThere : Network → Line → Type 0
+IsThere net (Send node prio ftype dest hex) = IsEndpoint net node
+IsThere net (Read node prio dest hop tid offset) = IsEndpoint net node
+IsThere net (Write node prio dest hop tid offset value) = IsEndpoint net node
+IsThere net (Collect node) = IsEndpoint net node
+IsThere net (Pump port n) = HasLink net port
+IsThere net (Deliver port n) = HasLink net port
+IsThere net (Alter port place ch) = HasLink net port
+IsThere net (Insert port place ch) = HasLink net port
+IsThere net (Erase port place n) = HasLink net port
+IsThere net (Timeout port) = HasLink net port
+IsThere net (Settle port) = HasLink net port
+IsThere net _ = ⊤
+
+-- An event may happen in a network: its nodes have names, it is in range, and what it names is there.
+pub record MayHappen (names : List (List ℕ)) (net : Network) (line : Line) : Type 0 where
+  pub named : AreNamed names line
+  pub range : IsInRange line
+  pub there : IsThere net line
