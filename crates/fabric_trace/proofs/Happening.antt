@@ -1,9 +1,9 @@
 -- What a script that passes gives: its lines of set-up may stand behind each other, and its events may happen.
-use Rattle.std.proofs.Common.{◌≡◌, ℕ, ◌%◌, ◌<◌, ◌≤◌, zero, suc, nat_lt, nat_le, ◌==◌, Bool, true, false, not, ◌&&◌, ◌||◌, List, [], ◌∷◌, ◌++◌, Option, Some, None, map, get_or, length, length-append, All, is_some, refl, sym, ap, ◌∙◌, subst, append_assoc, append-nil, arith}
+use Rattle.std.proofs.Common.{◌≡◌, ℕ, ◌%◌, ◌<◌, ◌≤◌, zero, suc, nat_lt, nat_le, ◌==◌, Bool, true, false, not, ◌&&◌, ◌||◌, List, [], ◌∷◌, ◌++◌, Option, Some, None, map, get_or, length, length-append, All, is_some, refl, sym, ap, ◌∙◌, subst, arith}
 use Rattle.std.proofs.lemmas.Bool.{and_parts, or_parts, eqb-true, true≢false, false≢true}
 use Rattle.std.proofs.lemmas.Bool.Decides.{nat_tests}
 use Rattle.std.proofs.lemmas.List.Elements.{All-nil, All-cons, All-head, All-tail}
-use Rattle.std.proofs.lemmas.List.{map-append, get_or_append_left}
+use Rattle.std.proofs.lemmas.List.{map-append}
 use Rattle.std.specs.List.{slice_get}
 use Rattle.rio_packets.specs.Making.{most_rest}
 use Rattle.fabric_script.specs.declared.ports.PortRef.{PortRef}
@@ -219,36 +219,13 @@ count_at f [] n none = none
 count_at f (node ∷ nodes) zero none = refl
 count_at f (node ∷ nodes) (suc n) none = count_at f nodes n none
 
-counts_end : (counts : List ℕ) (lines : List Numbered) → (behind : List ℕ) × (counts_after_all counts lines ≡ counts ++ behind)
-counts_end counts [] = ([], sym (append-nil counts))
-counts_end counts (line ∷ lines) =
-    let here = one_more counts line.line in
-    let rest = counts_end (counts_after counts line.line) lines in
-    (here.0 ++ rest.0, rest.1 ∙ ap (λ xs. xs ++ rest.0) here.1 ∙ append_assoc counts here.0 rest.0)
+ports_one : (known : Known) (new : List ℕ) (counts : List ℕ) (line : Line) → Counts known counts → MayBe known new line → ArePorts counts line
+ports_one known new counts line c may = by_line line may
   where
-    one_more : (counts : List ℕ) (line : Line) → (behind : List ℕ) × (counts_after counts line ≡ counts ++ behind)
-    one_more counts (Endpoint name id) = (1 ∷ [], refl)
-    one_more counts (Switch name ports) = (ports ∷ [], refl)
-    one_more counts _ = ([], sym (append-nil counts))
+    here : (p : PortRef) → p.port < ports_of known.nodes p.node → IsPort counts p
+    here p within = subst (λ n. p.port < n) (count_at node_ports known.nodes p.node refl ∙ ap (λ xs. get_or xs p.node 0) c.counted) within
 
--- a port stays there
-port_stays : (counts behind : List ℕ) (p : PortRef) → IsPort counts p → IsPort (counts ++ behind) p
-port_stays counts behind p within =
-    let there = get_within counts p.node p.port within in
-    subst (λ n. p.port < n) (sym (get_or_append_left counts behind 0 p.node there)) within
-  where
-    get_within : (counts : List ℕ) (n k : ℕ) → k < get_or counts n 0 → n < length counts
-    get_within [] n k within = absurd (omega arith)
-    get_within (c ∷ counts) zero k within = omega arith
-    get_within (c ∷ counts) (suc n) k within = let rest = get_within counts n k within in omega arith
-
-ports_one : (known : Known) (new : List ℕ) (counts behind : List ℕ) (line : Line) → Counts known counts → MayBe known new line → ArePorts (counts ++ behind) line
-ports_one known new counts behind line c may = by_line line may
-  where
-    here : (p : PortRef) → p.port < ports_of known.nodes p.node → IsPort (counts ++ behind) p
-    here p within = port_stays counts behind p (subst (λ n. p.port < n) (count_at node_ports known.nodes p.node refl ∙ ap (λ xs. get_or xs p.node 0) c.counted) within)
-
-    by_line : (line : Line) → MayBe known new line → ArePorts (counts ++ behind) line
+    by_line : (line : Line) → MayBe known new line → ArePorts counts line
     by_line (Link a b) may = (here a may.fit.0.2, here b may.fit.1.0.2)
     by_line (Buffers port n) may = here port may.fit.0.2
     by_line (Pump port n) may = here port may.fit.0.2
@@ -260,14 +237,10 @@ ports_one known new counts behind line c may = by_line line may
     by_line (Settle port) may = here port may.fit.0.2
     by_line _ may = tt
 
-ports_from : (known : Known) (names : List (List ℕ)) (counts : List ℕ) (lines : List Numbered) → Counts known counts → PassesFrom known names lines → All (λ line. ArePorts (counts_after_all counts lines) line.line) lines
-ports_from known names counts [] c passes = All-nil (λ line. ArePorts counts line.line)
-ports_from known names counts (line ∷ lines) c passes =
-    let new = new_name names line.line in
-    let end = counts_end counts (line ∷ lines) in
-    All-cons (λ l. ArePorts (counts_after_all counts (line ∷ lines)) l.line) line lines
-    (subst (λ xs. ArePorts xs line.line) (sym end.1) (ports_one known new counts end.0 line.line c passes.0))
-    (ports_from (known_after known new line.line) names (counts_after counts line.line) lines (counts-after known new counts line.line c) passes.2)
+ports_from : (known : Known) (names : List (List ℕ)) (counts : List ℕ) (before behind : List Numbered) (line : Numbered) → Counts known counts → PassesFrom known names (before ++ line ∷ behind) → ArePorts (counts_after_all counts before) line.line
+ports_from known names counts [] behind line c passes = ports_one known (new_name names line.line) counts line.line c passes.0
+ports_from known names counts (first ∷ before) behind line c passes =
+    ports_from (known_after known (new_name names first.line) first.line) names (counts_after counts first.line) before behind line (counts-after known (new_name names first.line) counts first.line c) passes.2
 
-pub ports_there : (names : List (List ℕ)) (lines : List Numbered) → Passes names lines → All (λ line. ArePorts (port_counts lines) line.line) lines
-ports_there names lines passes = ports_from nothing names [] lines (record { counted = refl }) passes
+pub ports_there : (names : List (List ℕ)) (before behind : List Numbered) (line : Numbered) → Passes names (before ++ line ∷ behind) → ArePorts (port_counts before) line.line
+ports_there names before behind line passes = ports_from nothing names [] before behind line (record { counted = refl }) passes

@@ -1,6 +1,6 @@
 //! What a script that passes gives to a fabric. The calls do nothing: their clauses are the laws.
 
-ghost use Rattle.std.specs.Prelude.{◌≡◌, ℕ, true, List, All};
+ghost use Rattle.std.specs.Prelude.{◌≡◌, ℕ, true, List, ◌∷◌, ◌++◌, All};
 ghost use Rattle.fabric_script.specs.declared.lines.Numbered.{Numbered};
 ghost use Rattle.fabric_script.specs.Lines.{is_event};
 ghost use Rattle.fabric_script.specs.Scripts.{Passes};
@@ -9,14 +9,12 @@ ghost use Rattle.fabric_trace.specs.Runs.{bare, set_up_all};
 ghost use Rattle.fabric_trace.specs.SetUps.{MaySetUpAll};
 
 /// Each line of set-up of a script that passes may stand behind those before it.
-#[tactic(auto, using(crate::proofs::Happening::may_set_up))]
 pub fn scripts_may_set_up()
     ensures { (names : List (List ℕ)) (lines : List Numbered) → Passes names lines
         → MaySetUpAll bare lines }
 {}
 
 /// Each event of a script that passes may happen in the network that the script sets up.
-#[tactic(auto, using(crate::proofs::Happening::may_happen))]
 pub fn events_may_happen()
     ensures { (names : List (List ℕ)) (lines : List Numbered) → Passes names lines
         → All (λ line. MakesNoSwitch line.line) lines
@@ -24,9 +22,8 @@ pub fn events_may_happen()
         → MayHappen names (set_up_all bare lines) line.line) lines }
 {}
 
-/// Each port that a line of a script that passes names is one of a node of the script.
-#[tactic(auto, using(crate::proofs::Happening::ports_there))]
+/// Each port that a line of a script that passes names is one of a node of an earlier line.
 pub fn ports_are_there()
-    ensures { (names : List (List ℕ)) (lines : List Numbered) → Passes names lines
-        → All (λ line. ArePorts (port_counts lines) line.line) lines }
+    ensures { (names : List (List ℕ)) (before behind : List Numbered) (line : Numbered)
+        → Passes names (before ++ line ∷ behind) → ArePorts (port_counts before) line.line }
 {}
