@@ -1,5 +1,5 @@
 -- A walk meets no more devices than there are.
-use Rattle.std.proofs.Common.{◌≡◌, ◌≢◌, ℕ, ◌<◌, ◌≤◌, ◌||◌, Bool, true, false, eqb, List, [], ◌∷◌, length, map, Option, Some, None, IsSome, option_map, unwrap_or, AllPairs, Contains, subst, sym, refl, ap, ne_eqb}
+use Rattle.std.proofs.Common.{◌≡◌, ◌≢◌, ℕ, ◌<◌, ◌≤◌, ◌||◌, Bool, true, false, eqb, List, [], ◌∷◌, length, map, Option, Some, None, IsSome, option_map, unwrap_or, AllPairs, Contains, subst, sym, refl, ap, ◌∙◌, ne_eqb}
 use Rattle.std.specs.List.{list_any, IsDistinct, AllByRecursion}
 use Rattle.std.specs.Option.{option_and_then}
 use Rattle.std.proofs.lemmas.Bool.{eqb-true}
@@ -90,15 +90,17 @@ within f n (p ∷ paths) below q found =
         subst (λ k. k < n) (sym (eqb-true q (f p) is)) (below p (Contains-first p paths))
     go false is found on = on found
 
-pub walked-few : (topology : Topology) (paths : List (List ℕ)) (bound : List ℕ)
-    → IsTopology topology → Walked topology paths bound → length paths ≤ topology.nodes
-walked-few topology paths bound proper walked =
-    subst (λ n. n ≤ topology.nodes) (length-map paths (number_of topology))
-    (length-le_from_distinct_below (map (number_of topology) paths) topology.nodes
-    (distinct (number_of topology) paths walked.ordered
-    (λ p q one two same. walked.once p q one two
-    (same_number (node_at topology p) (node_at topology q) (leads p one) (leads q two) same)))
-    (within (number_of topology) topology.nodes paths (λ p listed. inside p (leads p listed))))
+-- the numbers of the devices of a walk are different, and below the number of devices
+numbered : (topology : Topology) (paths : List (List ℕ)) (bound : List ℕ)
+    → IsTopology topology → Walked topology paths bound
+    → IsDistinct eqb (map (number_of topology) paths)
+    × ((q : ℕ) → list_any (eqb q) (map (number_of topology) paths) ≡ true → q < topology.nodes)
+numbered topology paths bound proper walked = (
+  distinct (number_of topology) paths walked.ordered
+      (λ p q one two same. walked.once p q one two
+      (same_number (node_at topology p) (node_at topology q) (leads p one) (leads q two) same)),
+  within (number_of topology) topology.nodes paths (λ p listed. inside p (leads p listed)),
+)
   where
     leads : (p : List ℕ) → Contains paths p → IsSome (node_at topology p)
     leads p listed =
@@ -112,3 +114,38 @@ walked-few topology paths bound proper walked =
             → unwrap_or (option_map (λ (at : PortRef). at.node) o) 0 < topology.nodes
         go None is some = absurd (cc)
         go (Some at) is some = entered-inside topology p at proper is
+
+pub walked-few : (topology : Topology) (paths : List (List ℕ)) (bound : List ℕ)
+    → IsTopology topology → Walked topology paths bound → length paths ≤ topology.nodes
+walked-few topology paths bound proper walked =
+    let all = numbered topology paths bound proper walked in
+    subst (λ n. n ≤ topology.nodes) (length-map paths (number_of topology))
+    (length-le_from_distinct_below (map (number_of topology) paths) topology.nodes all.0 all.1)
+
+-- and fewer while a device is not met
+pub walked-fewer : (topology : Topology) (paths : List (List ℕ)) (bound : List ℕ) (node : ℕ)
+    → IsTopology topology → Walked topology paths bound → node < topology.nodes
+    → ((path : List ℕ) → Contains paths path → node_at topology path ≢ Some node)
+    → length paths < topology.nodes
+walked-fewer topology paths bound node proper walked inside unmet =
+    let all = numbered topology paths bound proper walked in
+    subst (λ n. n < topology.nodes) (length-map paths (number_of topology))
+    (length-le_from_distinct_below (node ∷ map (number_of topology) paths) topology.nodes
+    (apart (number_of topology) node paths other all.0)
+    (λ q found. below q (eqb q node) refl found all.1))
+  where
+    other : (p : List ℕ) → Contains paths p → node ≢ number_of topology p
+    other p listed same = go (node_at topology p) refl
+        (All-contains (λ path. IsSome (node_at topology path)) paths p walked.leading listed) same
+      where
+        go : (o : Option ℕ) → node_at topology p ≡ o → IsSome o → node ≢ unwrap_or o 0
+        go None is some same = absurd (cc)
+        go (Some n) is some same = unmet p listed (is ∙ ap (λ m. Some m) (sym same))
+
+    below : (q : ℕ) (b : Bool) → eqb q node ≡ b
+        → (b || list_any (eqb q) (map (number_of topology) paths)) ≡ true
+        → ((r : ℕ) → list_any (eqb r) (map (number_of topology) paths) ≡ true
+        → r < topology.nodes)
+        → q < topology.nodes
+    below q true is found on = subst (λ n. n < topology.nodes) (sym (eqb-true q node is)) inside
+    below q false is found on = on q found
