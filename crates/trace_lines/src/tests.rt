@@ -1,48 +1,106 @@
 //! Each line that is written here stands in a trace of two endpoints.
+ghost use Rattle.std.specs.Prelude.{◌≡◌, ◌<◌, ◌++◌, length, OnOk, OnErr, IfOk, List};
+ghost use Rattle.rio_chars.specs.Written.{Writes};
+ghost use Rattle.link_watch.specs.declared.note.Note.{Note};
+ghost use Rattle.fabric_trace.specs.Text.{trace_text};
+ghost use Rattle.fabric_trace.specs.Blocks.{lines_of};
+
 use crate::*;
-use fabric_script::{PortRef, read_name};
-use rio_chars::{Char, MemSink, Outbox, TextBuffer};
-use rio_packets::check;
+use fabric_script::{Name, PortRef, read_name};
+use link_watch::{Note, NoteEnd, Side, note_all};
+use rio_chars::{Char, Chars, MemSink, Outbox, Sink, TextBuffer};
+use rio_packets::{Packet, check};
+use std::alloc::Global;
+use std::process::Abort;
 use std::test::Fail;
 
 /// The bytes of a packet of type 15, from one endpoint to the other.
 const FORM: [u8; 12] = [0, 15, 2, 1, 0xca, 0xfe, 0, 1, 0xa9, 0xbb, 0, 0];
 
+const SYMBOL: [Char; 4] = [
+    Char::Special(0x1c),
+    Char::Data(0),
+    Char::Data(0xff),
+    Char::Data(0x16),
+];
+
+const NEAR: PortRef = PortRef { node: 0, port: 0 };
+
+const FAR: PortRef = PortRef { node: 1, port: 0 };
+
 const LINES: &[u8] = b"take A 000f0201cafe0001a9bb0000\nfire A.0\nsent B.0 k1c d00 dff d16\n\
 got A.0 k1c d00 dff d16\nhold B.0 000f0201cafe0001a9bb0000\nfree A.0 000f0201cafe0001a9bb0000\n\
 leave B 000f0201cafe0001a9bb0000\nfull\nempty\nshort\nearly\nend\n";
 
-#[test]
-fn lines_are_those_of_a_trace(rt: HostRuntime) -> Result<(), Fail> {
-    let alloc = rt.alloc();
+const NOTES: &[u8] = b"fire A.0\nsent A.0 k1c d00 dff d16\ngot B.0 k1c d00 dff d16\n\
+hold B.0 000f0201cafe0001a9bb0000\nsent B.0 k1c d00 dff d16\ngot A.0 k1c d00 dff d16\n\
+free A.0 000f0201cafe0001a9bb0000\n";
+
+/// The names of the two endpoints.
+fn two_names(rt: &impl Abort, alloc: Global) -> Result<Vec<Name>, Fail>
+    ensures two { IfOk result (λ names. length names.items ≡ 2) }
+{
     let (Some(first), Some(second)) = (read_name(b"A"), read_name(b"B")) else {
         panic!(rt; "no names");
     };
-    let names = vec![in alloc; first, second]?;
+    Ok(vec![in alloc; first, second]?)
+}
+
+/// The packet of these bytes.
+fn a_packet(rt: &impl Abort) -> Packet {
     let Ok((_, packet)) = check(&FORM) else {
         panic!(rt; "no packet");
     };
-    let a = PortRef { node: 0, port: 0 };
-    let b = PortRef { node: 1, port: 0 };
-    let chars = [
-        Char::Special(0x1c),
-        Char::Data(0),
-        Char::Data(0xff),
-        Char::Data(0x16),
-    ];
-    let Ok(mut sink) = MemSink::new(alloc, 512, 64, Vec::new(alloc)) else {
-        panic!(rt; "no memory");
+    packet
+}
+
+/// The characters of the symbol.
+fn a_symbol(alloc: Global) -> Result<Chars, Fail> {
+    let mut items = Vec::new(alloc);
+    items.extend_from_slice(&SYMBOL)?;
+    Ok(Chars::new(items))
+}
+
+/// Writes the lines of notes, as whoever works a link does.
+fn write_notes<K: Sink>(
+    outbox: &mut Outbox<K>,
+    alloc: Global,
+    names: &[Name],
+    a: PortRef,
+    b: PortRef,
+    notes: &[Note],
+) -> Result<(), NoteEnd>
+    requires first_named { a.node < length names.now }
+    requires second_named { b.node < length names.now }
+    ensures all { OnOk result (Writes K.written K.faults outbox.old outbox.new
+        (trace_text names.now (lines_of a b notes.now))) }
+    ensures front { OnErr result ((front rest : List Note) × (notes.now ≡ front ++ rest)
+        × Writes K.written K.faults outbox.old outbox.new
+        (trace_text names.now (lines_of a b front))) }
+{
+    let mut watch = LinkLines {
+        outbox,
+        names,
+        a,
+        b,
     };
-    let Ok(mut buffer) = TextBuffer::new(alloc) else {
-        panic!(rt; "no memory");
-    };
+    note_all(&mut watch, alloc, notes)
+}
+
+#[test]
+fn lines_are_those_of_a_trace(rt: HostRuntime) -> Result<(), Fail> {
+    let alloc = rt.alloc();
+    let names = two_names(&rt, alloc)?;
+    let packet = a_packet(&rt);
+    let mut sink = MemSink::new(alloc, 512, 64, Vec::new(alloc))?;
+    let mut buffer = TextBuffer::new(alloc)?;
     let mut outbox = Outbox::new(&mut buffer, &mut sink);
     write_take(&mut outbox, &names, 0, &packet);
-    write_fire(&mut outbox, &names, a);
-    write_sent(&mut outbox, &names, b, &chars);
-    write_got(&mut outbox, &names, a, &chars);
-    write_hold(&mut outbox, &names, b, &packet);
-    write_free(&mut outbox, &names, a, &packet);
+    write_fire(&mut outbox, &names, NEAR);
+    write_sent(&mut outbox, &names, FAR, &SYMBOL);
+    write_got(&mut outbox, &names, NEAR, &SYMBOL);
+    write_hold(&mut outbox, &names, FAR, &packet);
+    write_free(&mut outbox, &names, NEAR, &packet);
     write_leave(&mut outbox, &names, 1, &packet);
     write_full(&mut outbox);
     write_empty(&mut outbox);
@@ -52,5 +110,31 @@ fn lines_are_those_of_a_trace(rt: HostRuntime) -> Result<(), Fail> {
     outbox.flush();
     assert!(rt; !outbox.failed());
     assert_eq!(rt; sink.written(), LINES);
+    Ok(())
+}
+
+#[test]
+fn notes_are_written_in_order(rt: HostRuntime) -> Result<(), Fail> {
+    let alloc = rt.alloc();
+    let names = two_names(&rt, alloc)?;
+    let notes = vec![in alloc;
+        Note::Fire(Side::A),
+        Note::Sent(Side::A, a_symbol(alloc)?),
+        Note::Got(Side::B, a_symbol(alloc)?),
+        Note::Hold(Side::B, a_packet(&rt)),
+        Note::Sent(Side::B, a_symbol(alloc)?),
+        Note::Got(Side::A, a_symbol(alloc)?),
+        Note::Free(Side::A, a_packet(&rt)),
+    ]?;
+    let mut sink = MemSink::new(alloc, 512, 64, Vec::new(alloc))?;
+    let mut buffer = TextBuffer::new(alloc)?;
+    let mut outbox = Outbox::new(&mut buffer, &mut sink);
+    assert_eq!(rt;
+        write_notes(&mut outbox, alloc, &names, NEAR, FAR, &notes),
+        Ok(())
+    );
+    outbox.flush();
+    assert!(rt; !outbox.failed());
+    assert_eq!(rt; sink.written(), NOTES);
     Ok(())
 }
