@@ -1,4 +1,5 @@
 pub mod QueueLemmas
 pub mod StoreLemmas
+pub mod PriorityLists
 pub mod PriorityLaws
 pub mod PriorityParts

@@ -1,6 +1,6 @@
--- Packets that a list of priorities takes out of the lists of a store: for each priority in turn, the first packet
--- of its list. With the priorities of the outstanding packets, in the order in which they were sent, these are the
--- outstanding packets themselves.
+-- Packets that a list of priorities takes out of the lists of a store: for each priority in turn,
+-- the first packet of its list. With the priorities of the outstanding packets, in the order in
+-- which they were sent, these are the outstanding packets themselves.
 use Rattle.std.specs.Prelude.{ℕ, zero, suc, ◌≤◌, ◌==◌, nat_lt, if◌then◌else◌, Option, Some, None, List, [], ◌∷◌, ◌++◌, length, take, count_by}
 use Rattle.link_buffers.specs.Queues.{list_at, popped}
 
@@ -19,7 +19,8 @@ lists_without (prio ∷ prios) lists = lists_without prios (popped lists prio)
 abbrev pub count_of : List ℕ → ℕ → ℕ
 count_of prios prio = count_by (λ other. other == prio) prios
 
--- each list has at least as many packets as there are of its priority, so that no priority meets an empty list
+-- each list has at least as many packets as there are of its priority, so that no priority meets an
+-- empty list
 abbrev pub Covers : List ℕ → List (List (List ℕ)) → Type 0
 Covers prios lists = (prio : ℕ) → count_of prios prio ≤ length (list_at lists prio)
 

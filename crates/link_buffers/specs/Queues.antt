@@ -35,13 +35,14 @@ Sorted lists = (prio : ℕ) → prio < 4 → All (λ packet. prio_of packet ≡ 
 abbrev pub ArePackets : List (List (List ℕ)) → Type 0
 ArePackets lists = (prio : ℕ) → prio < 4 → All (λ packet. Passes packet) (list_at lists prio)
 
--- what contracts see of a store of packets that came in: its lists and the number of buffers that they share
+-- what contracts see of a store of packets that came in: its lists and the number of buffers that
+-- they share
 pub record Buffered : Type 0 where
   pub lists : List (List (List ℕ))
   pub buffers : ℕ
 
--- whether a packet of a priority may be put: more buffers are free than there are higher priorities (this project's
--- profile)
+-- whether a packet of a priority may be put: more buffers are free than there are higher priorities
+-- (this project's profile)
 abbrev pub room_for : Buffered → ℕ → Bool
 room_for store prio = nat_lt (packet_count store.lists + (3 - prio)) store.buffers
 

@@ -9,8 +9,8 @@ use rio_packets::Packet;
 use std::alloc::Global;
 use std::marker::Model;
 
-/// The packets that a port has accepted and the layer above has not taken: four lists, one for each priority, which
-/// share 4 to 30 receive buffers. Each packet held takes one buffer.
+/// The packets that a port has accepted and the layer above has not taken: four lists, one for each
+/// priority, which share 4 to 30 receive buffers. Each packet held takes one buffer.
 #[derive(Drop)]
 pub struct InStore {
     lists: PriorityLists,
@@ -52,8 +52,8 @@ impl InStore {
         self.free
     }
 
-    /// Returns whether a packet of this priority may be put: more buffers are free than there are higher priorities,
-    /// so that each higher priority has a buffer left (this project's profile).
+    /// Returns whether a packet of this priority may be put: more buffers are free than there are
+    /// higher priorities, so that each higher priority has a buffer left (this project's profile).
     pub fn has_room(&self, prio: u8) -> bool
         requires { prio < 4 }
         ensures exact { IsTrue result
@@ -84,7 +84,8 @@ impl InStore {
         self.lists.at(prio, 0)
     }
 
-    /// Takes the first packet of a priority and frees its buffer. `None` exactly where there is none.
+    /// Takes the first packet of a priority and frees its buffer. `None` exactly where there is
+    /// none.
     pub fn pop(&mut self, prio: u8) -> Option<Packet>
         requires { prio < 4 }
         ensures value { result ≡ slice_get (list_at self.old.lists prio) 0 }

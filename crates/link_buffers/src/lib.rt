@@ -1,15 +1,17 @@
-//! The stores of a port: `InStore` keeps the packets that came in until the layer above takes them, and
-//! `OutStore` the packets to be sent until the far port has accepted them. A store is four lists of packets, one
-//! for each priority, and each list keeps its order.
+//! The stores of a port: `InStore` keeps the packets that came in until the layer above takes them,
+//! and `OutStore` the packets to be sent until the far port has accepted them. A store is four
+//! lists of packets, one for each priority, and each list keeps its order.
 //!
-//! Promised: a put adds one packet at the end of the list of its priority, a pop takes the first one of a list, and
-//! nothing else changes. What has room is exact. All memory is taken when a store is made.
+//! Promised: a put adds one packet at the end of the list of its priority, a pop takes the first
+//! one of a list, and nothing else changes. What has room is exact. All memory is taken when a
+//! store is made.
 //!
 //! Left out: which packet is sent next, and acknowledgement.
 //!
 //! - `in_store`: `InStore`, whose lists share a number of receive buffers
 //! - `out_store`: `OutStore`, whose lists have room for 16 packets each
-//! - `priorities`: the laws of what a list of priorities takes out of a store, as the acknowledgements of a link do
+//! - `priorities`: the laws of what a list of priorities takes out of a store, as the
+//!   acknowledgements of a link do
 //! - `lists`: the four rings under both
 #![tactic(auto)]
 

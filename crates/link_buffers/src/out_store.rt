@@ -23,8 +23,8 @@ pub struct Waiting {
     pub place: u8,
 }
 
-/// The packets to be sent, those sent and not yet accepted among them: four lists, one for each priority, of at most
-/// 16 packets each. Contracts see the four lists.
+/// The packets to be sent, those sent and not yet accepted among them: four lists, one for each
+/// priority, of at most 16 packets each. Contracts see the four lists.
 #[derive(Drop)]
 pub struct OutStore {
     lists: PriorityLists,
@@ -71,7 +71,8 @@ impl OutStore {
         self.lists.put(packet);
     }
 
-    /// Returns the packet at `place` of the list of a priority, counted from 0. `None` exactly past the end.
+    /// Returns the packet at `place` of the list of a priority, counted from 0. `None` exactly past
+    /// the end.
     pub fn at(&self, prio: u8, place: u8) -> Option<&Packet>
         requires { prio < 4 }
         ensures { option_copied result ≡ slice_get (list_at self.now prio) place }
@@ -79,9 +80,10 @@ impl OutStore {
         self.lists.at(prio, place)
     }
 
-    /// Returns where the first packet stands that waits behind those which these priorities take, at most 255: it is of the
-    /// highest priority that has one. `None` exactly where they take all packets. With the priorities of the outstanding
-    /// packets, it is the next to be sent; with none, the first packet of the highest priority that has one.
+    /// Returns where the first packet stands that waits behind those which these priorities take,
+    /// at most 255: it is of the highest priority that has one. `None` exactly where they take all
+    /// packets. With the priorities of the outstanding packets, it is the next to be sent; with
+    /// none, the first packet of the highest priority that has one.
     pub fn first_behind(&self, prios: &[u8]) -> Option<Waiting>
         requires few { length prios.now ≤ 255 }
         ensures highest { option_map (λ first. first.prio) result

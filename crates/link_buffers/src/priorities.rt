@@ -1,12 +1,14 @@
-//! The laws of what a list of priorities takes out of a store, for all lists of packets. Each function has an empty
-//! body: its clauses are the laws. With the priorities of the outstanding packets in the order of their ackIDs,
-//! `left` is the outstanding packets, and `leave` is what has still to be sent.
+//! The laws of what a list of priorities takes out of a store, for all lists of packets. Each
+//! function has an empty body: its clauses are the laws. With the priorities of the outstanding
+//! packets in the order of their ackIDs, `left` is the outstanding packets, and `leave` is what has
+//! still to be sent.
 ghost use Rattle.std.specs.Prelude.{◌≡◌, ℕ, ◌+◌, ◌<◌, ◌↔◌, IsSome, List, [], ◌∷◌, ◌++◌, length, map, take, drop, slice_get};
 ghost use Rattle.rio_packets.specs.Fields.{prio_of};
 ghost use Rattle.link_buffers.specs.Queues.{list_at, appended, popped, of_prio, packet_count, Sorted, IsOutStore};
 ghost use Rattle.link_buffers.specs.Priorities.{packets_of, lists_without, count_of, highest, Covers};
 
-/// Priorities one after another take what the first ones take, and then what the others take of what stays.
+/// Priorities one after another take what the first ones take, and then what the others take of
+/// what stays.
 pub fn taken_in_turn()
     ensures taken { (prios more : List ℕ) (lists : List (List (List ℕ)))
         → packets_of (prios ++ more) lists
@@ -28,7 +30,8 @@ pub fn oldest_leaves_first()
         → Covers (prio ∷ prios) lists → Covers prios (popped lists prio) }
 {}
 
-/// A packet put at the end changes nothing of what covered priorities take, and stands at the end of what stays.
+/// A packet put at the end changes nothing of what covered priorities take, and stands at the end
+/// of what stays.
 pub fn put_comes_last()
     ensures taken { (prios : List ℕ) (lists : List (List (List ℕ))) (prio : ℕ) (packet : List ℕ)
         → Covers prios lists → prio < length lists
@@ -41,8 +44,8 @@ pub fn put_comes_last()
         → Covers prios lists → prio < length lists → Covers prios (appended lists prio packet) }
 {}
 
-/// The first packet of a priority that is not taken stands at the place that counts the priority. If there is one,
-/// the priority may be added, and takes it.
+/// The first packet of a priority that is not taken stands at the place that counts the priority.
+/// If there is one, the priority may be added, and takes it.
 pub fn next_is_the_first_that_stays()
     ensures place { (prios : List ℕ) (lists : List (List (List ℕ))) (prio : ℕ)
         → slice_get (list_at (lists_without prios lists) prio) 0
@@ -55,8 +58,8 @@ pub fn next_is_the_first_that_stays()
         → Covers (prios ++ prio ∷ []) lists }
 {}
 
-/// The highest priority that has a packet which stays is one of the four, has a packet at the place that counts it,
-/// and may be added. There is one exactly where any packet stays.
+/// The highest priority that has a packet which stays is one of the four, has a packet at the place
+/// that counts it, and may be added. There is one exactly where any packet stays.
 pub fn highest_may_be_next()
     ensures some { (lists : List (List (List ℕ)))
         → length lists ≡ 4 → (0 < packet_count lists) ↔ IsSome (highest lists) }
@@ -84,7 +87,8 @@ pub fn first_take_the_first()
         → Covers prios lists → Covers (drop count prios) (lists_without (take count prios) lists) }
 {}
 
-/// Covered priorities take a packet each, of their own priority where the lists are sorted, and no packet is lost.
+/// Covered priorities take a packet each, of their own priority where the lists are sorted, and no
+/// packet is lost.
 pub fn each_takes_its_own()
     ensures count { (prios : List ℕ) (lists : List (List (List ℕ)))
         → Covers prios lists → length (packets_of prios lists) ≡ length prios }
@@ -98,8 +102,9 @@ pub fn each_takes_its_own()
         → Covers prios lists → IsOutStore lists → IsOutStore (lists_without prios lists) }
 {}
 
-/// The list of a priority is its packets among those taken, and then those that stay: with the priorities of the
-/// outstanding packets, the packets that are outstanding and then those that wait.
+/// The list of a priority is its packets among those taken, and then those that stay: with the
+/// priorities of the outstanding packets, the packets that are outstanding and then those that
+/// wait.
 pub fn outstanding_come_first()
     ensures { (prio : ℕ) (prios : List ℕ) (lists : List (List (List ℕ)))
         → length lists ≡ 4 → Sorted lists → Covers prios lists

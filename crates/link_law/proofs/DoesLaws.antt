@@ -1,5 +1,5 @@
 -- Parts of the schedule that calls do, one after another.
-use Rattle.std.proofs.Common.{◌≡◌, Bool, true, false, MatchBool, List, [], ◌∷◌, ◌++◌, refl, sym, ap, ◌∙◌, subst, append_assoc, append-nil}
+use Rattle.std.proofs.Common.{◌≡◌, Bool, true, false, MatchBool, List, [], ◌∷◌, ◌++◌, refl, sym, ap, ◌∙◌, subst, append_assoc, append-nil, Result, Ok, Err}
 use Rattle.link_model.specs.declared.event.Event.{Event}
 use Rattle.link_watch.specs.Stops.{CutAtFirst}
 use Rattle.link_watch.specs.declared.note.Note.{Note}
@@ -12,81 +12,125 @@ use Rattle.link_rest.specs.Schedules.{NextOf, WhereOf}
 use Rattle.link_rest.specs.Acts.{Act, Reached, At, Found, after, act_notes, goes, acts_notes}
 use Rattle.link_rest.specs.Settling.{Part, Empties, of_end, first_has_chars, all_chars}
 use Rattle.link_rest.proofs.Drains.{goes-append, goes_none}
-use Rattle.link_law.specs.Does.{Comes, Stops, Ends}
+use Rattle.link_law.specs.Does.{Comes, Stops, Ends, Did}
 
 notes_found : (side : Side) (e : Event) (ys : List Act) → acts_notes (Found side e) ys ≡ []
 unfolding acts_notes
 notes_found side e [] = refl
 notes_found side e (y ∷ ys) = refl
 
-pub notes-append : (xs ys : List Act) (r : Reached) → acts_notes r (xs ++ ys) ≡ acts_notes r xs ++ acts_notes (goes r xs) ys
+pub notes-append : (xs ys : List Act) (r : Reached)
+    → acts_notes r (xs ++ ys) ≡ acts_notes r xs ++ acts_notes (goes r xs) ys
 unfolding acts_notes goes
 notes-append [] ys r = refl
 notes-append (x ∷ xs) ys (At s) =
     ap (λ (notes : List Note). act_notes x s ++ notes) (notes-append xs ys (after x s))
-    ∙ sym (append_assoc (act_notes x s) (acts_notes (after x s) xs) (acts_notes (goes (after x s) xs) ys))
+    ∙ sym
+    (append_assoc (act_notes x s) (acts_notes (after x s) xs) (acts_notes (goes (after x s) xs) ys))
 notes-append (x ∷ xs) ys (Found side e) = sym (notes_found side e ys)
 
 -- what a watch promises
-pub record IsWatch {W : Type 0} (grew : W → List Note → W → Type 0) (cut : W → Note → W → Type 0) : Type 0 where
+pub record IsWatch {W : Type 0} (grew : W → List Note → W → Type 0)
+    (cut : W → Note → W → Type 0) : Type 0 where
   pub none : (w : W) → grew w [] w
-  pub on : (w next last : W) (first rest : List Note) → grew w first next → grew next rest last → grew w (first ++ rest) last
+  pub on : (w next last : W) (first rest : List Note) → grew w first next → grew next rest last
+      → grew w (first ++ rest) last
   pub cut_none : (w : W) (note : Note) → cut w note w
 
 -- ---- one part and then another
 
-pub comes_next : {W : Type 0} {grew : W → List Note → W → Type 0} {cut : W → Note → W → Type 0} → IsWatch grew cut → (P Q : Part) (before mid : LinkState) (old w new : W) (to : Reached)
-    → Comes grew P before old (At mid) w → Comes grew Q mid w to new → Comes grew (NextOf goes P Q) before old to new
+pub comes_next : {W : Type 0} {grew : W → List Note → W → Type 0} {cut : W → Note → W → Type 0}
+    → IsWatch grew cut → (P Q : Part) (before mid : LinkState) (old w new : W) (to : Reached)
+    → Comes grew P before old (At mid) w → Comes grew Q mid w to new
+    → Comes grew (NextOf goes P Q) before old to new
 comes_next {W} {grew} watch P Q before mid old w new to first next =
     let there : goes (At before) first.acts ≡ At mid = first.reached in
-    let notes : acts_notes (At before) (first.acts ++ next.acts) ≡ acts_notes (At before) first.acts ++ acts_notes (At mid) next.acts =
-    notes-append first.acts next.acts (At before) ∙ ap (λ (r : Reached). acts_notes (At before) first.acts ++ acts_notes r next.acts) there in
+    let notes : acts_notes (At before) (first.acts ++ next.acts)
+    ≡ acts_notes (At before) first.acts ++ acts_notes (At mid) next.acts =
+    notes-append first.acts next.acts (At before)
+    ∙ ap (λ (r : Reached). acts_notes (At before) first.acts ++ acts_notes r next.acts) there in
     record {
       acts = first.acts ++ next.acts;
-      part = (first.acts, next.acts, refl, first.part, subst (λ (r : Reached). Q r next.acts) (sym there) next.part);
-      reached = goes-append first.acts next.acts (At before) ∙ ap (λ (r : Reached). goes r next.acts) there ∙ next.reached;
-      grown = subst (λ (l : List Note). grew old l new) (sym notes) (watch.on old w new (acts_notes (At before) first.acts) (acts_notes (At mid) next.acts) first.grown next.grown);
+      part = (
+        first.acts,
+        next.acts,
+        refl,
+        first.part,
+        subst (λ (r : Reached). Q r next.acts) (sym there) next.part,
+      );
+      reached =
+          goes-append first.acts next.acts (At before)
+          ∙ ap (λ (r : Reached). goes r next.acts) there
+          ∙ next.reached;
+      grown =
+          subst (λ (l : List Note). grew old l new) (sym notes) (watch.on old w new
+          (acts_notes (At before) first.acts) (acts_notes (At mid) next.acts) first.grown
+          next.grown);
     }
 
-stops_next : {W : Type 0} {grew : W → List Note → W → Type 0} {cut : W → Note → W → Type 0} → IsWatch grew cut → (P Q : Part) (before mid : LinkState) (old w new : W)
-    → Comes grew P before old (At mid) w → Stops grew cut Q mid w new → Stops grew cut (NextOf goes P Q) before old new
+stops_next : {W : Type 0} {grew : W → List Note → W → Type 0} {cut : W → Note → W → Type 0}
+    → IsWatch grew cut → (P Q : Part) (before mid : LinkState) (old w new : W)
+    → Comes grew P before old (At mid) w → Stops grew cut Q mid w new
+    → Stops grew cut (NextOf goes P Q) before old new
 stops_next {W} {grew} {cut} watch P Q before mid old w new first next =
     let there : goes (At before) first.acts ≡ At mid = first.reached in
-    let notes : acts_notes (At before) (first.acts ++ next.acts) ≡ acts_notes (At before) first.acts ++ acts_notes (At mid) next.acts =
-    notes-append first.acts next.acts (At before) ∙ ap (λ (r : Reached). acts_notes (At before) first.acts ++ acts_notes r next.acts) there in
+    let notes : acts_notes (At before) (first.acts ++ next.acts)
+    ≡ acts_notes (At before) first.acts ++ acts_notes (At mid) next.acts =
+    notes-append first.acts next.acts (At before)
+    ∙ ap (λ (r : Reached). acts_notes (At before) first.acts ++ acts_notes r next.acts) there in
     let s = next.stopped in
     record {
       acts = first.acts ++ next.acts;
-      part = (first.acts, next.acts, refl, first.part, subst (λ (r : Reached). Q r next.acts) (sym there) next.part);
+      part = (
+        first.acts,
+        next.acts,
+        refl,
+        first.part,
+        subst (λ (r : Reached). Q r next.acts) (sym there) next.part,
+      );
       stopped = record {
         front = acts_notes (At before) first.acts ++ s.front;
         rest = s.rest;
-        whole = notes ∙ ap (λ (l : List Note). acts_notes (At before) first.acts ++ l) s.whole ∙ sym (append_assoc (acts_notes (At before) first.acts) s.front s.rest);
+        whole =
+            notes
+            ∙ ap (λ (l : List Note). acts_notes (At before) first.acts ++ l) s.whole
+            ∙ sym (append_assoc (acts_notes (At before) first.acts) s.front s.rest);
         mid = s.mid;
-        grown = watch.on old w s.mid (acts_notes (At before) first.acts) s.front first.grown s.grown;
+        grown =
+            watch.on old w s.mid (acts_notes (At before) first.acts) s.front first.grown s.grown;
         cut_at = s.cut_at;
       };
     }
 
-pub ends_next : {W : Type 0} (grew : W → List Note → W → Type 0) (cut : W → Note → W → Type 0) → IsWatch grew cut → (P Q : Part) (before mid : LinkState) (old w new : W) (end : LinkEnd)
-    → Comes grew P before old (At mid) w → Ends grew cut Q mid w end new → Ends grew cut (NextOf goes P Q) before old end new
-ends_next grew cut watch P Q before mid old w new (Undetected side e) first does = comes_next watch P Q before mid old w new (Found side e) first does
-ends_next grew cut watch P Q before mid old w new Failed first does = stops_next watch P Q before mid old w new first does
-ends_next grew cut watch P Q before mid old w new NoMemory first does = stops_next watch P Q before mid old w new first does
+pub ends_next : {W : Type 0} (grew : W → List Note → W → Type 0) (cut : W → Note → W → Type 0)
+    → IsWatch grew cut → (P Q : Part) (before mid : LinkState) (old w new : W) (end : LinkEnd)
+    → Comes grew P before old (At mid) w → Ends grew cut Q mid w end new
+    → Ends grew cut (NextOf goes P Q) before old end new
+ends_next grew cut watch P Q before mid old w new (Undetected side e) first does =
+    comes_next watch P Q before mid old w new (Found side e) first does
+ends_next grew cut watch P Q before mid old w new Failed first does =
+    stops_next watch P Q before mid old w new first does
+ends_next grew cut watch P Q before mid old w new NoMemory first does =
+    stops_next watch P Q before mid old w new first does
 
 -- ---- the first part ended the call
 
-more_cut : {W : Type 0} (cut : W → Note → W → Type 0) → ((w : W) (note : Note) → cut w note w) → (rest more : List Note) (mid new : W) → CutAtFirst cut mid rest new → CutAtFirst cut mid (rest ++ more) new
+more_cut : {W : Type 0} (cut : W → Note → W → Type 0) → ((w : W) (note : Note) → cut w note w)
+    → (rest more : List Note) (mid new : W) → CutAtFirst cut mid rest new
+    → CutAtFirst cut mid (rest ++ more) new
 more_cut cut none [] [] mid new h = h
 more_cut cut none [] (note ∷ more) mid new h = subst (λ w. cut mid note w) (sym h) (none mid note)
 more_cut cut none (note ∷ rest) more mid new h = h
 
--- what may follow a part can always be done, where a sound link is asked for; and nothing of it is done after an event that was not sent
+-- what may follow a part can always be done, where a sound link is asked for; and nothing of it is
+-- done after an event that was not sent
 pub record Follows (P Q : Part) (before : LinkState) : Type 0 where
   pub found : (side : Side) (e : Event) → Q (Found side e) []
-  pub can : (acts : List Act) → P (At before) acts → (all : List Act) × Q (goes (At before) acts) all
+  pub can : (acts : List Act) → P (At before) acts
+      → (all : List Act) × Q (goes (At before) acts) all
 
-stops_early : {W : Type 0} {grew : W → List Note → W → Type 0} {cut : W → Note → W → Type 0} → IsWatch grew cut → (P Q : Part) (before : LinkState) (old new : W) → Follows P Q before
+stops_early : {W : Type 0} {grew : W → List Note → W → Type 0} {cut : W → Note → W → Type 0}
+    → IsWatch grew cut → (P Q : Part) (before : LinkState) (old new : W) → Follows P Q before
     → Stops grew cut P before old new → Stops grew cut (NextOf goes P Q) before old new
 stops_early {W} {grew} {cut} watch P Q before old new follows first =
     let more = follows.can first.acts first.part in
@@ -98,34 +142,54 @@ stops_early {W} {grew} {cut} watch P Q before old new follows first =
       stopped = record {
         front = s.front;
         rest = s.rest ++ later;
-        whole = notes-append first.acts more.0 (At before) ∙ ap (λ (l : List Note). l ++ later) s.whole ∙ append_assoc s.front s.rest later;
+        whole =
+            notes-append first.acts more.0 (At before)
+            ∙ ap (λ (l : List Note). l ++ later) s.whole
+            ∙ append_assoc s.front s.rest later;
         mid = s.mid;
         grown = s.grown;
         cut_at = more_cut cut watch.cut_none s.rest later s.mid new s.cut_at;
       };
     }
 
-comes_early : {W : Type 0} {grew : W → List Note → W → Type 0} → (P Q : Part) (before : LinkState) (old new : W) (side : Side) (e : Event) → Follows P Q before
-    → Comes grew P before old (Found side e) new → Comes grew (NextOf goes P Q) before old (Found side e) new
+comes_early : {W : Type 0} {grew : W → List Note → W → Type 0}
+    → (P Q : Part) (before : LinkState) (old new : W) (side : Side) (e : Event) → Follows P Q before
+    → Comes grew P before old (Found side e) new
+    → Comes grew (NextOf goes P Q) before old (Found side e) new
 comes_early {W} {grew} P Q before old new side e follows first =
     let there = first.reached in
     let same : first.acts ++ [] ≡ first.acts = append-nil first.acts in
     record {
       acts = first.acts ++ [];
-      part = (first.acts, [], refl, first.part, subst (λ (r : Reached). Q r []) (sym there) (follows.found side e));
+      part = (
+        first.acts,
+        [],
+        refl,
+        first.part,
+        subst (λ (r : Reached). Q r []) (sym there) (follows.found side e),
+      );
       reached = ap (goes (At before)) same ∙ there;
-      grown = subst (λ (acts : List Act). grew old (acts_notes (At before) acts) new) (sym same) first.grown;
+      grown =
+          subst (λ (acts : List Act). grew old (acts_notes (At before) acts) new) (sym same)
+          first.grown;
     }
 
-pub ends_early : {W : Type 0} (grew : W → List Note → W → Type 0) (cut : W → Note → W → Type 0) → IsWatch grew cut → (P Q : Part) (before : LinkState) (old new : W) (end : LinkEnd) → Follows P Q before
+pub ends_early : {W : Type 0} (grew : W → List Note → W → Type 0) (cut : W → Note → W → Type 0)
+    → IsWatch grew cut → (P Q : Part) (before : LinkState) (old new : W) (end : LinkEnd)
+    → Follows P Q before
     → Ends grew cut P before old end new → Ends grew cut (NextOf goes P Q) before old end new
-ends_early grew cut watch P Q before old new (Undetected side e) follows first = comes_early P Q before old new side e follows first
-ends_early grew cut watch P Q before old new Failed follows first = stops_early watch P Q before old new follows first
-ends_early grew cut watch P Q before old new NoMemory follows first = stops_early watch P Q before old new follows first
+ends_early grew cut watch P Q before old new (Undetected side e) follows first =
+    comes_early P Q before old new side e follows first
+ends_early grew cut watch P Q before old new Failed follows first =
+    stops_early watch P Q before old new follows first
+ends_early grew cut watch P Q before old new NoMemory follows first =
+    stops_early watch P Q before old new follows first
 
 -- ---- a part where a test holds
 
-pub comes_where : {W : Type 0} {grew : W → List Note → W → Type 0} → (test : Reached → Bool) (P : Part) (before : LinkState) (old new : W) (to : Reached) → test (At before) ≡ true
+pub comes_where : {W : Type 0} {grew : W → List Note → W → Type 0}
+    → (test : Reached → Bool) (P : Part) (before : LinkState) (old new : W) (to : Reached)
+    → test (At before) ≡ true
     → Comes grew P before old to new → Comes grew (WhereOf test P) before old to new
 comes_where test P before old new to is h = record {
   acts = h.acts;
@@ -134,7 +198,9 @@ comes_where test P before old new to is h = record {
   grown = h.grown;
 }
 
-pub stops_where : {W : Type 0} {grew : W → List Note → W → Type 0} {cut : W → Note → W → Type 0} → (test : Reached → Bool) (P : Part) (before : LinkState) (old new : W) → test (At before) ≡ true
+pub stops_where : {W : Type 0} {grew : W → List Note → W → Type 0} {cut : W → Note → W → Type 0}
+    → (test : Reached → Bool) (P : Part) (before : LinkState) (old new : W)
+    → test (At before) ≡ true
     → Stops grew cut P before old new → Stops grew cut (WhereOf test P) before old new
 stops_where test P before old new is h = record {
   acts = h.acts;
@@ -142,14 +208,19 @@ stops_where test P before old new is h = record {
   stopped = h.stopped;
 }
 
-pub ends_where : {W : Type 0} (grew : W → List Note → W → Type 0) (cut : W → Note → W → Type 0) (test : Reached → Bool) (P : Part) (before : LinkState) (old new : W) (end : LinkEnd) → test (At before) ≡ true
+pub ends_where : {W : Type 0} (grew : W → List Note → W → Type 0) (cut : W → Note → W → Type 0)
+    (test : Reached → Bool) (P : Part) (before : LinkState) (old new : W) (end : LinkEnd)
+    → test (At before) ≡ true
     → Ends grew cut P before old end new → Ends grew cut (WhereOf test P) before old end new
-ends_where grew cut test P before old new (Undetected side e) is h = comes_where test P before old new (Found side e) is h
+ends_where grew cut test P before old new (Undetected side e) is h =
+    comes_where test P before old new (Found side e) is h
 ends_where grew cut test P before old new Failed is h = stops_where test P before old new is h
 ends_where grew cut test P before old new NoMemory is h = stops_where test P before old new is h
 
 -- where it does not, nothing is done
-pub comes_none : {W : Type 0} (grew : W → List Note → W → Type 0) (cut : W → Note → W → Type 0) → IsWatch grew cut → (test : Reached → Bool) (P : Part) (before : LinkState) (old : W) → test (At before) ≡ false
+pub comes_none : {W : Type 0} (grew : W → List Note → W → Type 0) (cut : W → Note → W → Type 0)
+    → IsWatch grew cut → (test : Reached → Bool) (P : Part) (before : LinkState) (old : W)
+    → test (At before) ≡ false
     → Comes grew (WhereOf test P) before old (At before) old
 unfolding acts_notes
 comes_none grew cut watch test P before old is =
@@ -161,14 +232,44 @@ comes_none grew cut watch test P before old is =
       grown = watch.none old;
     }
 
+-- ---- by what a call answers
+
+pub did_next : {W : Type 0} (grew : W → List Note → W → Type 0) (cut : W → Note → W → Type 0)
+    → IsWatch grew cut → (P Q : Part) (before mid : LinkState) (old w new : W)
+    (result : Result (Unit {0}) LinkEnd) (next : LinkState) → Comes grew P before old (At mid) w
+    → Did grew cut Q mid w result next new → Did grew cut (NextOf goes P Q) before old result next new
+did_next grew cut watch P Q before mid old w new (Ok done) next first does =
+    comes_next watch P Q before mid old w new (At next) first does
+did_next grew cut watch P Q before mid old w new (Err end) next first does =
+    ends_next grew cut watch P Q before mid old w new end first does
+
+pub did_where : {W : Type 0} (grew : W → List Note → W → Type 0) (cut : W → Note → W → Type 0)
+    (test : Reached → Bool) (P : Part) (before : LinkState) (old new : W)
+    (result : Result (Unit {0}) LinkEnd) (next : LinkState) → test (At before) ≡ true
+    → Did grew cut P before old result next new
+    → Did grew cut (WhereOf test P) before old result next new
+did_where grew cut test P before old new (Ok done) next is h =
+    comes_where test P before old new (At next) is h
+did_where grew cut test P before old new (Err end) next is h =
+    ends_where grew cut test P before old new end is h
+
 -- ---- one call
 
 -- nothing is taken in yet
-pub stops_at_once : {W : Type 0} (grew : W → List Note → W → Type 0) (cut : W → Note → W → Type 0) → IsWatch grew cut → (P : Part) (before : LinkState) (old : W) (acts : List Act) → P (At before) acts → Stops grew cut P before old old
+pub stops_at_once : {W : Type 0} (grew : W → List Note → W → Type 0) (cut : W → Note → W → Type 0)
+    → IsWatch grew cut → (P : Part) (before : LinkState) (old : W) (acts : List Act)
+    → P (At before) acts → Stops grew cut P before old old
 stops_at_once grew cut watch P before old acts part = record {
   acts = acts;
   part = part;
-  stopped = record { front = []; rest = acts_notes (At before) acts; whole = refl; mid = old; grown = watch.none old; cut_at = at_first (acts_notes (At before) acts) };
+  stopped = record {
+    front = [];
+    rest = acts_notes (At before) acts;
+    whole = refl;
+    mid = old;
+    grown = watch.none old;
+    cut_at = at_first (acts_notes (At before) acts);
+  };
 }
   where
     at_first : (rest : List Note) → CutAtFirst cut old rest old
@@ -188,4 +289,7 @@ empties_can from r = by (of_end from first_has_chars r)
     by false = ([], refl)
 
 pub empties_follow : (before : LinkState) → Follows (Empties A) (Empties B) before
-empties_follow before = record { found = empties_found B; can = λ acts part. empties_can B (goes (At before) acts) }
+empties_follow before = record {
+  found = empties_found B;
+  can = λ acts part. empties_can B (goes (At before) acts);
+}

@@ -5,7 +5,8 @@ use Rattle.link_watch.specs.declared.note.Note.TheVariants.{Sent}
 use Rattle.link_watch.specs.declared.side.Side.{Side}
 use Rattle.link_machine.specs.Calls.{sent_notes}
 
-pub sent_one : (side : Side) (chars : List Char) → 0 < length chars → sent_notes side chars ≡ Sent side chars ∷ []
+pub sent_one : (side : Side) (chars : List Char) → 0 < length chars
+    → sent_notes side chars ≡ Sent side chars ∷ []
 sent_one side [] some = absurd (omega arith)
 sent_one side (c ∷ chars) some = refl
 

@@ -12,7 +12,7 @@ use Rattle.link_rest.specs.Settling.{Part, Drains, Recovers, SendsAll, Settles}
 use Rattle.link_rest.specs.Rest.{IsQuiet, IsSettled}
 use Rattle.link_rest.proofs.Drains.{goes_none}
 use Rattle.link_rest.proofs.Settled.{Drained, FirstRests, BothRest, FirstDone, go_on, drains_lead, first_recovers, second_recovers, first_sends, settling_rests}
-use Rattle.link_rest.proofs.Sending.{Quiet}
+use Rattle.link_rest.proofs.SendingRounds.{Quiet}
 use Rattle.link_rest.proofs.Ends.{Can, next_can, recovers_can, sends_can, sound_in, first_sound, second_quiet}
 use Rattle.link_law.specs.Does.{Comes}
 use Rattle.link_law.proofs.DoesLaws.{Follows}
@@ -29,32 +29,60 @@ FirstOn = NextOf goes (Recovers A) SecondOn
 
 -- ---- what a part that was done leads to
 
-leads_to : {W : Type 0} {grew : W → List Note → W → Type 0} → (Q : LinkState → Type 0) (P : Part) (before next : LinkState) (old new : W) (h : Comes grew P before old (At next) new)
+leads_to : {W : Type 0} {grew : W → List Note → W → Type 0}
+    → (Q : LinkState → Type 0) (P : Part) (before next : LinkState) (old new : W)
+    (h : Comes grew P before old (At next) new)
     → OnState Q (goes (At before) h.acts) → Q next
 leads_to Q P before next old new h is = subst (λ (r : Reached). OnState Q r) h.reached is
 
-pub drained_at : {W : Type 0} {grew : W → List Note → W → Type 0} → (before next : LinkState) (old new : W) → IsSoundLink before → Comes grew Drains before old (At next) new → Drained next
-drained_at before next old new l h = leads_to Drained Drains before next old new h (drains_lead before h.acts l h.part)
+pub drained_at : {W : Type 0} {grew : W → List Note → W → Type 0}
+    → (before next : LinkState) (old new : W) → IsSoundLink before
+    → Comes grew Drains before old (At next) new → Drained next
+drained_at before next old new l h =
+    leads_to Drained Drains before next old new h (drains_lead before h.acts l h.part)
 
-pub first_at : {W : Type 0} {grew : W → List Note → W → Type 0} → (before next : LinkState) (old new : W) → Drained before → Comes grew (Recovers A) before old (At next) new → FirstRests next
-first_at before next old new d h = leads_to FirstRests (Recovers A) before next old new h (first_recovers before h.acts d h.part)
+pub first_at : {W : Type 0} {grew : W → List Note → W → Type 0}
+    → (before next : LinkState) (old new : W) → Drained before
+    → Comes grew (Recovers A) before old (At next) new → FirstRests next
+first_at before next old new d h =
+    leads_to FirstRests (Recovers A) before next old new h (first_recovers before h.acts d h.part)
 
-pub second_at : {W : Type 0} {grew : W → List Note → W → Type 0} → (before next : LinkState) (old new : W) → FirstRests before → Comes grew (Recovers B) before old (At next) new → BothRest next
-second_at before next old new f h = leads_to BothRest (Recovers B) before next old new h (second_recovers before h.acts f h.part)
+pub second_at : {W : Type 0} {grew : W → List Note → W → Type 0}
+    → (before next : LinkState) (old new : W) → FirstRests before
+    → Comes grew (Recovers B) before old (At next) new → BothRest next
+second_at before next old new f h =
+    leads_to BothRest (Recovers B) before next old new h (second_recovers before h.acts f h.part)
 
-pub sent_at : {W : Type 0} {grew : W → List Note → W → Type 0} → (before next : LinkState) (old new : W) → BothRest before → Comes grew (SendsAll A) before old (At next) new → FirstDone next
-sent_at before next old new q h = leads_to FirstDone (SendsAll A) before next old new h (first_sends before h.acts q h.part)
+pub sent_at : {W : Type 0} {grew : W → List Note → W → Type 0}
+    → (before next : LinkState) (old new : W) → BothRest before
+    → Comes grew (SendsAll A) before old (At next) new → FirstDone next
+sent_at before next old new q h =
+    leads_to FirstDone (SendsAll A) before next old new h (first_sends before h.acts q h.part)
 
 pub is_quiet : (s : LinkState) → Quiet A s → IsSoundLink s × IsQuiet s
-is_quiet s q = (q.sound, record { wire_a = q.none.0; wire_b = q.none.1; a_to_b = q.out; b_to_a = q.into })
+is_quiet s q = (
+  q.sound,
+  record {
+    wire_a = q.none.0;
+    wire_b = q.none.1;
+    a_to_b = q.out;
+    b_to_a = q.into;
+  },
+)
 
-pub settled_at : {W : Type 0} {grew : W → List Note → W → Type 0} → (before next : LinkState) (old new : W) → IsSoundLink before → Comes grew Settles before old (At next) new → IsSoundLink next × IsSettled next
-settled_at before next old new l h = leads_to (λ m. IsSoundLink m × IsSettled m) Settles before next old new h (settling_rests before h.acts l h.part)
+pub settled_at : {W : Type 0} {grew : W → List Note → W → Type 0}
+    → (before next : LinkState) (old new : W) → IsSoundLink before
+    → Comes grew Settles before old (At next) new → IsSoundLink next × IsSettled next
+settled_at before next old new l h =
+    leads_to (λ m. IsSoundLink m × IsSettled m) Settles before next old new h
+    (settling_rests before h.acts l h.part)
 
 -- ---- what may follow
 
-next_found : (P Q : Part) (side : Side) (e : Event) → P (Found side e) [] → Q (Found side e) [] → NextOf goes P Q (Found side e) []
-next_found P Q side e p q = ([], [], refl, p, subst (λ (r : Reached). Q r []) (sym (goes_none (Found side e))) q)
+next_found : (P Q : Part) (side : Side) (e : Event) → P (Found side e) [] → Q (Found side e) []
+    → NextOf goes P Q (Found side e) []
+next_found P Q side e p q =
+    ([], [], refl, p, subst (λ (r : Reached). Q r []) (sym (goes_none (Found side e))) q)
 
 sends_found : (side : Side) (e : Event) → Sends (Found side e) []
 sends_found side e = next_found (SendsAll A) (SendsAll B) side e refl refl
@@ -71,26 +99,41 @@ send_can r h = sends_can B r (second_quiet r h)
 both_can : (r : Reached) → OnState BothRest r → Can Sends r
 both_can r h =
     let first = sends_can A r h in
-    next_can (SendsAll A) (SendsAll B) r first (send_can (goes r first.0) (go_on BothRest (SendsAll A) FirstDone first_sends r first.0 h first.1))
+    next_can (SendsAll A) (SendsAll B) r first (send_can (goes r first.0)
+    (go_on BothRest (SendsAll A) FirstDone first_sends r first.0 h first.1))
 
 second_can : (r : Reached) → OnState FirstRests r → Can SecondOn r
 second_can r h =
     let first = recovers_can B r (first_sound r h) in
-    next_can (Recovers B) Sends r first (both_can (goes r first.0) (go_on FirstRests (Recovers B) BothRest second_recovers r first.0 h first.1))
+    next_can (Recovers B) Sends r first (both_can (goes r first.0)
+    (go_on FirstRests (Recovers B) BothRest second_recovers r first.0 h first.1))
 
 first_can : (r : Reached) → OnState Drained r → Can FirstOn r
 first_can r h =
     let first = recovers_can A r (sound_in r h) in
-    next_can (Recovers A) SecondOn r first (second_can (goes r first.0) (go_on Drained (Recovers A) FirstRests first_recovers r first.0 h first.1))
+    next_can (Recovers A) SecondOn r first (second_can (goes r first.0)
+    (go_on Drained (Recovers A) FirstRests first_recovers r first.0 h first.1))
 
 pub first_follows : (s : LinkState) → IsSoundLink s → Follows Drains FirstOn s
-first_follows s l = record { found = first_found; can = λ acts part. first_can (goes (At s) acts) (drains_lead s acts l part) }
+first_follows s l = record {
+  found = first_found;
+  can = λ acts part. first_can (goes (At s) acts) (drains_lead s acts l part);
+}
 
 pub second_follows : (s : LinkState) → Drained s → Follows (Recovers A) SecondOn s
-second_follows s d = record { found = second_found; can = λ acts part. second_can (goes (At s) acts) (first_recovers s acts d part) }
+second_follows s d = record {
+  found = second_found;
+  can = λ acts part. second_can (goes (At s) acts) (first_recovers s acts d part);
+}
 
 pub sends_follow : (s : LinkState) → FirstRests s → Follows (Recovers B) Sends s
-sends_follow s f = record { found = sends_found; can = λ acts part. both_can (goes (At s) acts) (second_recovers s acts f part) }
+sends_follow s f = record {
+  found = sends_found;
+  can = λ acts part. both_can (goes (At s) acts) (second_recovers s acts f part);
+}
 
 pub send_follows : (s : LinkState) → BothRest s → Follows (SendsAll A) (SendsAll B) s
-send_follows s q = record { found = λ side e. refl; can = λ acts part. send_can (goes (At s) acts) (first_sends s acts q part) }
+send_follows s q = record {
+  found = λ side e. refl;
+  can = λ acts part. send_can (goes (At s) acts) (first_sends s acts q part);
+}

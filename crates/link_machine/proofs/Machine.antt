@@ -32,19 +32,27 @@ use Rattle.link_machine.proofs.Turning.{turned_port, turned_keeps, turned_stays,
 use Rattle.link_machine.proofs.Walking.{FirstWalks, walks_at}
 
 pub round_keeps : (s : LinkState) → IsSoundLink s → IsSoundLink (turned_round s)
-round_keeps s l = record { port_a = l.port_b; port_b = l.port_a; sound = exchanged s.a s.b s.wire_a.kept s.wire_b.kept l.sound }
+round_keeps s l = record {
+  port_a = l.port_b;
+  port_b = l.port_a;
+  sound = exchanged s.a s.b s.wire_a.kept s.wire_b.kept l.sound;
+}
 
 from_end_keeps : (side : Side) (s : LinkState) → IsSoundLink s → IsSoundLink (from_end side s)
 from_end_keeps A s l = l
 from_end_keeps B s l = round_keeps s l
 
-pub at_end_keeps : (side : Side) (does : LinkState → LinkState) (s : LinkState) → ((t : LinkState) → IsSoundLink t → IsSoundLink (does t)) → IsSoundLink s → IsSoundLink (at_end side does s)
+pub at_end_keeps : (side : Side) (does : LinkState → LinkState) (s : LinkState)
+    → ((t : LinkState) → IsSoundLink t → IsSoundLink (does t)) → IsSoundLink s
+    → IsSoundLink (at_end side does s)
 at_end_keeps A does s keeps l = keeps s l
-at_end_keeps B does s keeps l = round_keeps (does (turned_round s)) (keeps (turned_round s) (round_keeps s l))
+at_end_keeps B does s keeps l =
+    round_keeps (does (turned_round s)) (keeps (turned_round s) (round_keeps s l))
 
 -- what moves nothing at the first end moves nothing at either
 pub at_end_stays :
-    (side : Side) (does : LinkState → LinkState) (s : LinkState) → ((t : LinkState) → IsSoundLink t → queues_of (does t) ≡ queues_of t) → IsSoundLink s
+    (side : Side) (does : LinkState → LinkState) (s : LinkState)
+    → ((t : LinkState) → IsSoundLink t → queues_of (does t) ≡ queues_of t) → IsSoundLink s
     → queues_of (at_end side does s) ≡ queues_of s
 at_end_stays A does s stays l = stays s l
 at_end_stays B does s stays l = ap queues_round (stays (turned_round s) (round_keeps s l))
@@ -58,28 +66,37 @@ turns_keep n s l = record {
   sound = turned_keeps n s.a s.b s.wire_a.kept s.wire_b.kept l.port_a l.sound;
 }
 
-pub pump_keeps : (from : Side) (n : ℕ) (s : LinkState) → IsSoundLink s → IsSoundLink (pumped from n s)
+pub pump_keeps : (from : Side) (n : ℕ) (s : LinkState) → IsSoundLink s
+    → IsSoundLink (pumped from n s)
 pump_keeps from n s l = at_end_keeps from (first_turns n) s (turns_keep n) l
 
-pub pump_moves_none : (from : Side) (n : ℕ) (s : LinkState) → IsSoundLink s → queues_of (pumped from n s) ≡ queues_of s
+pub pump_moves_none : (from : Side) (n : ℕ) (s : LinkState) → IsSoundLink s
+    → queues_of (pumped from n s) ≡ queues_of s
 pump_moves_none from n s l =
-    at_end_stays from (first_turns n) s (λ t is. turned_stays n t.a t.b t.wire_a.kept t.wire_b.kept is.port_a is.sound) l
+    at_end_stays from (first_turns n) s
+    (λ t is. turned_stays n t.a t.b t.wire_a.kept t.wire_b.kept is.port_a is.sound) l
 
 -- ---- deliveries
 
-flowing : (count : ℕ) (s : LinkState) → IsSoundLink s → AreFlowing s.b s.wire_a.kept (queues_of s) (delivery count s)
-flowing count s l = delivered_flowing s.a s.b s.wire_a.kept s.wire_b.kept (take count s.wire_b.chars) l.port_a l.port_b l.sound
+flowing : (count : ℕ) (s : LinkState) → IsSoundLink s
+    → AreFlowing s.b s.wire_a.kept (queues_of s) (delivery count s)
+flowing count s l =
+    delivered_flowing s.a s.b s.wire_a.kept s.wire_b.kept (take count s.wire_b.chars) l.port_a
+    l.port_b l.sound
 
 takes_keep : (count : ℕ) (s : LinkState) → IsSoundLink s → IsSoundLink (first_takes count s)
 takes_keep count s l = by_delivery (delivery count s) (flowing count s l)
   where
-    by_delivery : (d : Delivered) → AreFlowing s.b s.wire_a.kept (queues_of s) d → IsSoundLink (after_delivery count d s)
+    by_delivery : (d : Delivered) → AreFlowing s.b s.wire_a.kept (queues_of s) d
+        → IsSoundLink (after_delivery count d s)
     by_delivery (Through flow) f = record { port_a = f.port; port_b = l.port_b; sound = f.sound }
     by_delivery (Undetected told e) f = l
 
-pub delivery_keeps : (from : Side) (count : ℕ) (s : LinkState) → IsSoundLink s → IsSoundLink (delivered_from from count s)
+pub delivery_keeps : (from : Side) (count : ℕ) (s : LinkState) → IsSoundLink s
+    → IsSoundLink (delivered_from from count s)
 delivery_keeps from count s l =
-    elim (has_chars from count s) as (λ b. IsSoundLink (if b then at_end (other_side from) (first_takes count) s else s)) [
+    elim (has_chars from count s) as
+    (λ b. IsSoundLink (if b then at_end (other_side from) (first_takes count) s else s)) [
       | true ↦ at_end_keeps (other_side from) (first_takes count) s (takes_keep count) l
       | false ↦ l
     ]
@@ -88,36 +105,51 @@ sent_steps : (side : Side) (chars : List Char) → steps_of (sent_notes side cha
 sent_steps side [] = refl
 sent_steps side (c ∷ chars) = refl
 
-move_steps : (side : Side) (moves : List Move) (notes : List Note) → steps_of (map (move_note side) moves ++ notes) ≡ steps_at side moves ++ steps_of notes
+move_steps : (side : Side) (moves : List Move) (notes : List Note)
+    → steps_of (map (move_note side) moves ++ notes) ≡ steps_at side moves ++ steps_of notes
 move_steps side [] notes = refl
-move_steps side (Held packet ∷ moves) notes = ap (λ (steps : List Step). record { side = side; move = Held packet } ∷ steps) (move_steps side moves notes)
-move_steps side (Freed packet ∷ moves) notes = ap (λ (steps : List Step). record { side = side; move = Freed packet } ∷ steps) (move_steps side moves notes)
+move_steps side (Held packet ∷ moves) notes =
+    ap (λ (steps : List Step). record { side = side; move = Held packet } ∷ steps)
+    (move_steps side moves notes)
+move_steps side (Freed packet ∷ moves) notes =
+    ap (λ (steps : List Step). record { side = side; move = Freed packet } ∷ steps)
+    (move_steps side moves notes)
 
-told_steps : (to : Side) (chars : List Char) (told : Told) → steps_of (told_notes to chars told) ≡ steps_at to told.moves
+told_steps : (to : Side) (chars : List Char) (told : Told)
+    → steps_of (told_notes to chars told) ≡ steps_at to told.moves
 told_steps to chars told =
     let sent = (answers told.replies).chars in
-    move_steps to told.moves (sent_notes to sent) ∙ ap (λ (steps : List Step). steps_at to told.moves ++ steps) (sent_steps to sent) ∙ append-nil (steps_at to told.moves)
+    move_steps to told.moves (sent_notes to sent)
+    ∙ ap (λ (steps : List Step). steps_at to told.moves ++ steps) (sent_steps to sent)
+    ∙ append-nil (steps_at to told.moves)
 
 -- the first port's moves are steps, where all events were sent
-first_steps : (count : ℕ) (s : LinkState) (d : Delivered) → undetected d ≡ None → AreFlowing s.b s.wire_a.kept (queues_of s) d
+first_steps : (count : ℕ) (s : LinkState) (d : Delivered) → undetected d ≡ None
+    → AreFlowing s.b s.wire_a.kept (queues_of s) d
     → FirstWalks (queues_of s) (told_of d).moves (queues_of (after_delivery count d s))
 first_steps count s (Through flow) none f = f.walks
 first_steps count s (Undetected told e) none f = absurd cc
 
 -- and up to an event that was not
-some_steps : (s : LinkState) (d : Delivered) → AreFlowing s.b s.wire_a.kept (queues_of s) d → (end : Queues) × FirstWalks (queues_of s) (told_of d).moves end
+some_steps : (s : LinkState) (d : Delivered) → AreFlowing s.b s.wire_a.kept (queues_of s) d
+    → (end : Queues) × FirstWalks (queues_of s) (told_of d).moves end
 some_steps s (Through flow) f = (queues_between flow.port s.b, f.walks)
 some_steps s (Undetected told e) f = f
 
 end_walks :
-    (to : Side) (count : ℕ) (s : LinkState) → undetected (delivery count (from_end to s)) ≡ None → IsSoundLink s
-    → Walks (queues_of s) (steps_at to (told_of (delivery count (from_end to s))).moves) (queues_of (at_end to (first_takes count) s))
-end_walks A count s none l = walks_at A (first_steps count s (delivery count s) none (flowing count s l))
+    (to : Side) (count : ℕ) (s : LinkState) → undetected (delivery count (from_end to s)) ≡ None
+    → IsSoundLink s
+    → Walks (queues_of s) (steps_at to (told_of (delivery count (from_end to s))).moves)
+    (queues_of (at_end to (first_takes count) s))
+end_walks A count s none l =
+    walks_at A (first_steps count s (delivery count s) none (flowing count s l))
 end_walks B count s none l =
     let t = turned_round s in
     walks_at B (first_steps count t (delivery count t) none (flowing count t (round_keeps s l)))
 
-some_walks : (to : Side) (count : ℕ) (s : LinkState) → IsSoundLink s → (end : Queues) × Walks (queues_of s) (steps_at to (told_of (delivery count (from_end to s))).moves) end
+some_walks : (to : Side) (count : ℕ) (s : LinkState) → IsSoundLink s
+    → (end : Queues)
+    × Walks (queues_of s) (steps_at to (told_of (delivery count (from_end to s))).moves) end
 some_walks A count s l =
     let some = some_steps s (delivery count s) (flowing count s l) in
     (some.0, walks_at A some.1)
@@ -127,27 +159,37 @@ some_walks B count s l =
     (queues_round some.0, walks_at B some.1)
 
 pub delivery_walks :
-    (from : Side) (count : ℕ) (s : LinkState) → undetected (delivery_from from count s) ≡ None → IsSoundLink s
-    → Walks (queues_of s) (steps_of (delivery_notes from count s)) (queues_of (delivered_from from count s))
+    (from : Side) (count : ℕ) (s : LinkState) → undetected (delivery_from from count s) ≡ None
+    → IsSoundLink s
+    → Walks (queues_of s) (steps_of (delivery_notes from count s))
+    (queues_of (delivered_from from count s))
 delivery_walks from count s none l =
     elim (has_chars from count s) as (λ b.
-    Walks (queues_of s) (steps_of (if b then told_notes (other_side from) (take count (from_end from s).wire_a.chars) (told_of (delivery_from from count s)) else []))
+    Walks (queues_of s) (steps_of (if b
+    then told_notes (other_side from) (take count (from_end from s).wire_a.chars)
+    (told_of (delivery_from from count s)) else []))
     (queues_of (if b then at_end (other_side from) (first_takes count) s else s))) [
-      | true ↦ subst (λ (steps : List Step). Walks (queues_of s) steps (queues_of (at_end (other_side from) (first_takes count) s)))
-          (sym (told_steps (other_side from) (take count (from_end from s).wire_a.chars) (told_of (delivery_from from count s))))
+      | true ↦ subst (λ (steps : List Step). Walks (queues_of s) steps
+          (queues_of (at_end (other_side from) (first_takes count) s)))
+          (sym (told_steps (other_side from) (take count (from_end from s).wire_a.chars)
+          (told_of (delivery_from from count s))))
           (end_walks (other_side from) count s none l)
       | false ↦ Ends
     ]
 
-pub delivery_steps : (from : Side) (count : ℕ) (s : LinkState) → IsSoundLink s → (end : Queues) × Walks (queues_of s) (steps_of (delivery_notes from count s)) end
+pub delivery_steps : (from : Side) (count : ℕ) (s : LinkState) → IsSoundLink s
+    → (end : Queues) × Walks (queues_of s) (steps_of (delivery_notes from count s)) end
 delivery_steps from count s l =
     elim (has_chars from count s) as (λ b.
-    (end : Queues) × Walks (queues_of s) (steps_of (if b then told_notes (other_side from) (take count (from_end from s).wire_a.chars) (told_of (delivery_from from count s)) else [])) end) [
+    (end : Queues) × Walks (queues_of s) (steps_of (if b
+    then told_notes (other_side from) (take count (from_end from s).wire_a.chars)
+    (told_of (delivery_from from count s)) else [])) end) [
       | true ↦
           let some = some_walks (other_side from) count s l in (
             some.0,
             subst (λ (steps : List Step). Walks (queues_of s) steps some.0)
-                (sym (told_steps (other_side from) (take count (from_end from s).wire_a.chars) (told_of (delivery_from from count s)))) some.1,
+                (sym (told_steps (other_side from) (take count (from_end from s).wire_a.chars)
+                (told_of (delivery_from from count s)))) some.1,
           )
       | false ↦ (queues_of s, Ends)
     ]
@@ -158,13 +200,17 @@ edit_first : (edit : Edit) (s : LinkState) → IsSoundLink s → IsSoundLink (fi
 edit_first edit s l = record {
   port_a = l.port_a;
   port_b = l.port_b;
-  sound = subst (λ (kept : List Event). IsSound s.a s.b kept s.wire_b.kept) (sym (edit_keeps edit s.wire_a)) l.sound;
+  sound =
+      subst (λ (kept : List Event). IsSound s.a s.b kept s.wire_b.kept)
+      (sym (edit_keeps edit s.wire_a)) l.sound;
 }
 
-pub edited_keeps : (from : Side) (edit : Edit) (s : LinkState) → IsSoundLink s → IsSoundLink (edited_from from edit s)
+pub edited_keeps : (from : Side) (edit : Edit) (s : LinkState) → IsSoundLink s
+    → IsSoundLink (edited_from from edit s)
 edited_keeps from edit s l = at_end_keeps from (first_edited edit) s (edit_first edit) l
 
-pub edit_moves_none : (from : Side) (edit : Edit) (s : LinkState) → queues_of (edited_from from edit s) ≡ queues_of s
+pub edit_moves_none : (from : Side) (edit : Edit) (s : LinkState)
+    → queues_of (edited_from from edit s) ≡ queues_of s
 edit_moves_none A edit s = refl
 edit_moves_none B edit s = refl
 
@@ -188,9 +234,12 @@ fire_stays B s = ap queues_round (time_out_moves_none s.b s.a)
 
 pub fire_moves_none : (side : Side) (s : LinkState) → queues_of (timed_out_at side s) ≡ queues_of s
 fire_moves_none side s =
-    elim (is_silent s) as (λ b. queues_of (if b then at_end side first_fires s else s) ≡ queues_of s) [ true ↦ fire_stays side s | false ↦ refl ]
+    elim (is_silent s) as
+    (λ b. queues_of (if b then at_end side first_fires s else s) ≡ queues_of s)
+    [ true ↦ fire_stays side s | false ↦ refl ]
 
-pub layer_keeps : (side : Side) (next : PortState) (s : LinkState) → IsPort next → IsServed (from_end side s).a next → IsSoundLink s → IsSoundLink (with_port side next s)
+pub layer_keeps : (side : Side) (next : PortState) (s : LinkState) → IsPort next
+    → IsServed (from_end side s).a next → IsSoundLink s → IsSoundLink (with_port side next s)
 layer_keeps A next s is served l = record {
   port_a = is;
   port_b = l.port_b;
@@ -207,25 +256,30 @@ layer_keeps B next s is served l =
 
 -- ---- new links, and what never happens
 
-pub new_sound : (m n : ℕ) → AreBuffers m → AreBuffers n → IsSoundLink (link empty_wires (new_port m) (new_port n))
+pub new_sound : (m n : ℕ) → AreBuffers m → AreBuffers n
+    → IsSoundLink (link empty_wires (new_port m) (new_port n))
 new_sound m n first second = record {
   port_a = new_is_port m first;
   port_b = new_is_port n second;
   sound = record { a_to_b = begins _ _ _ refl refl; b_to_a = begins _ _ _ refl refl };
 }
 
-pub none_failed : (s : LinkState) → IsSoundLink s → (s.a.output ≢ out.Output.Failed) × (s.b.output ≢ out.Output.Failed)
+pub none_failed : (s : LinkState) → IsSoundLink s
+    → (s.a.output ≢ out.Output.Failed) × (s.b.output ≢ out.Output.Failed)
 none_failed s l = (
   not_failed s.a s.b s.wire_a.kept s.wire_b.kept l.sound,
-  not_failed s.b s.a s.wire_b.kept s.wire_a.kept (exchanged s.a s.b s.wire_a.kept s.wire_b.kept l.sound),
+  not_failed s.b s.a s.wire_b.kept s.wire_a.kept
+      (exchanged s.a s.b s.wire_a.kept s.wire_b.kept l.sound),
 )
 
 -- ---- runs
 
-pub run_keeps : {s end : LinkState} {notes : List Note} → IsRun s notes end → IsSoundLink s → IsSoundLink end
+pub run_keeps : {s end : LinkState} {notes : List Note} → IsRun s notes end → IsSoundLink s
+    → IsSoundLink end
 run_keeps Rests l = l
 run_keeps (Pumps {s = s} from turns run) l = run_keeps run (pump_keeps from turns s l)
 run_keeps (Delivers {s = s} from count sent run) l = run_keeps run (delivery_keeps from count s l)
 run_keeps (Edits {s = s} from edit run) l = run_keeps run (edited_keeps from edit s l)
 run_keeps (TimesOut {s = s} side run) l = run_keeps run (fired_keeps side s l)
-run_keeps (Serves {s = s} side next is served run) l = run_keeps run (layer_keeps side next s is served l)
+run_keeps (Serves {s = s} side next is served run) l =
+    run_keeps run (layer_keeps side next s is served l)

@@ -2,7 +2,8 @@
 use Rattle.std.proofs.Common.{◌≡◌, ℕ, ◌<◌, ◌==◌, ◌++◌, cond, List, [], ◌∷◌, take, drop, sym, ap, ◌∙◌, subst}
 use Rattle.std.proofs.lemmas.List.{append-nil, take-append-drop}
 use Rattle.link_buffers.specs.Queues.{list_at, popped, appended}
-use Rattle.link_buffers.proofs.PriorityLaws.{list_at-popped, list_at-appended}
+use Rattle.link_buffers.proofs.PriorityLists.{list_at-popped}
+use Rattle.link_buffers.proofs.PriorityLaws.{list_at-appended}
 use Rattle.link_port.specs.Ports.{PortState, IsPort, AreAlike}
 use Rattle.link_machine.specs.Layer.{IsServed}
 
@@ -16,7 +17,8 @@ put_serves port next prio packet is few alike queued received = record {
   put = λ other. (
     cond (prio == other) (packet ∷ []) [],
     ap (λ (l : List (List (List ℕ))). list_at l other) queued
-        ∙ list_at-appended port.queued prio packet other (subst (λ (n : ℕ). prio < n) (sym is.sends.four) few),
+        ∙ list_at-appended port.queued prio packet other
+        (subst (λ (n : ℕ). prio < n) (sym is.sends.four) few),
   );
 }
 
@@ -29,10 +31,12 @@ take_serves port next prio alike received queued = record {
   taken = λ other.
       let n = cond (prio == other) 1 0 in
       let left : list_at next.received.lists other ≡ drop n (list_at port.received.lists other) =
-      ap (λ (l : List (List (List ℕ))). list_at l other) received ∙ list_at-popped port.received.lists prio other in (
+      ap (λ (l : List (List (List ℕ))). list_at l other) received
+      ∙ list_at-popped port.received.lists prio other in (
         take n (list_at port.received.lists other),
         sym (take-append-drop n (list_at port.received.lists other))
-            ∙ ap (λ (l : List (List ℕ)). take n (list_at port.received.lists other) ++ l) (sym left),
+            ∙ ap (λ (l : List (List ℕ)). take n (list_at port.received.lists other) ++ l)
+            (sym left),
       );
   put = λ other. (
     [],

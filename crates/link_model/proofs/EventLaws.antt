@@ -10,31 +10,40 @@ use Rattle.rio_packets.proofs.BuildingLaws.{checked-few, checked-in_range}
 use Rattle.rio_packets.proofs.CarriesLaws.{carried-from_Carries, carried-none, carried-out_of_range}
 use Rattle.link_model.proofs.ReadingSteps.{not_below}
 
-pub event-carried : (bytes : List ℕ) (ack : ℕ) (packet : List ℕ) → Carries bytes ack packet → packet_event bytes ≡ Pkt ack packet
+pub event-carried : (bytes : List ℕ) (ack : ℕ) (packet : List ℕ) → Carries bytes ack packet
+    → packet_event bytes ≡ Pkt ack packet
 unfolding packet_event
 event-carried bytes ack packet k =
-    ap (λ (o : Option (ℕ × List ℕ)). packet_or_cause o (if nat_lt (length bytes) 8 then General else BadPacket)) (carried-from_Carries bytes ack packet k)
+    ap (λ (o : Option (ℕ × List ℕ)). packet_or_cause o (if nat_lt (length bytes) 8 then General
+    else BadPacket)) (carried-from_Carries bytes ack packet k)
 
 pub event-too_short : (bytes : List ℕ) → length bytes < 8 → packet_event bytes ≡ Bad General
 unfolding packet_event
 event-too_short bytes few =
-    ap (λ (o : Option (ℕ × List ℕ)). packet_or_cause o (if nat_lt (length bytes) 8 then General else BadPacket)) (carried-out_of_range bytes (inl few))
-    ∙ ap (λ (b : Bool). Bad (if b then General else BadPacket)) ((Decides-ltb (length bytes) 8).1 few)
+    ap (λ (o : Option (ℕ × List ℕ)). packet_or_cause o
+    (if nat_lt (length bytes) 8 then General else BadPacket)) (carried-out_of_range bytes (inl few))
+    ∙ ap (λ (b : Bool). Bad (if b then General else BadPacket))
+    ((Decides-ltb (length bytes) 8).1 few)
 
-pub event-no_packet : (bytes : List ℕ) → 8 ≤ length bytes → ((ack : ℕ) (packet : List ℕ) → Carries bytes ack packet → ⊥) → packet_event bytes ≡ Bad BadPacket
+pub event-no_packet : (bytes : List ℕ) → 8 ≤ length bytes
+    → ((ack : ℕ) (packet : List ℕ) → Carries bytes ack packet → ⊥)
+    → packet_event bytes ≡ Bad BadPacket
 unfolding packet_event
 event-no_packet bytes enough never =
-    ap (λ (o : Option (ℕ × List ℕ)). packet_or_cause o (if nat_lt (length bytes) 8 then General else BadPacket)) ((carried-none bytes).1 never)
+    ap (λ (o : Option (ℕ × List ℕ)). packet_or_cause o
+    (if nat_lt (length bytes) 8 then General else BadPacket)) ((carried-none bytes).1 never)
     ∙ ap (λ (b : Bool). Bad (if b then General else BadPacket)) (not_below (length bytes) 8 enough)
 
 -- The event of a packet's bytes is what a receiver answers of them.
-pub event-checked : (bytes : List ℕ) → length bytes ≤ 276 → packet_event bytes ≡ checked_event (checked bytes)
+pub event-checked : (bytes : List ℕ) → length bytes ≤ 276
+    → packet_event bytes ≡ checked_event (checked bytes)
 unfolding packet_event
 event-checked bytes most =
     elim (cases_lt (length bytes) 8) [
       | inl few ↦ event-too_short bytes few ∙ sym (ap checked_event (checked-few bytes few))
       | inr enough ↦
-          ap (λ (b : Bool). packet_or_cause (carried bytes) (if b then General else BadPacket)) (not_below (length bytes) 8 enough)
+          ap (λ (b : Bool). packet_or_cause (carried bytes) (if b then General else BadPacket))
+          (not_below (length bytes) 8 enough)
           ∙ found (carried bytes) ∙ sym (ap checked_event (checked-in_range bytes enough most))
     ]
   where

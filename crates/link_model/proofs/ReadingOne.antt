@@ -42,7 +42,8 @@ later : (p : Place) (m n : ℕ) (rest : List Char) → m ≡ n → reading p m r
 later p m n rest e = ap (λ (k : ℕ). reading p k rest) e
 
 -- within a symbol nothing is told at the end, and something is in progress
-nothing_more : (t : Text) → IsOpen t → (p : Pending) → IsBegun p → (at : ℕ) → reading (place t p) at [] ≡ ([], false)
+nothing_more : (t : Text) → IsOpen t → (p : Pending) → IsBegun p → (at : ℕ)
+    → reading (place t p) at [] ≡ ([], false)
 unfolding run place_after
 nothing_more t may Nothing b at = absurd b
 nothing_more Plain may (Opened d) b at = refl
@@ -60,24 +61,34 @@ unfolding run place_after
 begun (no_byte {c} {d} h) = record {
   pending = Opened d;
   some = tt;
-  reads = λ t at n rest may e. begins t at c rest d may h ∙ later (place t (Opened d)) (suc at) n rest (omega arith);
+  reads =
+      λ t at n rest may e. begins t at c rest d may h
+      ∙ later (place t (Opened d)) (suc at) n rest (omega arith);
   ends = λ t may at. begins t at c [] d may h ∙ nothing_more t may (Opened d) tt (suc at);
 }
 begun (one_byte {c} {x} {d} {i} h f) = record {
   pending = One d i;
   some = tt;
-  reads = λ t at n rest may e. begins t at c (x ∷ rest) d may h ∙ stepped (place t (Opened d)) (suc at) x rest (Byte i) f
+  reads =
+      λ t at n rest may e. begins t at c (x ∷ rest) d may h
+      ∙ stepped (place t (Opened d)) (suc at) x rest (Byte i) f
       ∙ later (place t (One d i)) (suc (suc at)) n rest (omega arith);
-  ends = λ t may at. begins t at c (x ∷ []) d may h ∙ stepped (place t (Opened d)) (suc at) x [] (Byte i) f
+  ends =
+      λ t may at. begins t at c (x ∷ []) d may h
+      ∙ stepped (place t (Opened d)) (suc at) x [] (Byte i) f
       ∙ nothing_more t may (One d i) tt (suc (suc at));
 }
 begun (two_bytes {c} {x} {y} {d} {i} {j} h f g) = record {
   pending = Two d i j;
   some = tt;
-  reads = λ t at n rest may e. begins t at c (x ∷ y ∷ rest) d may h ∙ stepped (place t (Opened d)) (suc at) x (y ∷ rest) (Byte i) f
+  reads =
+      λ t at n rest may e. begins t at c (x ∷ y ∷ rest) d may h
+      ∙ stepped (place t (Opened d)) (suc at) x (y ∷ rest) (Byte i) f
       ∙ stepped (place t (One d i)) (suc (suc at)) y rest (Byte j) g
       ∙ later (place t (Two d i j)) (suc (suc (suc at))) n rest (omega arith);
-  ends = λ t may at. begins t at c (x ∷ y ∷ []) d may h ∙ stepped (place t (Opened d)) (suc at) x (y ∷ []) (Byte i) f
+  ends =
+      λ t may at. begins t at c (x ∷ y ∷ []) d may h
+      ∙ stepped (place t (Opened d)) (suc at) x (y ∷ []) (Byte i) f
       ∙ stepped (place t (One d i)) (suc (suc at)) y [] (Byte j) g
       ∙ nothing_more t may (Two d i j) tt (suc (suc (suc at)));
 }
@@ -98,54 +109,75 @@ breaks t (Two d i j) b Idle n = refl
 breaks t (Two d i j) b Stray n = refl
 
 -- a character that breaks a symbol off
-broke : (t : Text) {front : List Char} (at n : ℕ) (c : Char) (cs : List Char) (k : Kind) → IsOpen t → IsUnfinished front
-    → n ≡ at + length front → kind c ≡ k → IsNoByte k → reading (place t Nothing) at (front ++ c ∷ cs) ≡ follow (broken k) n cs
+broke : (t : Text) {front : List Char} (at n : ℕ) (c : Char) (cs : List Char) (k : Kind) → IsOpen t
+    → IsUnfinished front
+    → n ≡ at + length front → kind c ≡ k → IsNoByte k
+    → reading (place t Nothing) at (front ++ c ∷ cs) ≡ follow (broken k) n cs
 broke t at n c cs k may u e h never =
     let b = begun u in
     b.reads t at n (c ∷ cs) may e ∙ stepped (place t b.pending) n c cs k h
     ∙ ap (λ (s : Step). follow s n cs) (breaks t b.pending b.some k never)
 
-spells_nothing : (i j k : ℕ) (o : Option Fields) → spelled i j k ≡ o → ((s : Fields) → Spells s (i ∷ j ∷ k ∷ []) → ⊥) → spelled i j k ≡ None
+spells_nothing : (i j k : ℕ) (o : Option Fields) → spelled i j k ≡ o
+    → ((s : Fields) → Spells s (i ∷ j ∷ k ∷ []) → ⊥) → spelled i j k ≡ None
 spells_nothing i j k None e never = e
 spells_nothing i j k (Some s) e never = absurd (never s (spelled_some i j k s e))
 
 -- What is read is what the steps tell.
-pub one : {t : Text} {at : ℕ} {cs : List Char} {es : List (ℕ × Event)} {rest : Bool} → Reads t at cs es rest
+pub one : {t : Text} {at : ℕ} {cs : List Char} {es : List (ℕ × Event)} {rest : Bool}
+    → Reads t at cs es rest
     → (es, rest) ≡ reading (place t Nothing) at cs
 unfolding run place_after
 one plain_ends = refl
 one (idle_passes {at} {c} {cs} h r) = one r ∙ sym (stepped (place Plain Nothing) at c cs Idle h)
-one (data_outside {at} {i} {c} {cs} h r) = ap (prepend ((at, Bad BadChar) ∷ [])) (one r) ∙ sym (stepped (place Plain Nothing) at c cs (Byte i) h)
-one (stray_outside {at} {c} {cs} h r) = ap (prepend ((at, Bad BadChar) ∷ [])) (one r) ∙ sym (stepped (place Plain Nothing) at c cs Stray h)
+one (data_outside {at} {i} {c} {cs} h r) =
+    ap (prepend ((at, Bad BadChar) ∷ [])) (one r)
+    ∙ sym (stepped (place Plain Nothing) at c cs (Byte i) h)
+one (stray_outside {at} {c} {cs} h r) =
+    ap (prepend ((at, Bad BadChar) ∷ [])) (one r)
+    ∙ sym (stepped (place Plain Nothing) at c cs Stray h)
 one skipped_ends = refl
-one (data_skipped {at} {i} {c} {cs} h r) = one r ∙ sym (stepped (place Skipped Nothing) at c cs (Byte i) h)
-one (stray_skipped {at} {c} {cs} h r) = one r ∙ sym (stepped (place Skipped Nothing) at c cs Stray h)
-one (idle_ends_skipping {at} {c} {cs} h r) = one r ∙ sym (stepped (place Skipped Nothing) at c cs Idle h)
+one (data_skipped {at} {i} {c} {cs} h r) =
+    one r ∙ sym (stepped (place Skipped Nothing) at c cs (Byte i) h)
+one (stray_skipped {at} {c} {cs} h r) =
+    one r ∙ sym (stepped (place Skipped Nothing) at c cs Stray h)
+one (idle_ends_skipping {at} {c} {cs} h r) =
+    one r ∙ sym (stepped (place Skipped Nothing) at c cs Idle h)
 one (delimiter_ends_skipping {at} {c} {cs} {d = d} h r) =
-    one r ∙ stepped (place Plain Nothing) at c cs (Opens d) h ∙ sym (stepped (place Skipped Nothing) at c cs (Opens d) h)
+    one r
+    ∙ stepped (place Plain Nothing) at c cs (Opens d) h
+    ∙ sym (stepped (place Skipped Nothing) at c cs (Opens d) h)
 one packet_is_cut = refl
 one (data_is_added {at} {i} {bytes} {c} {cs} h few r) =
-    one r ∙ sym (stepped (place (Within bytes) Nothing) at c cs (Byte i) h ∙ ap (λ (b : Bool). follow (added bytes i b) at cs) (below (length bytes) 276 few))
+    one r
+    ∙ sym (stepped (place (Within bytes) Nothing) at c cs (Byte i) h
+    ∙ ap (λ (b : Bool). follow (added bytes i b) at cs) (below (length bytes) 276 few))
 one (data_is_too_long {at} {i} {bytes} {c} {cs} h many r) =
     ap (prepend ((at, Bad General) ∷ [])) (one r)
-    ∙ sym (stepped (place (Within bytes) Nothing) at c cs (Byte i) h ∙ ap (λ (b : Bool). follow (added bytes i b) at cs) (not_below (length bytes) 276 many))
+    ∙ sym (stepped (place (Within bytes) Nothing) at c cs (Byte i) h
+    ∙ ap (λ (b : Bool). follow (added bytes i b) at cs) (not_below (length bytes) 276 many))
 one (idle_in_packet {at} {bytes} {c} {cs} h r) =
-    ap (prepend ((at, Bad BadChar) ∷ [])) (one r) ∙ sym (stepped (place (Within bytes) Nothing) at c cs Idle h)
+    ap (prepend ((at, Bad BadChar) ∷ [])) (one r)
+    ∙ sym (stepped (place (Within bytes) Nothing) at c cs Idle h)
 one (stray_in_packet {at} {bytes} {c} {cs} h r) =
-    ap (prepend ((at, Bad BadChar) ∷ [])) (one r) ∙ sym (stepped (place (Within bytes) Nothing) at c cs Stray h)
+    ap (prepend ((at, Bad BadChar) ∷ [])) (one r)
+    ∙ sym (stepped (place (Within bytes) Nothing) at c cs Stray h)
 one (symbol_is_read {t} {at} {i} {j} {k} {d} {cs = cs} s may w spells al r) =
     ap (prepend (placed (suc (suc (suc at))) (told t s))) (one r)
     ∙ sym (whole t at cs may w
-    ∙ ap (λ (o : Option Fields). follow (finished t d o) (suc (suc (suc at))) cs) (spelled_back i j k s spells)
+    ∙ ap (λ (o : Option Fields). follow (finished t d o) (suc (suc (suc at))) cs)
+    (spelled_back i j k s spells)
     ∙ ap (λ (b : Bool). follow (taken t s b) (suc (suc (suc at))) cs) al)
 one (spells_none {t} {at} {i} {j} {k} {d} {cs = cs} may w never r) =
     ap (prepend ((suc (suc (suc at)), Bad BadSymbol) ∷ [])) (one r)
     ∙ sym (whole t at cs may w
-    ∙ ap (λ (o : Option Fields). follow (finished t d o) (suc (suc (suc at))) cs) (spells_nothing i j k (spelled i j k) refl never))
+    ∙ ap (λ (o : Option Fields). follow (finished t d o) (suc (suc (suc at))) cs)
+    (spells_nothing i j k (spelled i j k) refl never))
 one (not_allowed {t} {at} {i} {j} {k} {d} {cs = cs} s may w spells al r) =
     ap (prepend ((suc (suc (suc at)), Bad General) ∷ [])) (one r)
     ∙ sym (whole t at cs may w
-    ∙ ap (λ (o : Option Fields). follow (finished t d o) (suc (suc (suc at))) cs) (spelled_back i j k s spells)
+    ∙ ap (λ (o : Option Fields). follow (finished t d o) (suc (suc (suc at))) cs)
+    (spelled_back i j k s spells)
     ∙ ap (λ (b : Bool). follow (taken t s b) (suc (suc (suc at))) cs) al)
 one (cut_by_delimiter {t} {at} {n} {d} {cs} front c may u e all h r) =
     ap (prepend ((n, Bad BadChar) ∷ [])) (one r ∙ stepped (place Plain Nothing) n c cs (Opens d) h)

@@ -40,47 +40,64 @@ own_is_allowed s range = grind arith
 
 -- A symbol, where one may begin.
 pub symbol_course : (t : Text) (at : ℕ) (s : Fields) (cs : List Char) → IsOpen t → InRange s
-    → course (place t Nothing) at (symbol_chars_of s ++ cs) ≡ follow_to (taken t s true) (suc (suc (suc at))) cs
+    → course (place t Nothing) at (symbol_chars_of s ++ cs)
+    ≡ follow_to (taken t s true) (suc (suc (suc at))) cs
 unfolding symbol_chars_of symbol_bytes
 symbol_course t at s cs may range =
     let d = delimiter_of s in
     let i = s.s0 * 32 + s.p0 in let j = s.p1 * 8 + s.s1 in let k = s.cmd * 32 + crc5_value s in
     let w : IsWhole d (delimiter_char d) (Data i) (Data j) (Data k) i j k =
-    record { opens = kind-delimiter d; first = kind-data i; second = kind-data j; third = kind-data k } in
+    record {
+      opens = kind-delimiter d;
+      first = kind-data i;
+      second = kind-data j;
+      third = kind-data k;
+    } in
     course_whole t at cs may w
-    ∙ ap (λ (o : Option Fields). follow_to (finished t d o) (suc (suc (suc at))) cs) (spelled_own s range)
+    ∙ ap (λ (o : Option Fields). follow_to (finished t d o) (suc (suc (suc at))) cs)
+    (spelled_own s range)
     ∙ ap (λ (b : Bool). follow_to (taken t s b) (suc (suc (suc at))) cs) (own_is_allowed s range)
 
 -- data characters within a packet
-data_course : (bytes xs : List ℕ) (at n : ℕ) (cs : List Char) → length bytes + length xs ≤ 276 → n ≡ at + length xs
-    → course (place (Within bytes) Nothing) at (data_chars xs ++ cs) ≡ course (place (Within (bytes ++ xs)) Nothing) n cs
+data_course : (bytes xs : List ℕ) (at n : ℕ) (cs : List Char) → length bytes + length xs ≤ 276
+    → n ≡ at + length xs
+    → course (place (Within bytes) Nothing) at (data_chars xs ++ cs)
+    ≡ course (place (Within (bytes ++ xs)) Nothing) n cs
 data_course bytes [] at n cs h e =
     let here : at ≡ n = omega arith in
     ap (λ (m : ℕ). course (place (Within bytes) Nothing) m cs) here
     ∙ ap (λ (all : List ℕ). course (place (Within all) Nothing) n cs) (sym (append-nil bytes))
 data_course bytes (x ∷ xs) at n cs h e =
-    course_step (place (Within bytes) Nothing) at (Data x) (data_chars xs ++ cs) (Byte x) (kind-data x)
-    ∙ ap (λ (b : Bool). follow_to (added bytes x b) at (data_chars xs ++ cs)) (below (length bytes) 276 (omega arith))
+    course_step (place (Within bytes) Nothing) at (Data x) (data_chars xs ++ cs) (Byte x)
+    (kind-data x)
+    ∙ ap (λ (b : Bool). follow_to (added bytes x b) at (data_chars xs ++ cs))
+    (below (length bytes) 276 (omega arith))
     ∙ data_course (bytes ++ x ∷ []) xs (suc at) n cs (longer bytes x xs h) (omega arith)
-    ∙ ap (λ (all : List ℕ). course (place (Within all) Nothing) n cs) (append_assoc bytes (x ∷ []) xs)
+    ∙ ap (λ (all : List ℕ). course (place (Within all) Nothing) n cs)
+    (append_assoc bytes (x ∷ []) xs)
   where
-    longer : (bytes : List ℕ) (x : ℕ) (xs : List ℕ) → length bytes + length (x ∷ xs) ≤ 276 → length (bytes ++ x ∷ []) + length xs ≤ 276
+    longer : (bytes : List ℕ) (x : ℕ) (xs : List ℕ) → length bytes + length (x ∷ xs) ≤ 276
+        → length (bytes ++ x ∷ []) + length xs ≤ 276
     longer bytes x xs h = grind (arith, length-append)
 
 -- the bytes that are sent for a packet carry it
-pub bytes_with_ack-carry : (packet : List ℕ) (ack : ℕ) → ack < 32 → Passes packet → Carries (bytes_with_ack ack packet) ack packet
+pub bytes_with_ack-carry : (packet : List ℕ) (ack : ℕ) → ack < 32 → Passes packet
+    → Carries (bytes_with_ack ack packet) ack packet
 unfolding bytes_with_ack
 bytes_with_ack-carry [] ack h p = absurd (let least = p.least in omega arith)
 bytes_with_ack-carry (b ∷ bs) ack h p = Carries-with_ack (b ∷ bs) ack h p
 
-pub event-bytes_with_ack : (packet : List ℕ) (ack : ℕ) → ack < 32 → Passes packet → packet_event (bytes_with_ack ack packet) ≡ Pkt ack packet
+pub event-bytes_with_ack : (packet : List ℕ) (ack : ℕ) → ack < 32 → Passes packet
+    → packet_event (bytes_with_ack ack packet) ≡ Pkt ack packet
 unfolding packet_event
 event-bytes_with_ack packet ack h p =
     let bytes = bytes_with_ack ack packet in
-    ap (λ (o : Option (ℕ × List ℕ)). packet_or_cause o (if nat_lt (length bytes) 8 then General else BadPacket))
+    ap (λ (o : Option (ℕ × List ℕ)). packet_or_cause o
+    (if nat_lt (length bytes) 8 then General else BadPacket))
     (carried-from_Carries bytes ack packet (bytes_with_ack-carry packet ack h p))
 
-pub length-bytes_with_ack : (packet : List ℕ) (ack : ℕ) → length (bytes_with_ack ack packet) ≡ length packet
+pub length-bytes_with_ack : (packet : List ℕ) (ack : ℕ)
+    → length (bytes_with_ack ack packet) ≡ length packet
 unfolding bytes_with_ack
 length-bytes_with_ack packet ack = length-set packet 0 (8 * ack + get_or packet 0 0)
 
@@ -97,10 +114,16 @@ ends_as bytes last m k cs = (
 )
 
 -- A packet, where a symbol may begin.
-pub packet_course : (t : Text) (at n : ℕ) (first : Fields) (ack : ℕ) (packet : List ℕ) (last : Fields) (cs : List Char) → IsOpen t
-    → InRange first → first.s1 ≡ 0 → ack < 32 → Passes packet → InRange last → last.s1 ≡ 2 → n ≡ at + 7 + length packet
+pub packet_course : (t : Text) (at n : ℕ) (first : Fields) (ack : ℕ) (packet : List ℕ)
+    (last : Fields) (cs : List Char) → IsOpen t
+    → InRange first → first.s1 ≡ 0 → ack < 32 → Passes packet → InRange last → last.s1 ≡ 2
+    → n ≡ at + 7 + length packet
     → course (place t Nothing) at (packet_chars_of first ack packet last ++ cs)
-    ≡ (placed (suc (suc (suc at))) (told t first) ++ (n, Pkt ack packet) ∷ (n, Ctl last) ∷ run start (suc n) cs, place_after start cs)
+    ≡ (
+      placed (suc (suc (suc at))) (told t first) ++ (n, Pkt ack packet) ∷ (n, Ctl last)
+          ∷ run start (suc n) cs,
+      place_after start cs,
+    )
 unfolding packet_chars_of
 packet_course t at n first ack packet last cs may in_first starts few passes in_last ends e =
     let bytes = bytes_with_ack ack packet in
@@ -113,16 +136,24 @@ packet_course t at n first ack packet last cs may in_first starts few passes in_
     let there : n ≡ suc (suc (suc m)) = omega arith in
     ap (course (place t Nothing) at)
     (append_assoc (symbol_chars_of first) (data_chars bytes ++ symbol_chars_of last) cs
-    ∙ ap (λ (xs : List Char). symbol_chars_of first ++ xs) (append_assoc (data_chars bytes) (symbol_chars_of last) cs))
+    ∙ ap (λ (xs : List Char). symbol_chars_of first ++ xs)
+    (append_assoc (data_chars bytes) (symbol_chars_of last) cs))
     ∙ symbol_course t at first inner may in_first
-    ∙ ap (λ (k : ℕ). before (placed three (told t first)) (course (place (text_after t k) Nothing) (suc three) inner)) starts
+    ∙ ap (λ (k : ℕ). before (placed three (told t first))
+    (course (place (text_after t k) Nothing) (suc three) inner)) starts
     ∙ ap (before (placed three (told t first)))
     (data_course [] bytes (suc three) m rest (omega arith) (omega arith)
     ∙ symbol_course (Within bytes) m last cs tt in_last
     ∙ ap (λ (k : ℕ). ends_as bytes last m k cs) ends
-    ∙ ap (λ (ev : Event). (placed (suc (suc (suc m))) (ev ∷ Ctl last ∷ []) ++ run start (suc (suc (suc (suc m)))) cs, place_after start cs))
+    ∙ ap (λ (ev : Event). (
+      placed (suc (suc (suc m))) (ev ∷ Ctl last ∷ [])
+          ++ run start (suc (suc (suc (suc m)))) cs,
+      place_after start cs,
+    ))
     (event-bytes_with_ack packet ack few passes)
-    ∙ ap (λ (k : ℕ). ((k, Pkt ack packet) ∷ (k, Ctl last) ∷ run start (suc k) cs, place_after start cs)) (sym there))
+    ∙ ap
+    (λ (k : ℕ). ((k, Pkt ack packet) ∷ (k, Ctl last) ∷ run start (suc k) cs, place_after start cs))
+    (sym there))
 
 pub run-symbol : (t : Text) (at : ℕ) (s : Fields) → IsOpen t → InRange s
     → run (place t Nothing) at (symbol_chars_of s) ≡ placed (at + 3) (told t s)
@@ -141,25 +172,30 @@ place_after-symbol t s may range =
     ap (place_after (place t Nothing)) (sym (append-nil (symbol_chars_of s)))
     ∙ ap (λ (r : List (ℕ × Event) × Place). r.1) (symbol_course t 0 s [] may range)
 
-pub run-packet : (t : Text) (at n : ℕ) (first : Fields) (ack : ℕ) (packet : List ℕ) (last : Fields) → IsOpen t
-    → InRange first → first.s1 ≡ 0 → ack < 32 → Passes packet → InRange last → last.s1 ≡ 2 → n ≡ at + 7 + length packet
+pub run-packet : (t : Text) (at n : ℕ) (first : Fields) (ack : ℕ) (packet : List ℕ) (last : Fields)
+    → IsOpen t
+    → InRange first → first.s1 ≡ 0 → ack < 32 → Passes packet → InRange last → last.s1 ≡ 2
+    → n ≡ at + 7 + length packet
     → run (place t Nothing) at (packet_chars_of first ack packet last)
     ≡ placed (at + 3) (told t first) ++ (n, Pkt ack packet) ∷ (n, Ctl last) ∷ []
 unfolding run
 run-packet t at n first ack packet last may in_first starts few passes in_last ends e =
     let there : suc (suc (suc at)) ≡ at + 3 = omega arith in
     ap (run (place t Nothing) at) (sym (append-nil (packet_chars_of first ack packet last)))
-    ∙ ap (λ (r : List (ℕ × Event) × Place). r.0) (packet_course t at n first ack packet last [] may in_first starts few passes in_last ends e)
+    ∙ ap (λ (r : List (ℕ × Event) × Place). r.0)
+    (packet_course t at n first ack packet last [] may in_first starts few passes in_last ends e)
     ∙ ap (λ (k : ℕ). placed k (told t first) ++ (n, Pkt ack packet) ∷ (n, Ctl last) ∷ []) there
 
-pub place_after-packet : (t : Text) (first : Fields) (ack : ℕ) (packet : List ℕ) (last : Fields) → IsOpen t
+pub place_after-packet : (t : Text) (first : Fields) (ack : ℕ) (packet : List ℕ) (last : Fields)
+    → IsOpen t
     → InRange first → first.s1 ≡ 0 → ack < 32 → Passes packet → InRange last → last.s1 ≡ 2
     → place_after (place t Nothing) (packet_chars_of first ack packet last) ≡ start
 unfolding place_after
 place_after-packet t first ack packet last may in_first starts few passes in_last ends =
     ap (place_after (place t Nothing)) (sym (append-nil (packet_chars_of first ack packet last)))
     ∙ ap (λ (r : List (ℕ × Event) × Place). r.1)
-    (packet_course t 0 (0 + 7 + length packet) first ack packet last [] may in_first starts few passes in_last ends refl)
+    (packet_course t 0 (0 + 7 + length packet) first ack packet last [] may in_first starts few
+    passes in_last ends refl)
 
 -- ---- from any place
 
@@ -184,22 +220,29 @@ begins_open t (Two d x y) = tt
 
 -- a delimiter breaks off a symbol in progress, and begins one
 delimiter-step : (t : Text) (p : Pending) (d : Delimiter)
-    → step (place t p) (delimiter_char d) ≡ record { place = place (begins_in t p) (Opened d); gives = broken_off p }
+    → step (place t p) (delimiter_char d) ≡ record {
+      place = place (begins_in t p) (Opened d);
+      gives = broken_off p;
+    }
 delimiter-step t Nothing d = ap (step_by t Nothing) (kind-delimiter d)
 delimiter-step t (Opened e) d = ap (step_by t (Opened e)) (kind-delimiter d)
 delimiter-step t (One e x) d = ap (step_by t (One e x)) (kind-delimiter d)
 delimiter-step t (Two e x y) d = ap (step_by t (Two e x y)) (kind-delimiter d)
 
 run-delimited : (t : Text) (p : Pending) (at : ℕ) (d : Delimiter) (cs : List Char)
-    → run (place t p) at (delimiter_char d ∷ cs) ≡ placed at (broken_off p) ++ run (place (begins_in t p) Nothing) at (delimiter_char d ∷ cs)
+    → run (place t p) at (delimiter_char d ∷ cs)
+    ≡ placed at (broken_off p) ++ run (place (begins_in t p) Nothing) at (delimiter_char d ∷ cs)
 unfolding run
 run-delimited t p at d cs =
     ap (λ (s : Step). placed at s.gives ++ run s.place (suc at) cs) (delimiter-step t p d)
-    ∙ ap (λ (u : Text). placed at (broken_off p) ++ run (place u (Opened d)) (suc at) cs) (sym (begins_opened t p))
-    ∙ ap (λ (s : Step). placed at (broken_off p) ++ (placed at s.gives ++ run s.place (suc at) cs)) (sym (delimiter-step (begins_in t p) Nothing d))
+    ∙ ap (λ (u : Text). placed at (broken_off p) ++ run (place u (Opened d)) (suc at) cs)
+    (sym (begins_opened t p))
+    ∙ ap (λ (s : Step). placed at (broken_off p) ++ (placed at s.gives ++ run s.place (suc at) cs))
+    (sym (delimiter-step (begins_in t p) Nothing d))
 
 place_after-delimited : (t : Text) (p : Pending) (d : Delimiter) (cs : List Char)
-    → place_after (place t p) (delimiter_char d ∷ cs) ≡ place_after (place (begins_in t p) Nothing) (delimiter_char d ∷ cs)
+    → place_after (place t p) (delimiter_char d ∷ cs)
+    ≡ place_after (place (begins_in t p) Nothing) (delimiter_char d ∷ cs)
 unfolding place_after
 place_after-delimited t p d cs =
     ap (λ (s : Step). place_after s.place cs) (delimiter-step t p d)
@@ -207,11 +250,13 @@ place_after-delimited t p d cs =
     ∙ ap (λ (s : Step). place_after s.place cs) (sym (delimiter-step (begins_in t p) Nothing d))
 
 pub run-symbol_anywhere : (t : Text) (p : Pending) (at : ℕ) (s : Fields) → InRange s
-    → run (place t p) at (symbol_chars_of s) ≡ placed at (broken_off p) ++ placed (at + 3) (told (begins_in t p) s)
+    → run (place t p) at (symbol_chars_of s)
+    ≡ placed at (broken_off p) ++ placed (at + 3) (told (begins_in t p) s)
 unfolding symbol_chars_of
 run-symbol_anywhere t p at s range =
     run-delimited t p at (delimiter_of s) (data_chars (symbol_bytes s))
-    ∙ ap (λ (es : List (ℕ × Event)). placed at (broken_off p) ++ es) (run-symbol (begins_in t p) at s (begins_open t p) range)
+    ∙ ap (λ (es : List (ℕ × Event)). placed at (broken_off p) ++ es)
+    (run-symbol (begins_in t p) at s (begins_open t p) range)
 
 pub place_after-symbol_anywhere : (t : Text) (p : Pending) (s : Fields) → InRange s
     → place_after (place t p) (symbol_chars_of s) ≡ place (text_after (begins_in t p) s.s1) Nothing
@@ -220,22 +265,30 @@ place_after-symbol_anywhere t p s range =
     place_after-delimited t p (delimiter_of s) (data_chars (symbol_bytes s))
     ∙ place_after-symbol (begins_in t p) s (begins_open t p) range
 
-pub run-packet_anywhere : (t : Text) (p : Pending) (at n : ℕ) (first : Fields) (ack : ℕ) (packet : List ℕ) (last : Fields)
-    → InRange first → first.s1 ≡ 0 → ack < 32 → Passes packet → InRange last → last.s1 ≡ 2 → n ≡ at + 7 + length packet
+pub run-packet_anywhere : (t : Text) (p : Pending) (at n : ℕ) (first : Fields) (ack : ℕ)
+    (packet : List ℕ) (last : Fields)
+    → InRange first → first.s1 ≡ 0 → ack < 32 → Passes packet → InRange last → last.s1 ≡ 2
+    → n ≡ at + 7 + length packet
     → run (place t p) at (packet_chars_of first ack packet last)
-    ≡ placed at (broken_off p) ++ (placed (at + 3) (told (begins_in t p) first) ++ (n, Pkt ack packet) ∷ (n, Ctl last) ∷ [])
+    ≡ placed at (broken_off p)
+    ++ (placed (at + 3) (told (begins_in t p) first) ++ (n, Pkt ack packet) ∷ (n, Ctl last) ∷ [])
 unfolding packet_chars_of symbol_chars_of
 run-packet_anywhere t p at n first ack packet last in_first starts few passes in_last ends e =
     run-delimited t p at (delimiter_of first)
-    (data_chars (symbol_bytes first) ++ (data_chars (bytes_with_ack ack packet) ++ symbol_chars_of last))
+    (data_chars (symbol_bytes first)
+    ++ (data_chars (bytes_with_ack ack packet) ++ symbol_chars_of last))
     ∙ ap (λ (es : List (ℕ × Event)). placed at (broken_off p) ++ es)
-    (run-packet (begins_in t p) at n first ack packet last (begins_open t p) in_first starts few passes in_last ends e)
+    (run-packet (begins_in t p) at n first ack packet last (begins_open t p) in_first starts few
+    passes in_last ends e)
 
-pub place_after-packet_anywhere : (t : Text) (p : Pending) (first : Fields) (ack : ℕ) (packet : List ℕ) (last : Fields)
+pub place_after-packet_anywhere : (t : Text) (p : Pending) (first : Fields) (ack : ℕ)
+    (packet : List ℕ) (last : Fields)
     → InRange first → first.s1 ≡ 0 → ack < 32 → Passes packet → InRange last → last.s1 ≡ 2
     → place_after (place t p) (packet_chars_of first ack packet last) ≡ start
 unfolding packet_chars_of symbol_chars_of
 place_after-packet_anywhere t p first ack packet last in_first starts few passes in_last ends =
     place_after-delimited t p (delimiter_of first)
-    (data_chars (symbol_bytes first) ++ (data_chars (bytes_with_ack ack packet) ++ symbol_chars_of last))
-    ∙ place_after-packet (begins_in t p) first ack packet last (begins_open t p) in_first starts few passes in_last ends
+    (data_chars (symbol_bytes first)
+    ++ (data_chars (bytes_with_ack ack packet) ++ symbol_chars_of last))
+    ∙ place_after-packet (begins_in t p) first ack packet last (begins_open t p) in_first starts few
+    passes in_last ends

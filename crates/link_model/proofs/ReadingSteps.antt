@@ -24,7 +24,8 @@ follow_to s at cs = (placed at s.gives ++ run s.place (suc at) cs, place_after s
 pub course_step : (from : Place) (at : ℕ) (c : Char) (cs : List Char) (k : Kind) → kind c ≡ k
     → course from at (c ∷ cs) ≡ follow_to (step_by from.text from.pending k) at cs
 unfolding run place_after
-course_step from at c cs k e = ap (λ (j : Kind). follow_to (step_by from.text from.pending j) at cs) e
+course_step from at c cs k e =
+    ap (λ (j : Kind). follow_to (step_by from.text from.pending j) at cs) e
 
 opened_is : (t : Text) → IsOpen t → opened t ≡ t
 opened_is Plain may = refl
@@ -32,15 +33,18 @@ opened_is Skipped may = absurd may
 opened_is (Within bytes) may = refl
 
 -- a delimiter where a symbol may begin
-pub course_begins : (t : Text) (at : ℕ) (c : Char) (cs : List Char) (d : Delimiter) → IsOpen t → kind c ≡ Opens d
+pub course_begins : (t : Text) (at : ℕ) (c : Char) (cs : List Char) (d : Delimiter) → IsOpen t
+    → kind c ≡ Opens d
     → course (place t Nothing) at (c ∷ cs) ≡ course (place t (Opened d)) (suc at) cs
 course_begins t at c cs d may h =
     course_step (place t Nothing) at c cs (Opens d) h
     ∙ ap (λ (u : Text). course (place u (Opened d)) (suc at) cs) (opened_is t may)
 
 -- a whole symbol where one may begin
-pub course_whole : (t : Text) (at : ℕ) (cs : List Char) {d : Delimiter} {c x y z : Char} {i j k : ℕ} → IsOpen t → IsWhole d c x y z i j k
-    → course (place t Nothing) at (c ∷ x ∷ y ∷ z ∷ cs) ≡ follow_to (finished t d (spelled i j k)) (suc (suc (suc at))) cs
+pub course_whole : (t : Text) (at : ℕ) (cs : List Char) {d : Delimiter} {c x y z : Char} {i j k : ℕ}
+    → IsOpen t → IsWhole d c x y z i j k
+    → course (place t Nothing) at (c ∷ x ∷ y ∷ z ∷ cs)
+    ≡ follow_to (finished t d (spelled i j k)) (suc (suc (suc at))) cs
 course_whole t at cs {d} {c} {x} {y} {z} {i} {j} {k} may w =
     course_begins t at c (x ∷ y ∷ z ∷ cs) d may w.opens
     ∙ course_step (place t (Opened d)) (suc at) x (y ∷ z ∷ cs) (Byte i) w.first
@@ -66,12 +70,15 @@ pub stepped : (from : Place) (at : ℕ) (c : Char) (cs : List Char) (k : Kind) �
     → reading from at (c ∷ cs) ≡ follow (step_by from.text from.pending k) at cs
 stepped from at c cs k e = ap resting (course_step from at c cs k e)
 
-pub begins : (t : Text) (at : ℕ) (c : Char) (cs : List Char) (d : Delimiter) → IsOpen t → kind c ≡ Opens d
+pub begins : (t : Text) (at : ℕ) (c : Char) (cs : List Char) (d : Delimiter) → IsOpen t
+    → kind c ≡ Opens d
     → reading (place t Nothing) at (c ∷ cs) ≡ reading (place t (Opened d)) (suc at) cs
 begins t at c cs d may h = ap resting (course_begins t at c cs d may h)
 
-pub whole : (t : Text) (at : ℕ) (cs : List Char) {d : Delimiter} {c x y z : Char} {i j k : ℕ} → IsOpen t → IsWhole d c x y z i j k
-    → reading (place t Nothing) at (c ∷ x ∷ y ∷ z ∷ cs) ≡ follow (finished t d (spelled i j k)) (suc (suc (suc at))) cs
+pub whole : (t : Text) (at : ℕ) (cs : List Char) {d : Delimiter} {c x y z : Char} {i j k : ℕ}
+    → IsOpen t → IsWhole d c x y z i j k
+    → reading (place t Nothing) at (c ∷ x ∷ y ∷ z ∷ cs)
+    ≡ follow (finished t d (spelled i j k)) (suc (suc (suc at))) cs
 whole t at cs may w = ap resting (course_whole t at cs may w)
 
 pub below : (a n : ℕ) → a < n → nat_lt a n ≡ true

@@ -14,8 +14,12 @@ pub window_is : window ≡ 31
 unfolding window
 window_is = refl
 
-pub startable-full : (w : Outstanding) (waiting : Option ℕ) → window ≤ length w.prios → startable w waiting ≡ None
-startable-full w waiting full = ap (λ (b : Bool). cond b waiting None) (le-ltb (length w.prios) window full)
+pub startable-full : (w : Outstanding) (waiting : Option ℕ) → window ≤ length w.prios
+    → startable w waiting ≡ None
+startable-full w waiting full =
+    ap (λ (b : Bool). cond b waiting None) (le-ltb (length w.prios) window full)
 
-pub startable-open : (w : Outstanding) (waiting : Option ℕ) → length w.prios < window → startable w waiting ≡ waiting
-startable-open w waiting few = ap (λ (b : Bool). cond b waiting None) (lt-ltb (length w.prios) window few)
+pub startable-open : (w : Outstanding) (waiting : Option ℕ) → length w.prios < window
+    → startable w waiting ≡ waiting
+startable-open w waiting few =
+    ap (λ (b : Bool). cond b waiting None) (lt-ltb (length w.prios) window few)

@@ -14,7 +14,8 @@ abbrev pub packet_or_cause : Option (ℕ × List ℕ) → Cause → Event
 packet_or_cause (Some found) cause = Pkt found.0 found.1
 packet_or_cause None cause = Bad cause
 
--- The event of the bytes between the symbols of a packet: the packet that they carry, or why they carry none.
+-- The event of the bytes between the symbols of a packet: the packet that they carry, or why they
+-- carry none.
 unfoldable pub packet_event : List ℕ → Event
 packet_event bytes =
     packet_or_cause (carried bytes) (if nat_lt (length bytes) 8 then General else BadPacket)

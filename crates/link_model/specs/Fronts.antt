@@ -13,7 +13,8 @@ pub record Front : Type 0 where
 abbrev pub no_front : Place → Front
 no_front from = record { count = 0; step = record { place = from; gives = [] } }
 
--- one character, by what it gives: where it gives nothing, a front of the characters behind it follows
+-- one character, by what it gives: where it gives nothing, a front of the characters behind it
+-- follows
 abbrev pub front_by : List Event → Step → Front → Front
 front_by [] first behind = record { count = suc behind.count; step = behind.step }
 front_by (e ∷ es) first behind = record { count = 1; step = first }

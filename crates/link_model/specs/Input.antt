@@ -1,5 +1,6 @@
--- The input half of a port: its states and its step table (RapidIO Interconnect Specification 1.3, Part 6, packet
--- retry and error recovery). The rows and columns are in the order of the table of docs/link.md.
+-- The input half of a port: its states and its step table (RapidIO Interconnect Specification 1.3,
+-- Part 6, packet retry and error recovery). The rows and columns are in the order of the table of
+-- docs/link.md.
 use Rattle.std.specs.Prelude.{ℕ, ◌+◌, ◌%◌, ◌==◌, ◌&&◌, Bool, true, false, if◌then◌else◌, Option, Some, None}
 use Rattle.rio_symbols.specs.declared.stype1.TheConstants.{RESTART_FROM_RETRY, LINK_REQUEST}
 use Rattle.rio_symbols.specs.declared.cmd.TheConstants.{INPUT_STATUS}
@@ -29,8 +30,8 @@ packet_arrival expected ack room =
     if ack == expected then (if room then ExpectedWithRoom else ExpectedWithoutRoom)
     else UnexpectedAck
 
--- a control symbol by its stype1 and cmd; a link-request with another cmd than input-status is ignored (this
--- project's profile)
+-- a control symbol by its stype1 and cmd; a link-request with another cmd than input-status is
+-- ignored (this project's profile)
 abbrev pub symbol_arrival : ℕ → ℕ → Arrival
 symbol_arrival s1 cmd =
     if s1 == RESTART_FROM_RETRY then RestartFromRetry

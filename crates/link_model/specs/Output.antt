@@ -1,5 +1,6 @@
--- The output half of a port: its states and its step tables (RapidIO Interconnect Specification 1.3, Part 6, packet
--- retry and error recovery). The rows and columns are in the order of the tables of docs/link.md.
+-- The output half of a port: its states and its step tables (RapidIO Interconnect Specification
+-- 1.3, Part 6, packet retry and error recovery). The rows and columns are in the order of the
+-- tables of docs/link.md.
 use Rattle.std.specs.Prelude.{ℕ, ◌==◌, Bool, true, false, nat_lt, nat_le, if◌then◌else◌, length, Option, Some, None}
 use Rattle.rio_symbols.specs.declared.stype0.TheConstants.{PACKET_ACCEPTED, PACKET_RETRY, PACKET_NOT_ACCEPTED, LINK_RESPONSE}
 use Rattle.link_model.specs.Outstanding.{Outstanding, next_ack, distance, is_oldest, without_oldest, with_next, from_ack}
@@ -50,7 +51,8 @@ accepted w ack = if is_oldest w ack then heard (Ok (without_oldest w)) 1 else er
 abbrev pub retried : Outstanding → ℕ → Heard
 retried w ack = if is_oldest w ack then heard (RetryStopped w) 0 else error w
 
--- all packets before the ackID are accepted, and it is the next to be sent, unless it is none of the outstanding ones
+-- all packets before the ackID are accepted, and it is the next to be sent, unless it is none of
+-- the outstanding ones
 abbrev pub responded : Bool → Outstanding → ℕ → Heard
 responded false w ack = ignored (ErrorStopped false w)
 responded true w ack =
@@ -96,7 +98,8 @@ pub record Turned : Type 0 where
 abbrev pub turned : Output → Sends → Turned
 turned state sends = record { state = state; sends = sends }
 
--- the priority of the packet that a turn starts, if one waits and fewer than the window are outstanding
+-- the priority of the packet that a turn starts, if one waits and fewer than the window are
+-- outstanding
 abbrev pub startable : Outstanding → Option ℕ → Option ℕ
 startable w waiting = if nat_lt (length w.prios) window then waiting else None
 
@@ -104,7 +107,8 @@ abbrev pub started : Outstanding → Option ℕ → Turned
 started w None = turned (Ok w) Nothing
 started w (Some prio) = turned (Ok (with_next w prio)) (Packet (next_ack w) prio)
 
--- what a turn does, where the packet that waits first has the priority: one clause for each entry of the table
+-- what a turn does, where the packet that waits first has the priority: one clause for each entry
+-- of the table
 abbrev pub turns : Output → Option ℕ → Turned
 turns (Ok w) waiting = started w (startable w waiting)
 turns (RetryStopped w) waiting = turned (Ok (from_ack w.oldest)) Restart

@@ -1,10 +1,10 @@
--- The outstanding packets of a sender: those sent and not yet acknowledged. ackIDs count modulo 32 (RapidIO
--- Interconnect Specification 1.3, Part 6, packet acknowledgment).
+-- The outstanding packets of a sender: those sent and not yet acknowledged. ackIDs count modulo 32
+-- (RapidIO Interconnect Specification 1.3, Part 6, packet acknowledgment).
 use Rattle.std.specs.Prelude.{ℕ, ◌+◌, ◌-◌, ◌%◌, ◌<◌, ◌≤◌, ◌==◌, ◌&&◌, Bool, nat_lt, List, [], ◌∷◌, ◌++◌, length, drop, All}
 use Rattle.link_model.specs.Window.{window}
 
--- the ackID of the oldest packet that is not acknowledged, and the priorities of the outstanding packets in the order
--- of their ackIDs
+-- the ackID of the oldest packet that is not acknowledged, and the priorities of the outstanding
+-- packets in the order of their ackIDs
 pub record Outstanding : Type 0 where
   pub oldest : ℕ
   pub prios : List ℕ

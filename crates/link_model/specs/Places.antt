@@ -18,7 +18,8 @@ use Rattle.link_model.specs.Events.{packet_event}
 use Rattle.link_model.specs.Reading.{Text, Plain, Skipped, Within, text_after, told, placed}
 use Rattle.link_model.specs.ReadingKinds.{kind}
 
--- where a reader stands: the text, and what has come of a symbol; a packet in progress is kept meanwhile
+-- where a reader stands: the text, and what has come of a symbol; a packet in progress is kept
+-- meanwhile
 pub record Place : Type 0 where
   pub text : Text
   pub pending : Pending
@@ -59,7 +60,8 @@ broken_off (Opened d) = Bad BadChar ∷ []
 broken_off (One d x) = Bad BadChar ∷ []
 broken_off (Two d x y) = Bad BadChar ∷ []
 
--- the text in which a symbol begins, where another may be in progress: a delimiter that breaks one off ends a packet
+-- the text in which a symbol begins, where another may be in progress: a delimiter that breaks one
+-- off ends a packet
 abbrev pub begins_in : Text → Pending → Text
 begins_in text Nothing = opened text
 begins_in text (Opened d) = Plain
@@ -111,7 +113,8 @@ step_by text (Two d x y) k = broken k
 abbrev pub step : Place → Char → Step
 step from c = step_by from.text from.pending (kind c)
 
--- the events of characters, of which the first stands at this place, each at the place of the character that completes it
+-- the events of characters, of which the first stands at this place, each at the place of the
+-- character that completes it
 unfoldable pub run : Place → ℕ → List Char → List (ℕ × Event)
 run from at [] = []
 run from at (c ∷ cs) = placed at (step from c).gives ++ run (step from c).place (suc at) cs
@@ -136,8 +139,8 @@ IsNoPacket (Ctl symbol) = Unit {0}
 IsNoPacket (Pkt ack packet) = ⊥
 IsNoPacket (Bad cause) = Unit {0}
 
--- At most two events come of one character. One by itself is no packet. The first of two is a packet's, and the second the
--- symbol that ended the packet: start-of-packet or end-of-packet.
+-- At most two events come of one character. One by itself is no packet. The first of two is a
+-- packet's, and the second the symbol that ended the packet: start-of-packet or end-of-packet.
 abbrev pub AreGiven : List Event → Type 0
 AreGiven [] = Unit {0}
 AreGiven (e ∷ []) = IsNoPacket e

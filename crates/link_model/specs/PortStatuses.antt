@@ -1,4 +1,5 @@
--- The numbers of the states of an input (RapidIO Interconnect Specification 1.3, Part 6, link-response).
+-- The numbers of the states of an input (RapidIO Interconnect Specification 1.3, Part 6,
+-- link-response).
 use Rattle.std.specs.Prelude.{ℕ}
 use Rattle.link_model.specs.declared.symbols.PortStatus.{PortStatus}
 use Rattle.link_model.specs.declared.symbols.PortStatus.TheVariants as Status

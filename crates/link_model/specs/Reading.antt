@@ -1,6 +1,6 @@
--- The reading of characters, as a grammar of whole texts (RapidIO Interconnect Specification 1.3, Part 6, packet
--- delimiting and idle sequence; the causes, and that data is skipped up to an idle or a delimiter after an error, are this
--- project's profile).
+-- The reading of characters, as a grammar of whole texts (RapidIO Interconnect Specification 1.3,
+-- Part 6, packet delimiting and idle sequence; the causes, and that data is skipped up to an idle
+-- or a delimiter after an error, are this project's profile).
 use Rattle.std.specs.Prelude.{◌≡◌, ℕ, suc, ◌+◌, ◌<◌, ◌≤◌, ◌==◌, nat_le, Bool, true, false, IsTrue, List, [], ◌∷◌, ◌++◌, length, map, if◌then◌else◌, ◌||◌}
 use Rattle.rio_chars.specs.declared.chars.Char.{Char}
 use Rattle.rio_symbols.specs.declared.characters.Delimiter.{Delimiter}
@@ -15,7 +15,8 @@ use Rattle.link_model.specs.declared.reading_kinds.Kind.TheVariants.{Byte, Opens
 use Rattle.link_model.specs.Events.{packet_event}
 use Rattle.link_model.specs.ReadingKinds.{kind}
 
--- A text between packets, a text of which data is skipped, or a text within a packet, after these bytes of it.
+-- A text between packets, a text of which data is skipped, or a text within a packet, after these
+-- bytes of it.
 pub data Text : Type 0 where
   Plain : Text
   Skipped : Text
@@ -27,8 +28,9 @@ IsOpen Plain = Unit {0}
 IsOpen Skipped = ⊥
 IsOpen (Within bytes) = Unit {0}
 
--- The text after a symbol, by its stype1: start-of-packet begins a packet; stomp, end-of-packet, restart-from-retry and
--- link-request end one; any other symbol may stand in a packet, which goes on.
+-- The text after a symbol, by its stype1: start-of-packet begins a packet; stomp, end-of-packet,
+-- restart-from-retry and link-request end one; any other symbol may stand in a packet, which goes
+-- on.
 abbrev pub text_after : Text → ℕ → Text
 text_after text s1 =
     if s1 == START_OF_PACKET then Within [] else (if nat_le s1 LINK_REQUEST then Plain else text)
@@ -66,8 +68,8 @@ pub data IsUnfinished : List Char → Type 0 where
   two_bytes : {c x y : Char} {d : Delimiter} {i j : ℕ} → kind c ≡ Opens d → kind x ≡ Byte i
       → kind y ≡ Byte j → IsUnfinished (c ∷ x ∷ y ∷ [])
 
--- Characters from a place on, in a text, say these events, each at the place of the character that completes it. The last
--- word says whether neither a symbol nor a packet is in progress at the end.
+-- Characters from a place on, in a text, say these events, each at the place of the character that
+-- completes it. The last word says whether neither a symbol nor a packet is in progress at the end.
 pub data Reads : Text → ℕ → List Char → List (ℕ × Event) → Bool → Type 0 where
   -- a text between packets
   plain_ends : {at : ℕ} → Reads Plain at [] [] true

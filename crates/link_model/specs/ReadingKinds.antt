@@ -1,4 +1,5 @@
--- What a character is to a receiver (RapidIO Interconnect Specification 1.3, Part 6, special characters).
+-- What a character is to a receiver (RapidIO Interconnect Specification 1.3, Part 6, special
+-- characters).
 use Rattle.std.specs.Prelude.{ℕ, ◌==◌, ◌||◌, if◌then◌else◌}
 use Rattle.rio_chars.specs.declared.chars.Char.{Char}
 use Rattle.rio_chars.specs.declared.chars.Char.TheVariants.{Data, Special, Invalid}

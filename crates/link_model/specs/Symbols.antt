@@ -1,5 +1,6 @@
--- The control symbols that a port sends (RapidIO Interconnect Specification 1.3, Part 6, control symbols). A symbol
--- that only needs stype1 has stype0 status, one that only needs stype0 has stype1 NOP and cmd 0.
+-- The control symbols that a port sends (RapidIO Interconnect Specification 1.3, Part 6, control
+-- symbols). A symbol that only needs stype1 has stype0 status, one that only needs stype0 has
+-- stype1 NOP and cmd 0.
 use Rattle.std.specs.Prelude.{ℕ}
 use Rattle.rio_symbols.specs.declared.stype0.TheConstants.{PACKET_ACCEPTED, PACKET_RETRY, PACKET_NOT_ACCEPTED, STATUS, LINK_RESPONSE}
 use Rattle.rio_symbols.specs.declared.stype1.TheConstants.{START_OF_PACKET, END_OF_PACKET, RESTART_FROM_RETRY, LINK_REQUEST, NOP}

@@ -1,4 +1,5 @@
--- How many packets may be outstanding (RapidIO Interconnect Specification 1.3, Part 6, packet acknowledgment).
+-- How many packets may be outstanding (RapidIO Interconnect Specification 1.3, Part 6, packet
+-- acknowledgment).
 use Rattle.std.specs.Prelude.{ℕ}
 
 -- the most packets that are outstanding at a time

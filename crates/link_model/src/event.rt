@@ -4,8 +4,9 @@ ghost use Rattle.std.specs.Prelude.{◌≡◌};
 use rio_packets::{Cause, Packet};
 use rio_symbols::Symbol;
 
-/// What a receiver reads in the characters of a link (RapidIO Interconnect Specification 1.3, Part 6, control symbols and
-/// packet delimiting; what is bad, and its cause, by this project's profile).
+/// What a receiver reads in the characters of a link (RapidIO Interconnect Specification 1.3, Part
+/// 6, control symbols and packet delimiting; what is bad, and its cause, by this project's
+/// profile).
 #[derive(Debug, Drop)]
 pub enum Event {
     /// A control symbol.

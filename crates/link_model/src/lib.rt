@@ -1,14 +1,15 @@
-//! Definitions of the link layer of RapidIO (RapidIO Interconnect Specification 1.3, Part 6): what the characters of a
-//! link say, how many packets may be outstanding, the control symbols that a port sends, and the step tables of the
-//! output and the input half of a port. The tables stand in `specs`, one clause for each entry; the code has what bodies
-//! need of them.
+//! Definitions of the link layer of RapidIO (RapidIO Interconnect Specification 1.3, Part 6): what
+//! the characters of a link say, how many packets may be outstanding, the control symbols that a
+//! port sends, and the step tables of the output and the input half of a port. The tables stand in
+//! `specs`, one clause for each entry; the code has what bodies need of them.
 //!
 //! Left out: the framer, the states as types, and stores of packets.
 //!
 //! - [`Event`] is what a list of characters says: control symbols, packets, and what is neither.
 //! - [`Kind`], [`char_kind`] and [`Pending`] are the words of the reading of characters.
-//! - [`one_reading`], [`reading_in_pieces`], [`one_character_tells_at_most_two`], [`packet_in_progress_is_bounded`],
-//!   [`events_go_by_fronts`], [`spelling_is_read`] and [`event_laws`] state what holds of every reading; the calls do nothing.
+//! - [`one_reading`], [`reading_in_pieces`], [`one_character_tells_at_most_two`],
+//!   [`packet_in_progress_is_bounded`], [`events_go_by_fronts`], [`spelling_is_read`] and
+//!   [`event_laws`] state what holds of every reading; the calls do nothing.
 //! - [`WINDOW`]: the most packets that are outstanding
 //! - [`packet_accepted`] and the like: the control symbols that a port sends
 //! - [`PortStatus`]: what a link-response tells of the input

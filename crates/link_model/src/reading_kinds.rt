@@ -5,7 +5,8 @@ ghost use Rattle.link_model.specs.ReadingKinds.{kind};
 use rio_chars::Char;
 use rio_symbols::Delimiter;
 
-/// What a character is to a receiver, by the special characters of RapidIO Interconnect Specification 1.3, Part 6.
+/// What a character is to a receiver, by the special characters of RapidIO Interconnect
+/// Specification 1.3, Part 6.
 #[derive(Clone, Copy, Debug, PartialEq, Eq)]
 pub enum Kind {
     /// A data character and its byte.

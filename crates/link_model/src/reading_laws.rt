@@ -14,8 +14,8 @@ ghost use Rattle.link_model.specs.Places.{Place, place, start, broken_off, begin
 ghost use Rattle.link_model.specs.Fronts.{telling_front};
 ghost use Rattle.link_model.specs.ReadingSpelt.{symbol_chars_of, bytes_with_ack, packet_chars_of};
 
-/// Every list of characters has exactly one reading, and it is what the steps of one character tell. The list is cut
-/// exactly where the steps leave a symbol or a packet in progress.
+/// Every list of characters has exactly one reading, and it is what the steps of one character
+/// tell. The list is cut exactly where the steps leave a symbol or a packet in progress.
 pub fn one_reading()
     ensures exists { (chars : List Char) → IsReading chars (run start 0 chars) }
     ensures one { (chars : List Char) (events : List (ℕ × Event)) → IsReading chars events
@@ -23,9 +23,10 @@ pub fn one_reading()
     ensures cut { (chars : List Char) → IsCut chars ↔ (at_rest (place_after start chars) ≡ false) }
 {}
 
-/// Characters may be read in pieces: the events of two pieces are those of the first and, from where it leaves the reader,
-/// those of the second. To count from a later place moves each event by as much, so that the second piece may be read from
-/// place 0 on and the length of the first be added. The reading of a front is the events whose places lie in it.
+/// Characters may be read in pieces: the events of two pieces are those of the first and, from
+/// where it leaves the reader, those of the second. To count from a later place moves each event by
+/// as much, so that the second piece may be read from place 0 on and the length of the first be
+/// added. The reading of a front is the events whose places lie in it.
 pub fn reading_in_pieces()
     ensures events { (from : Place) (at n : ℕ) (xs ys : List Char) → n ≡ at + length xs
         → run from at (xs ++ ys) ≡ run from at xs ++ run (place_after from xs) n ys }
@@ -37,8 +38,8 @@ pub fn reading_in_pieces()
         → IsReading xs (filter (λ event. nat_lt event.0 (length xs)) events) }
 {}
 
-/// One character tells at most two events. One by itself is no packet; the first of two is a packet's, and the second the
-/// symbol that ended it.
+/// One character tells at most two events. One by itself is no packet; the first of two is a
+/// packet's, and the second the symbol that ended it.
 pub fn one_character_tells_at_most_two()
     ensures { (from : Place) (c : Char) → AreGiven (step from c).gives }
 {}
@@ -50,8 +51,8 @@ pub fn packet_in_progress_is_bounded()
     ensures all { (chars : List Char) → IsBounded (place_after start chars).text }
 {}
 
-/// Where a symbol may begin, what is sent for a symbol is read as it, and what is sent for a packet as its start symbol, the
-/// packet with its ackID, and its end symbol.
+/// Where a symbol may begin, what is sent for a symbol is read as it, and what is sent for a packet
+/// as its start symbol, the packet with its ackID, and its end symbol.
 pub fn spelling_is_read()
     ensures symbol { (text : Text) (at : ℕ) (s : Fields) → IsOpen text → InRange s
         → run (place text Pending.Nothing) at (symbol_chars_of s) ≡ placed (at + 3) (told text s) }
@@ -73,9 +74,10 @@ pub fn spelling_is_read()
         → place_after (place text Pending.Nothing) (packet_chars_of first ack packet last) ≡ start }
 {}
 
-/// From any place, also where a symbol or a packet is in progress or data is skipped, what is sent for a symbol is read as
-/// it, and what is sent for a packet as its start symbol, the packet and its end symbol. What was in progress breaks off: a
-/// symbol with an event of its own, and a packet with that symbol, or else by what the new symbol does to it.
+/// From any place, also where a symbol or a packet is in progress or data is skipped, what is sent
+/// for a symbol is read as it, and what is sent for a packet as its start symbol, the packet and
+/// its end symbol. What was in progress breaks off: a symbol with an event of its own, and a packet
+/// with that symbol, or else by what the new symbol does to it.
 pub fn spelling_is_read_from_any_place()
     ensures symbol { (text : Text) (pending : Pending) (at : ℕ) (s : Fields) → InRange s
         → run (place text pending) at (symbol_chars_of s)
@@ -96,8 +98,9 @@ pub fn spelling_is_read_from_any_place()
         → place_after (place text pending) (packet_chars_of first ack packet last) ≡ start }
 {}
 
-/// Two events are the same exactly where the test of events says so; and the event of a packet's bytes is the packet that
-/// they carry, or else tells that they are too short or carry none: what `rio_packets::check` answers of them.
+/// Two events are the same exactly where the test of events says so; and the event of a packet's
+/// bytes is the packet that they carry, or else tells that they are too short or carry none: what
+/// `rio_packets::check` answers of them.
 pub fn event_laws()
     ensures same { (e x : Event) → same_event e x ≡ true → e ≡ x }
     ensures back { (e x : Event) → e ≡ x → same_event e x ≡ true }
@@ -113,8 +116,9 @@ pub fn event_laws()
         → packet_event bytes ≡ checked_event (checked bytes) }
 {}
 
-/// The front of characters up to and with the first that tells: it is as long as there are characters where none tells, and
-/// all events of the characters are its own, at its last character, and those of the characters behind it.
+/// The front of characters up to and with the first that tells: it is as long as there are
+/// characters where none tells, and all events of the characters are its own, at its last
+/// character, and those of the characters behind it.
 pub fn events_go_by_fronts()
     ensures count { (from : Place) (chars : List Char)
         → (telling_front from chars).count ≤ length chars }

@@ -1,4 +1,5 @@
-//! The control symbols that a port sends (RapidIO Interconnect Specification 1.3, Part 6, control symbols).
+//! The control symbols that a port sends (RapidIO Interconnect Specification 1.3, Part 6, control
+//! symbols).
 ghost use Rattle.std.specs.Prelude.{◌≡◌, ◌<◌};
 ghost use Rattle.rio_packets.specs.CauseNumbers.{number_of};
 ghost use Rattle.link_model.specs.Symbols as symbols;
@@ -7,7 +8,8 @@ ghost use Rattle.link_model.specs.PortStatuses.{status_of};
 use rio_packets::{Cause, cause_number};
 use rio_symbols::{Symbol, cmd, stype0, stype1};
 
-/// The buffer status of a port that does not tell its free buffers: receiver-controlled flow control.
+/// The buffer status of a port that does not tell its free buffers: receiver-controlled flow
+/// control.
 const UNTOLD: u8 = 31;
 
 /// What a link-response tells of the input half of a port.
@@ -45,7 +47,8 @@ pub fn packet_not_accepted(expected: u8, cause: Cause) -> Symbol
     answer(stype0::PACKET_NOT_ACCEPTED, expected, cause_number(cause))
 }
 
-/// The answer to a link-request: the ackID that is expected next, and the state of the input before it.
+/// The answer to a link-request: the ackID that is expected next, and the state of the input before
+/// it.
 pub fn link_response(expected: u8, status: PortStatus) -> Symbol
     requires { expected < 32 }
     ensures { result ≡ symbols.link_response expected (status_of status) }

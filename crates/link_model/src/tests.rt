@@ -7,8 +7,9 @@ use rio_packets::Cause;
 use rio_symbols::to_bytes;
 use std::test::*;
 
-/// The bytes were reckoned in Python, apart from this code, by the tables and the CRC of `docs/symbols.md`. That the CRC
-/// runs over a twentieth bit is this project's own choice, so these are no bytes of the standard.
+/// The bytes were reckoned in Python, apart from this code, by the tables and the CRC of
+/// `docs/symbols.md`. That the CRC runs over a twentieth bit is this project's own choice, so these
+/// are no bytes of the standard.
 #[test]
 fn symbols_have_the_bytes_reckoned_apart(rt: HostRuntime) {
     assert_eq!(rt; to_bytes(&start_of_packet(0)), [0x80, 0xf8, 0x1f]);

@@ -2,7 +2,8 @@
 ghost use Rattle.std.specs.Prelude.{◌≡◌};
 ghost use Rattle.link_model.specs.Window.{window};
 
-/// The most packets that are outstanding at a time. ackIDs count modulo 32, so that more could not be told apart.
+/// The most packets that are outstanding at a time. ackIDs count modulo 32, so that more could not
+/// be told apart.
 pub const WINDOW: u8 = 31;
 
 /// The constant is the window of the step tables.

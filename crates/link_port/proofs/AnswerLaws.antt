@@ -105,10 +105,10 @@ reply_answers p (Bad cause) below =
     received_answers (Arrival.Damaged (number_of cause)) p.input (small_cause cause) below
 
 -- the symbols with which a port answers tell themselves alone, and leave the text as it was
-answer_tells : (t : Text) (s : Fields) → IsAnswer s → told t s ≡ Ctl s ∷ []
+pub answer_tells : (t : Text) (s : Fields) → IsAnswer s → told t s ≡ Ctl s ∷ []
 answer_tells t s is = ap (λ (n : ℕ). (if ends_packet n then ended t else []) ++ Ctl s ∷ []) is.nop
 
-answer_stays : (t : Text) (s : Fields) → IsAnswer s → text_after t s.s1 ≡ t
+pub answer_stays : (t : Text) (s : Fields) → IsAnswer s → text_after t s.s1 ≡ t
 answer_stays t s is = ap (text_after t) is.nop
 
 is_answer : (reply : Option Fields) (s : Fields) → IsReply reply → reply ≡ Some s → IsAnswer s

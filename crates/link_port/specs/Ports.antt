@@ -8,7 +8,8 @@ use Rattle.link_model.specs.Output.{Output}
 use Rattle.link_model.specs.Input.{Input}
 use Rattle.link_port.specs.States.{prios_of, IsOutput, expected_of}
 
--- what contracts see of a port: the place of its framer, its two halves, the packets to be sent, and those that came in
+-- what contracts see of a port: the place of its framer, its two halves, the packets to be sent,
+-- and those that came in
 pub record PortState : Type 0 where
   pub place : Place
   pub output : Output
@@ -26,8 +27,8 @@ new_port buffers = record {
   received = record { lists = no_packets; buffers = buffers };
 }
 
--- What is true of every port: its outstanding packets, at most the window, are among the packets to be sent, its packets
--- are no more than its buffers, and its framer holds at most 276 bytes.
+-- What is true of every port: its outstanding packets, at most the window, are among the packets to
+-- be sent, its packets are no more than its buffers, and its framer holds at most 276 bytes.
 pub record IsPort (port : PortState) : Type 0 where
   pub outstanding : IsOutput port.output
   pub covered : Covers (prios_of port.output) port.queued

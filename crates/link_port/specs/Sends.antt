@@ -21,7 +21,8 @@ abbrev pub starting : Option Started → Sends
 starting None = Sent.Nothing
 starting (Some started) = Sent.Packet started
 
--- a packet that starts is one of those that wait: the one behind the outstanding ones of its priority
+-- a packet that starts is one of those that wait: the one behind the outstanding ones of its
+-- priority
 pub record IsWaiting (started : Started) (prios : List ℕ) (queued : List (List (List ℕ))) : Type 0
   where
     pub ack : started.ack < 32

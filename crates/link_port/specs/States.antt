@@ -4,7 +4,8 @@ use Rattle.link_model.specs.Outstanding.{IsOutstanding}
 use Rattle.link_model.specs.Output as out
 use Rattle.link_model.specs.Input as in_half
 
--- the priorities of the outstanding packets, in the order of their ackIDs; a sender that has failed knows of none
+-- the priorities of the outstanding packets, in the order of their ackIDs; a sender that has failed
+-- knows of none
 abbrev pub prios_of : out.Output → List ℕ
 prios_of (out.Output.Ok w) = w.prios
 prios_of (out.Output.RetryStopped w) = w.prios

@@ -1,5 +1,5 @@
--- What a character does in a port: its events are led through the step tables, one after another (RapidIO Interconnect
--- Specification 1.3, Part 6, packet acknowledgment and error recovery).
+-- What a character does in a port: its events are led through the step tables, one after another
+-- (RapidIO Interconnect Specification 1.3, Part 6, packet acknowledgment and error recovery).
 use Rattle.std.specs.Prelude.{ℕ, ◌++◌, Bool, true, false, if◌then◌else◌, List, [], ◌∷◌, take, Option, Some, None}
 use Rattle.std.specs.Option.{option_or}
 use Rattle.rio_chars.specs.declared.chars.Char.{Char}
@@ -48,8 +48,8 @@ arrived port ack packet =
 abbrev pub damaged : PortState → Cause → Received
 damaged port cause = receives (Damaged (number_of cause)) port.input
 
--- the port after an event; the symbol to send; a copy of the packet that was put into the store; and the packets that
--- were acknowledged
+-- the port after an event; the symbol to send; a copy of the packet that was put into the store;
+-- and the packets that were acknowledged
 pub record Acted : Type 0 where
   pub port : PortState
   pub reply : Option Fields

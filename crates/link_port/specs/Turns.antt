@@ -26,7 +26,8 @@ no_burst = record { chars = []; sent = [] }
 abbrev pub symbol_burst : Fields → Burst
 symbol_burst symbol = record { chars = symbol_chars_of symbol; sent = Ctl symbol ∷ [] }
 
--- a start-of-packet symbol, a packet with its ackID, and an end-of-packet symbol, from a port that expects an ackID
+-- a start-of-packet symbol, a packet with its ackID, and an end-of-packet symbol, from a port that
+-- expects an ackID
 abbrev pub packet_burst : ℕ → ℕ → Option (List ℕ) → Burst
 packet_burst expected ack None = no_burst
 packet_burst expected ack (Some packet) = record {
@@ -58,8 +59,8 @@ turns_to port = record port { output = (turn_of port).state }
 abbrev pub turn_sends : PortState → Burst
 turn_sends port = burst_of (turn_of port).sends (expected_of port.input) (waiting_in port)
 
--- Read by themselves from the start, the characters of a burst say the events that it sends, and nothing is in progress
--- after them.
+-- Read by themselves from the start, the characters of a burst say the events that it sends, and
+-- nothing is in progress after them.
 pub record IsRead (burst : Burst) : Type 0 where
   pub says : said start burst.chars ≡ burst.sent
   pub rests : place_after start burst.chars ≡ start

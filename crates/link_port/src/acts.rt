@@ -39,8 +39,9 @@ impl Done {
 }
 
 impl Port {
-    /// Leads an event through the step tables: a symbol through the output half first and then the input half, a packet
-    /// and what is neither through the input half alone. Packets that a symbol acknowledges are put into `freed`.
+    /// Leads an event through the step tables: a symbol through the output half first and then the
+    /// input half, a packet and what is neither through the input half alone. Packets that a symbol
+    /// acknowledges are put into `freed`.
     pub fn act(&mut self, event: &Event, freed: &mut ArrayVec<Packet, 31>) -> Done
         requires empty { freed.old.items ≡ [] }
         ensures state { self.new ≡ (acts self.old event.now).port }

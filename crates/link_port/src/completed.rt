@@ -7,7 +7,8 @@ use rio_framer::{Framer, Told};
 use rio_packets::{Cause, Packet};
 use rio_symbols::Symbol;
 
-/// What a run of characters completed, in a few bytes. A packet is not in it: it stands in the slot that the caller gave.
+/// What a run of characters completed, in a few bytes. A packet is not in it: it stands in the slot
+/// that the caller gave.
 #[derive(Clone, Copy, Debug, PartialEq, Eq)]
 pub enum Completed {
     /// No event.

@@ -6,8 +6,9 @@ ghost use Rattle.link_port.specs.Faces.{AreLists};
 
 use rio_packets::Packet;
 
-/// A port as the layer above it sees it: eight lists of packets, of which four were received and four are to be sent,
-/// one for each priority. A packet stays in its list to be sent until the far port has accepted it.
+/// A port as the layer above it sees it: eight lists of packets, of which four were received and
+/// four are to be sent, one for each priority. A packet stays in its list to be sent until the far
+/// port has accepted it.
 pub trait PortFace {
     /// The packets that were received and are not taken yet, by priority.
     ghost received: { Self → List (List (List ℕ)) };
@@ -24,7 +25,8 @@ pub trait PortFace {
         ensures value { option_copied result ≡ slice_get (list_at (received self.now) prio) 0 }
         ensures lists { AreLists (received self.now) };
 
-    /// Takes the first received packet of a priority, and frees its buffer. `None` exactly where there is none.
+    /// Takes the first received packet of a priority, and frees its buffer. `None` exactly where
+    /// there is none.
     fn in_pop(&mut self, prio: u8) -> Option<Packet>
         requires { prio < 4 }
         ensures value { result ≡ slice_get (list_at (received self.old) prio) 0 }
@@ -32,7 +34,8 @@ pub trait PortFace {
         ensures queued { queued self.new ≡ queued self.old }
         ensures alike { alike self.old self.new };
 
-    /// Returns whether a packet of this priority may be put: fewer than 16 are to be sent (this project's profile).
+    /// Returns whether a packet of this priority may be put: fewer than 16 are to be sent (this
+    /// project's profile).
     fn out_room(&self, prio: u8) -> bool
         requires { prio < 4 }
         ensures exact { IsTrue result ↔ (length (list_at (queued self.now) prio) < 16) }

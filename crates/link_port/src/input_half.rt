@@ -25,7 +25,8 @@ pub(crate) enum Input {
     ErrorStopped(InErrorStopped),
 }
 
-/// What a packet does: the next state, the symbol to send, and whether the packet was put into the store.
+/// What a packet does: the next state, the symbol to send, and whether the packet was put into the
+/// store.
 #[derive(Drop)]
 pub(crate) struct Arrived {
     pub(crate) input: Input,
@@ -60,8 +61,8 @@ impl Input {
         }
     }
 
-    /// A symbol with this stype1 and cmd. A link-request with another cmd than input-status is ignored (this project's
-    /// profile).
+    /// A symbol with this stype1 and cmd. A link-request with another cmd than input-status is
+    /// ignored (this project's profile).
     pub(crate) fn obey(self, s1: u8, cmd: u8) -> (Input, Option<Symbol>)
         ensures { received (input_of result.0) result.1 false
             ≡ receives (symbol_arrival s1 cmd) (input_of self) }

@@ -14,8 +14,9 @@ ghost use Rattle.link_port.specs.Steps.{read, after_reading, acts, acts_symbol};
 ghost use Rattle.link_port.specs.Acts.{replies};
 ghost use Rattle.link_port.specs.Streams.{takes_each, acts_each};
 
-/// One character is answered by at most one symbol, also where it completes a packet and the symbol that ended it: this is
-/// start-of-packet or end-of-packet, by its stype1, and these have no answer.
+/// One character is answered by at most one symbol, also where it completes a packet and the symbol
+/// that ended it: this is start-of-packet or end-of-packet, by its stype1, and these have no
+/// answer.
 pub fn one_character_has_one_reply()
     ensures one { (port : PortState) (c : Char)
         → length (replies (after_reading port c) (read port c)) ≤ 1 }
@@ -23,9 +24,10 @@ pub fn one_character_has_one_reply()
         → (acts_symbol port symbol).reply ≡ None }
 {}
 
-/// Whatever event comes, a port answers it with a symbol whose fields have their widths and whose stype1 is NOP, or with
-/// none. So the four characters of an answer are read as exactly it, from any place, also within a packet, which goes on
-/// behind it. A symbol in progress breaks off, with an event of its own, and a packet with it.
+/// Whatever event comes, a port answers it with a symbol whose fields have their widths and whose
+/// stype1 is NOP, or with none. So the four characters of an answer are read as exactly it, from
+/// any place, also within a packet, which goes on behind it. A symbol in progress breaks off, with
+/// an event of its own, and a packet with it.
 pub fn answers_are_read_from_any_place()
     ensures answers { (port : PortState) (event : Event) → IsPort port
         → IsReply (acts port event).reply }
@@ -41,9 +43,9 @@ pub fn answers_are_read_from_any_place()
         ≡ place (begins_in text pending) Pending.Nothing }
 {}
 
-/// Characters that a port takes one after another do what their reading does: the events that all of them say, led through
-/// the tables one after another. The port after them, all answers, all packets that were put into the store, and all that
-/// were acknowledged are the same, in order.
+/// Characters that a port takes one after another do what their reading does: the events that all
+/// of them say, led through the tables one after another. The port after them, all answers, all
+/// packets that were put into the store, and all that were acknowledged are the same, in order.
 pub fn characters_do_what_they_say()
     ensures { (port : PortState) (chars : List Char) → takes_each port chars
         ≡ acts_each (record port { place = place_after port.place chars }) (said port.place chars) }

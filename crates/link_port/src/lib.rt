@@ -1,15 +1,17 @@
-//! The ends of RapidIO links (RapidIO Interconnect Specification 1.3, Part 6, packet acknowledgment, packet retry and
-//! error recovery): a port takes the characters that come, and says what is to be sent.
+//! The ends of RapidIO links (RapidIO Interconnect Specification 1.3, Part 6, packet
+//! acknowledgment, packet retry and error recovery): a port takes the characters that come, and
+//! says what is to be sent.
 //!
-//! Promised: each call is the step tables of `link_model` led over what the characters say, and what is sent is a
-//! function of the port's state. Whatever comes, the port is in one of its named states, holds no more packets than it
-//! has buffers, and has at most `WINDOW` packets outstanding. Only the two `new` take memory.
+//! Promised: each call is the step tables of `link_model` led over what the characters say, and
+//! what is sent is a function of the port's state. Whatever comes, the port is in one of its named
+//! states, holds no more packets than it has buffers, and has at most `WINDOW` packets outstanding.
+//! Only the two `new` take memory.
 //!
 //! Left out: what travels between two ports, and when a time-out comes.
 //!
-//! - [`Port`]: `take`, `turn` and `time_out`, and readers of its state, by [`OutKind`] and [`InKind`]; `take_run` for
-//!   runs of characters, or `read` and then `act` and the like, where something is to come between, told by
-//!   [`Completed`] and [`Done`]
+//! - [`Port`]: `take`, `turn` and `time_out`, and readers of its state, by [`OutKind`] and
+//!   [`InKind`]; `take_run` for runs of characters, or `read` and then `act` and the like, where
+//!   something is to come between, told by [`Completed`] and [`Done`]
 //! - [`Taken`] and [`Burst`]: what a character did, and what a turn sends
 //! - [`PortFace`]: the eight lists of packets that the layer above sees
 //! - [`PlainPort`] and [`pass`]: a port with no protocol, whose packets pass at once

@@ -48,7 +48,8 @@ impl Sends {
 }
 
 impl Output {
-    /// A symbol with this stype0 and this ackID. The packets that it acknowledges leave the store into `freed`.
+    /// A symbol with this stype0 and this ackID. The packets that it acknowledges leave the store
+    /// into `freed`.
     pub(crate) fn hear(
         self,
         s0: u8,

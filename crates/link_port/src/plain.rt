@@ -10,8 +10,8 @@ use rio_packets::Packet;
 use std::alloc::Global;
 use std::marker::Model;
 
-/// A port with no protocol, whose packets pass to the far port at once and whole. Contracts see its lists and the number
-/// of its buffers.
+/// A port with no protocol, whose packets pass to the far port at once and whole. Contracts see its
+/// lists and the number of its buffers.
 #[derive(Drop)]
 pub struct PlainPort {
     queued: OutStore,
@@ -78,8 +78,9 @@ impl PortFace for PlainPort {
     }
 }
 
-/// Passes the first packet of the highest priority that has one from a port to be sent to the received list of another,
-/// and returns a copy of it. `None` exactly where nothing waits, or where that packet has no room; then nothing changes.
+/// Passes the first packet of the highest priority that has one from a port to be sent to the
+/// received list of another, and returns a copy of it. `None` exactly where nothing waits, or where
+/// that packet has no room; then nothing changes.
 pub fn pass(from: &mut PlainPort, to: &mut PlainPort) -> Option<Packet>
     ensures value { result ≡ passing from.old to.old }
     ensures leaves { IfSome result (λ packet. from.new ≡ without from.old packet) }

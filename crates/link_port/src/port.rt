@@ -31,7 +31,8 @@ use std::alloc::Global;
 use std::marker::Model;
 use std::mem;
 
-/// The end of a link: a framer, the output and the input half, the packets to be sent, and those received.
+/// The end of a link: a framer, the output and the input half, the packets to be sent, and those
+/// received.
 #[derive(Drop)]
 pub struct Port {
     pub(crate) framer: Framer,
@@ -63,8 +64,8 @@ impl Model for Port {
 }
 
 impl Port {
-    /// Makes a port of 4 to 30 receive buffers, with no packet, which begins with ackID 0 both ways. `NoMemory` is the only
-    /// other answer; no other call of a port takes memory.
+    /// Makes a port of 4 to 30 receive buffers, with no packet, which begins with ackID 0 both
+    /// ways. `NoMemory` is the only other answer; no other call of a port takes memory.
     pub fn new(alloc: Global, buffers: u8) -> Result<Port, NoMemory>
         requires least { 4 ≤ buffers }
         requires most { buffers ≤ 30 }
@@ -82,9 +83,10 @@ impl Port {
         Ok(port)
     }
 
-    /// Takes a character that came, and leads what it completes through the step tables of `link_model`: a symbol through
-    /// the output half first and then the input half, a packet and what is neither through the input half alone. Packets
-    /// that a symbol acknowledges are put into `freed`.
+    /// Takes a character that came, and leads what it completes through the step tables of
+    /// `link_model`: a symbol through the output half first and then the input half, a packet and
+    /// what is neither through the input half alone. Packets that a symbol acknowledges are put
+    /// into `freed`.
     pub fn take(&mut self, c: Char, freed: &mut ArrayVec<Packet, 31>) -> Taken
         requires empty { freed.old.items ≡ [] }
         ensures state { self.new ≡ (takes self.old c).port }
@@ -102,8 +104,8 @@ impl Port {
         taken
     }
 
-    /// Takes characters, 1 to 4,096, up to and with the first that completes an event, or all where none does, and answers
-    /// their number and what they did: as [`Port::take`] of each in order.
+    /// Takes characters, 1 to 4,096, up to and with the first that completes an event, or all where
+    /// none does, and answers their number and what they did: as [`Port::take`] of each in order.
     pub fn take_run(&mut self, chars: &[Char], freed: &mut ArrayVec<Packet, 31>) -> (u16, Taken)
         requires least { 1 ≤ length chars.now }
         requires most { length chars.now ≤ 4096 }
@@ -126,9 +128,9 @@ impl Port {
         (count, taken)
     }
 
-    /// Reads characters up to and with the first that completes an event, or all where none does, and answers their number
-    /// and what they complete, of which nothing is done yet: [`Port::act`] and the like do it. A packet that was completed is
-    /// put into the slot.
+    /// Reads characters up to and with the first that completes an event, or all where none does,
+    /// and answers their number and what they complete, of which nothing is done yet: [`Port::act`]
+    /// and the like do it. A packet that was completed is put into the slot.
     pub fn read(&mut self, chars: &[Char], packet: &mut Packet) -> (usize, Completed)
         ensures count { result.0 ≡ (front_of self.old chars.now).count }
         ensures state { self.new ≡ after_front self.old chars.now }
@@ -144,9 +146,10 @@ impl Port {
         (count, completed)
     }
 
-    /// Sends at most one packet or one symbol: a packet where the sender may start one, restart-from-retry after a retry,
-    /// and a link-request after an error, once until a response or a time-out. Read by themselves the characters say what
-    /// is sent, and leave nothing in progress.
+    /// Sends at most one packet or one symbol: a packet where the sender may start one,
+    /// restart-from-retry after a retry, and a link-request after an error, once until a response
+    /// or a time-out. Read by themselves the characters say what is sent, and leave nothing in
+    /// progress.
     pub fn turn(&mut self) -> Burst
         ensures state { self.new ≡ turns_to self.old }
         ensures chars { result.chars.items ≡ (turn_sends self.old).chars }
@@ -164,8 +167,9 @@ impl Port {
         make_burst(sends, self.input.expected(), &self.queued)
     }
 
-    /// A time-out: a sender that may start packets has to ask which packet the far port expects, also where nothing is
-    /// outstanding, and one that has asked asks again. Any other state is unchanged.
+    /// A time-out: a sender that may start packets has to ask which packet the far port expects,
+    /// also where nothing is outstanding, and one that has asked asks again. Any other state is
+    /// unchanged.
     pub fn time_out(&mut self)
         ensures state { self.new ≡ timed_out self.old }
         ensures port { IsPort self.new }
@@ -232,9 +236,9 @@ impl Port {
         self.output.asked()
     }
 
-    /// What is true of every port, so after any characters: it is in one of its states, at most `WINDOW` packets are
-    /// outstanding, its framer holds at most 276 bytes, and it holds no more packets than it has buffers. The call does
-    /// nothing.
+    /// What is true of every port, so after any characters: it is in one of its states, at most
+    /// `WINDOW` packets are outstanding, its framer holds at most 276 bytes, and it holds no more
+    /// packets than it has buffers. The call does nothing.
     pub(crate) fn bounds(&self)
         ensures { IsPort self.now }
     {

@@ -1,6 +1,6 @@
-//! Two ports that talk: what is sent, what is answered, and what each has afterwards. The expected symbols are those of
-//! RapidIO Interconnect Specification 1.3, Part 6, packet acknowledgment, packet retry and error recovery, with the
-//! parameters that `docs/link.md` chooses.
+//! Two ports that talk: what is sent, what is answered, and what each has afterwards. The expected
+//! symbols are those of RapidIO Interconnect Specification 1.3, Part 6, packet acknowledgment,
+//! packet retry and error recovery, with the parameters that `docs/link.md` chooses.
 ghost use Rattle.std.specs.Prelude.{◌<◌};
 
 use crate::tests::{meet, put};
@@ -86,8 +86,8 @@ fn a_packet_is_accepted_and_let_go(rt: HostRuntime) {
     assert!(rt; pair.far.in_pop(0).is_none());
 }
 
-/// A wrong byte leaves a packet without a good CRC, which is cause 4. The far port discards what comes from then on; the near
-/// port asks it what it expects, and sends that again.
+/// A wrong byte leaves a packet without a good CRC, which is cause 4. The far port discards what
+/// comes from then on; the near port asks it what it expects, and sends that again.
 #[test]
 fn a_corrupted_packet_is_sent_again(rt: HostRuntime) {
     let Ok(mut pair) = Pair::new(rt.alloc()) else {
@@ -118,7 +118,8 @@ fn a_corrupted_packet_is_sent_again(rt: HostRuntime) {
     assert!(rt; pair.far.in_pop(0).is_some());
 }
 
-/// The far port has the packet and expects the next one, which its link-response tells: nothing is sent twice.
+/// The far port has the packet and expects the next one, which its link-response tells: nothing is
+/// sent twice.
 #[test]
 fn a_lost_acceptance_is_found_by_a_time_out(rt: HostRuntime) {
     let Ok(mut pair) = Pair::new(rt.alloc()) else {
@@ -141,7 +142,8 @@ fn a_lost_acceptance_is_found_by_a_time_out(rt: HostRuntime) {
     assert!(rt; pair.far.in_pop(0).is_none());
 }
 
-/// Of four buffers one may hold a packet of priority 0. A second packet is asked for again as long as the first stays.
+/// Of four buffers one may hold a packet of priority 0. A second packet is asked for again as long
+/// as the first stays.
 #[test]
 fn a_full_receiver_asks_for_a_retry(rt: HostRuntime) {
     let Ok(mut pair) = Pair::new(rt.alloc()) else {

@@ -8,7 +8,8 @@ use rio_symbols::Symbol;
 pub struct Taken {
     /// What the character completes: a symbol, a packet, or what is neither.
     pub first: Option<Event>,
-    /// Whether the first is a symbol, or a packet that met an input which takes packets with the expected ackID.
+    /// Whether the first is a symbol, or a packet that met an input which takes packets with the
+    /// expected ackID.
     pub first_acted: bool,
     /// The start-of-packet or end-of-packet symbol that ended the packet named by the first.
     pub second: Option<Symbol>,

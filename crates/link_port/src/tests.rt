@@ -1,6 +1,7 @@
-//! Ports in each of their states against what may come. The expected states, replies and symbols are those of this
-//! project's step tables (`docs/link.md`), which follow RapidIO Interconnect Specification 1.3, Part 6, packet
-//! acknowledgment, packet retry and error recovery, and have rules of this project's profile.
+//! Ports in each of their states against what may come. The expected states, replies and symbols
+//! are those of this project's step tables (`docs/link.md`), which follow RapidIO Interconnect
+//! Specification 1.3, Part 6, packet acknowledgment, packet retry and error recovery, and have
+//! rules of this project's profile.
 ghost use Rattle.std.specs.Prelude.{◌<◌};
 
 use crate::{Burst, InKind, OutKind, Port, PortFace};
@@ -59,7 +60,8 @@ pub(crate) fn put(port: &mut Port) {
     }
 }
 
-/// A state that an output half is brought into: `Asked` has sent its link-request, and `ErrorStopped` has not.
+/// A state that an output half is brought into: `Asked` has sent its link-request, and
+/// `ErrorStopped` has not.
 #[derive(Clone, Copy, Debug, PartialEq, Eq)]
 enum OutState {
     Ok,
@@ -91,7 +93,8 @@ fn stop_output(port: &mut Port, state: OutState) {
     }
 }
 
-/// Brings the input half of a new port into a state, in which one packet is held and ackID 1 is expected.
+/// Brings the input half of a new port into a state, in which one packet is held and ackID 1 is
+/// expected.
 fn stop_input(port: &mut Port, state: InKind) {
     meet_packet(port, 0);
     match state {
@@ -120,7 +123,8 @@ fn output(port: &Port) -> (OutKind, bool) {
     (port.out_kind(), port.asked())
 }
 
-/// The states of a port and its reply after a symbol, in a new port that was brought into two states.
+/// The states of a port and its reply after a symbol, in a new port that was brought into two
+/// states.
 fn after_symbol(
     rt: HostRuntime,
     states: (OutState, InKind),
@@ -138,8 +142,8 @@ fn after_symbol(
     Some((output(&port), port.in_kind(), parts(&reply)))
 }
 
-/// Each stype0 with each stype1, link-requests with cmd 3 and 4, in each state of the output half beside each of the input
-/// half.
+/// Each stype0 with each stype1, link-requests with cmd 3 and 4, in each state of the output half
+/// beside each of the input half.
 #[test]
 fn each_symbol_meets_each_state(rt: HostRuntime) {
     let good = (OutKind::Ok, false);
@@ -213,8 +217,8 @@ fn sent(burst: &Burst) -> (Option<(u8, u8)>, usize) {
     (first, burst.sent.len())
 }
 
-/// What a turn of each state of the output half sends where a packet waits, and the state after it; and the state after a
-/// time-out, and what is sent then.
+/// What a turn of each state of the output half sends where a packet waits, and the state after it;
+/// and the state after a time-out, and what is sent then.
 #[test]
 fn each_output_state_has_its_turn_and_its_time_out(rt: HostRuntime) {
     let good = (OutKind::Ok, false);
@@ -273,7 +277,8 @@ fn meet_data(port: &mut Port, bytes: &[u8]) -> Option<Symbol> {
     meet(port, symbol_chars(&end_of_packet(0)).as_slice())
 }
 
-/// A packet with the expected ackID, which is 1, and one with another, where priority 0 has room and where it has not.
+/// A packet with the expected ackID, which is 1, and one with another, where priority 0 has room
+/// and where it has not.
 #[test]
 fn packets_meet_each_input_state(rt: HostRuntime) {
     let good = InKind::Ok;

@@ -24,7 +24,8 @@ fn status(s1: u8, cmd: u8) -> Event
     })
 }
 
-/// start-of-packet and end-of-packet, restart-from-retry after a retry, and a link-request after a time-out.
+/// start-of-packet and end-of-packet, restart-from-retry after a retry, and a link-request after a
+/// time-out.
 #[test]
 fn own_symbols_tell_the_next_expected_ack(rt: HostRuntime) {
     let Ok(mut port) = Port::new(rt.alloc(), 4) else {

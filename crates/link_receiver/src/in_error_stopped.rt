@@ -9,7 +9,8 @@ use link_model::{PortStatus, link_response};
 use rio_symbols::Symbol;
 use std::marker::Model;
 
-/// A receiver that met an error and waits for a link-request. Contracts see the next expected ackID.
+/// A receiver that met an error and waits for a link-request. Contracts see the next expected
+/// ackID.
 #[derive(Debug, Drop)]
 pub struct InErrorStopped {
     pub(crate) expected: u8,

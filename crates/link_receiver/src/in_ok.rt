@@ -66,9 +66,9 @@ impl InOk {
         ack == self.expected
     }
 
-    /// A good packet with this ackID. With another ackID than the expected one it is an error of cause 1; where its
-    /// priority has no room it has to be sent again; else it is put into the store. In the first two cases the store
-    /// is unchanged.
+    /// A good packet with this ackID. With another ackID than the expected one it is an error of
+    /// cause 1; where its priority has no room it has to be sent again; else it is put into the
+    /// store. In the first two cases the store is unchanged.
     pub fn packet(self, ack: u8, packet: &Packet, store: &mut InStore) -> AfterPacket
         ensures entry { after_packet result
             ≡ receives (packet_arrival self ack (room_for store.old (prio_of packet.now)))

@@ -12,7 +12,8 @@ use rio_packets::Cause;
 use rio_symbols::Symbol;
 use std::marker::Model;
 
-/// A receiver that asked for a packet again and waits for restart-from-retry. Contracts see the next expected ackID.
+/// A receiver that asked for a packet again and waits for restart-from-retry. Contracts see the
+/// next expected ackID.
 #[derive(Debug, Drop)]
 pub struct InRetryStopped {
     pub(crate) expected: u8,

@@ -1,9 +1,10 @@
-//! The input half of a port as states by type (RapidIO Interconnect Specification 1.3, Part 6, packet retry and error
-//! recovery): each step consumes a state and gives the next one and the symbol to send, by the step table of `link_model`.
-//! Packets are taken only in `InOk`, since the other states have no such method: there they are dropped.
+//! The input half of a port as states by type (RapidIO Interconnect Specification 1.3, Part 6,
+//! packet retry and error recovery): each step consumes a state and gives the next one and the
+//! symbol to send, by the step table of `link_model`. Packets are taken only in `InOk`, since the
+//! other states have no such method: there they are dropped.
 //!
-//! Promised: each step is one entry of the table, puts the packet of the entry into the store, and changes nothing
-//! else. No call takes memory.
+//! Promised: each step is one entry of the table, puts the packet of the entry into the store, and
+//! changes nothing else. No call takes memory.
 //!
 //! Left out: the characters that come, and the output half.
 //!
@@ -22,11 +23,12 @@
 //!        link-request
 //! ```
 //!
-//! What is not drawn leads to no other state: in `InOk` a packet that is taken and a link-request, which are answered;
-//! elsewhere packets, which are dropped; in `InErrorStopped` what is bad, and restart-from-retry.
+//! What is not drawn leads to no other state: in `InOk` a packet that is taken and a link-request,
+//! which are answered; elsewhere packets, which are dropped; in `InErrorStopped` what is bad, and
+//! restart-from-retry.
 //!
-//! This project's profile: which packets have room, by `InStore::has_room`; packet-not-accepted carries the next expected
-//! ackID.
+//! This project's profile: which packets have room, by `InStore::has_room`; packet-not-accepted
+//! carries the next expected ackID.
 //!
 //! - `InOk`, `InRetryStopped`, `InErrorStopped`: the states
 //! - `AfterPacket`: the next state after a packet

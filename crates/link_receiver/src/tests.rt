@@ -28,7 +28,8 @@ fn an_input_that_is_ok_answers_each_event(rt: HostRuntime) -> Result<(), Fail> {
     let (_, high) = check(&HIGH).ok().ok_or("high")?;
     let mut store = InStore::new(rt.alloc(), 4)?;
 
-    // Of four buffers three are kept for the higher priorities, so that the second packet of priority 0 has no room.
+    // Of four buffers three are kept for the higher priorities, so that the second packet of
+    // priority 0 has no room.
     let port = InOk::new().packet(0, &low, &mut store);
     let port = accepted(port, [0x00, 0xff, 0x16], 1).ok_or("accepted 0")?;
     let port = retried(port.packet(1, &low, &mut store), [0x21, 0xff, 0x19], 1);
@@ -74,8 +75,8 @@ fn the_ack_after_31_is_0(rt: HostRuntime) -> Result<(), Fail> {
     Ok(())
 }
 
-/// The column of an input that waits for restart-from-retry. Packets are dropped and other symbols do nothing; neither
-/// has a call.
+/// The column of an input that waits for restart-from-retry. Packets are dropped and other symbols
+/// do nothing; neither has a call.
 #[test]
 fn an_input_that_asked_for_a_retry_answers_each_event(rt: HostRuntime) -> Result<(), Fail> {
     for (cause, bytes) in CAUSES {
@@ -89,8 +90,8 @@ fn an_input_that_asked_for_a_retry_answers_each_event(rt: HostRuntime) -> Result
     Ok(())
 }
 
-/// The column of an input that met an error, whatever the error was. Packets are dropped, what is bad and
-/// restart-from-retry are ignored, and other symbols do nothing; none of them has a call.
+/// The column of an input that met an error, whatever the error was. Packets are dropped, what is
+/// bad and restart-from-retry are ignored, and other symbols do nothing; none of them has a call.
 #[test]
 fn an_input_that_met_an_error_answers_a_request_alone(rt: HostRuntime) -> Result<(), Fail> {
     for (cause, _) in CAUSES {
@@ -135,7 +136,8 @@ fn accepted(after: AfterPacket, bytes: [u8; 3], expected: u8) -> Option<InOk> {
     }
 }
 
-/// The next state, if the packet has to be sent again, with this symbol, and this ackID is expected then.
+/// The next state, if the packet has to be sent again, with this symbol, and this ackID is expected
+/// then.
 fn retried(after: AfterPacket, bytes: [u8; 3], expected: u8) -> Option<InRetryStopped> {
     let AfterPacket::Retry(port, symbol) = after else {
         return None;

@@ -16,7 +16,8 @@ use Rattle.link_rest.proofs.Drains.{round, rounds, idle_stays, idle_round, first
 abbrev part_acts : Side → Reached → List Act
 part_acts from r = if of_end from first_has_chars r then all_chars from r else []
 
-where_acts : (b : Bool) (all things : List Act) → MatchBool b (all ≡ things) (all ≡ []) → all ≡ (if b then things else [])
+where_acts : (b : Bool) (all things : List Act) → MatchBool b (all ≡ things) (all ≡ [])
+    → all ≡ (if b then things else [])
 where_acts true all things is = is
 where_acts false all things is = is
 
@@ -25,13 +26,17 @@ deliveries : ℕ → Reached → List Act
 deliveries zero r = []
 deliveries (suc n) r = (part_acts A r ++ part_acts B (emptied A r)) ++ deliveries n (round r)
 
-round_acts : (r : Reached) (first : List Act) → NextOf goes (Empties A) (Empties B) r first → first ≡ part_acts A r ++ part_acts B (emptied A r)
+round_acts : (r : Reached) (first : List Act) → NextOf goes (Empties A) (Empties B) r first
+    → first ≡ part_acts A r ++ part_acts B (emptied A r)
 round_acts r first (front, behind, split, does, then_does) =
     split
-    ∙ (λ i. where_acts (of_end A first_has_chars r) front (all_chars A r) does i ++ where_acts (of_end B first_has_chars (goes r front)) behind (all_chars B (goes r front)) then_does i)
+    ∙ (λ i. where_acts (of_end A first_has_chars r) front (all_chars A r) does i
+    ++ where_acts (of_end B first_has_chars (goes r front)) behind (all_chars B (goes r front))
+    then_does i)
     ∙ ap (λ (next : Reached). part_acts A r ++ part_acts B next) (first_goes r front does)
 
-drain_acts : {r : Reached} {all : List Act} → Drains r all → (n : ℕ) × (all ≡ deliveries n r) × (is_busy (rounds n r) ≡ false)
+drain_acts : {r : Reached} {all : List Act} → Drains r all
+    → (n : ℕ) × (all ≡ deliveries n r) × (is_busy (rounds n r) ≡ false)
 unfolding deliveries rounds
 drain_acts {r} {all} (Rests idle none) = (0, none, idle)
 drain_acts {r} {all} (GoesOn first rest busy part split stays more) =
@@ -51,27 +56,40 @@ idle_none (suc n) r idle =
     let both = or_parts (of_end A first_has_chars r) (of_end B first_has_chars r) idle in
     let stays = idle_stays r idle in
     let none_a : part_acts A r ≡ [] = ap (λ (b : Bool). if b then all_chars A r else []) both.0 in
-    let none_b : part_acts B (emptied A r) ≡ [] = ap (part_acts B) stays.0 ∙ ap (λ (b : Bool). if b then all_chars B r else []) both.1 in
+    let none_b : part_acts B (emptied A r) ≡ [] =
+    ap (part_acts B) stays.0 ∙ ap (λ (b : Bool). if b then all_chars B r else []) both.1 in
     let here : round r ≡ r = idle_round r idle in
     (λ i. (none_a i ++ none_b i) ++ deliveries n (here i)) ∙ idle_none n r idle
 
-deliveries-sum : (m n : ℕ) (r : Reached) → deliveries (m + n) r ≡ deliveries m r ++ deliveries n (rounds m r)
+deliveries-sum : (m n : ℕ) (r : Reached)
+    → deliveries (m + n) r ≡ deliveries m r ++ deliveries n (rounds m r)
 unfolding deliveries rounds
 deliveries-sum zero n r = let same : 0 + n ≡ n = omega arith in ap (λ (k : ℕ). deliveries k r) same
 deliveries-sum (suc m) n r =
     let same : suc m + n ≡ suc (m + n) = omega arith in
     ap (λ (k : ℕ). deliveries k r) same
-    ∙ ap (λ (acts : List Act). (part_acts A r ++ part_acts B (emptied A r)) ++ acts) (deliveries-sum m n (round r))
-    ∙ sym (append_assoc (part_acts A r ++ part_acts B (emptied A r)) (deliveries m (round r)) (deliveries n (rounds m (round r))))
+    ∙ ap (λ (acts : List Act). (part_acts A r ++ part_acts B (emptied A r)) ++ acts)
+    (deliveries-sum m n (round r))
+    ∙ sym (append_assoc (part_acts A r ++ part_acts B (emptied A r)) (deliveries m (round r))
+    (deliveries n (rounds m (round r))))
 
-more_alike : (m n : ℕ) (r : Reached) → m ≤ n → is_busy (rounds m r) ≡ false → deliveries n r ≡ deliveries m r
+more_alike : (m n : ℕ) (r : Reached) → m ≤ n → is_busy (rounds m r) ≡ false
+    → deliveries n r ≡ deliveries m r
 more_alike m n r less idle =
     let count : m + (n - m) ≡ n = omega arith in
-    ap (λ (k : ℕ). deliveries k r) (sym count) ∙ deliveries-sum m (n - m) r ∙ ap (λ (acts : List Act). deliveries m r ++ acts) (idle_none (n - m) (rounds m r) idle) ∙ append-nil (deliveries m r)
+    ap (λ (k : ℕ). deliveries k r) (sym count)
+    ∙ deliveries-sum m (n - m) r
+    ∙ ap (λ (acts : List Act). deliveries m r ++ acts) (idle_none (n - m) (rounds m r) idle)
+    ∙ append-nil (deliveries m r)
 
-acts_same : (m n : ℕ) (r : Reached) → is_busy (rounds m r) ≡ false → is_busy (rounds n r) ≡ false → deliveries m r ≡ deliveries n r
+acts_same : (m n : ℕ) (r : Reached) → is_busy (rounds m r) ≡ false → is_busy (rounds n r) ≡ false
+    → deliveries m r ≡ deliveries n r
 acts_same m n r first second =
-    elim (cases_lt m n) [ inl less ↦ sym (more_alike m n r (omega arith) first) | inr more ↦ more_alike n m r more second ]
+    elim (cases_lt m n) [
+      | inl less ↦ sym (more_alike m n r (omega arith) first)
+      | inr more ↦
+          more_alike n m r more second
+    ]
 
 one_at_most : (from : Side) (r : Reached) → length (part_acts from r) ≤ 1
 one_at_most from r = by (of_end from first_has_chars r) r
@@ -101,31 +119,39 @@ three_acts s l =
     omega (arith, length-append {A = Act})
 
 -- A drain of a sound link is at most five deliveries, whatever stood on its wires.
-pub drain_is_short : (s : LinkState) (all : List Act) → IsSoundLink s → Drains (At s) all → length all ≤ 5
+pub drain_is_short : (s : LinkState) (all : List Act) → IsSoundLink s → Drains (At s) all
+    → length all ≤ 5
 drain_is_short s all l drains =
     let acts = drain_acts drains in
-    let same = acts_same acts.0 3 (At s) acts.2 (rested_is_idle (rounds 3 (At s)) (three_rounds s l)) in
+    let same =
+    acts_same acts.0 3 (At s) acts.2 (rested_is_idle (rounds 3 (At s)) (three_rounds s l)) in
     let counts = ap length (acts.1 ∙ same) in
     let few = three_acts s l in
     omega arith
 
 -- ---- there is a drain
 
-part_does : (b : Bool) (things : List Act) → MatchBool b ((if b then things else []) ≡ things) ((if b then things else []) ≡ [])
+part_does : (b : Bool) (things : List Act)
+    → MatchBool b ((if b then things else []) ≡ things) ((if b then things else []) ≡ [])
 part_does true things = refl
 part_does false things = refl
 
-drains_busy : (n : ℕ) (r : Reached) → ((next : Reached) → is_busy (rounds n next) ≡ false → (all : List Act) × Drains next all) → is_busy r ≡ true → is_busy (rounds n (round r)) ≡ false → (all : List Act) × Drains r all
+drains_busy : (n : ℕ) (r : Reached)
+    → ((next : Reached) → is_busy (rounds n next) ≡ false → (all : List Act) × Drains next all)
+    → is_busy r ≡ true → is_busy (rounds n (round r)) ≡ false → (all : List Act) × Drains r all
 drains_busy n r more busy idle =
     let front = part_acts A r in
     let first_does : Empties A r front = part_does (of_end A first_has_chars r) (all_chars A r) in
     let next = goes r front in
     let behind = part_acts B next in
-    let second_does : Empties B next behind = part_does (of_end B first_has_chars next) (all_chars B next) in
-    let part : NextOf goes (Empties A) (Empties B) r (front ++ behind) = (front, behind, refl, first_does, second_does) in
+    let second_does : Empties B next behind =
+    part_does (of_end B first_has_chars next) (all_chars B next) in
+    let part : NextOf goes (Empties A) (Empties B) r (front ++ behind) =
+    (front, behind, refl, first_does, second_does) in
     let one = round_goes r (front ++ behind) part in
     let later = more (round r) idle in
-    let rest : Drains (goes r (front ++ behind)) later.0 = subst (λ (x : Reached). Drains x later.0) (sym one) later.1 in
+    let rest : Drains (goes r (front ++ behind)) later.0 =
+    subst (λ (x : Reached). Drains x later.0) (sym one) later.1 in
     ((front ++ behind) ++ later.0, GoesOn (front ++ behind) later.0 busy part refl refl rest)
 
 drains_in : (n : ℕ) (r : Reached) → is_busy (rounds n r) ≡ false → (all : List Act) × Drains r all

@@ -1,5 +1,5 @@
 -- A drain is at most three rounds, and of its six deliveries the last has nothing to deliver.
-use Rattle.std.proofs.Common.{◌≡◌, inl, inr, ℕ, zero, suc, ◌+◌, ◌-◌, ◌<◌, ◌≤◌, ◌++◌, ◌||◌, Bool, true, false, not, MatchBool, List, [], ◌∷◌, refl, sym, ap, ◌∙◌, subst, if◌then◌else◌, arith}
+use Rattle.std.proofs.Common.{◌≡◌, ◌||◌, inl, inr, ℕ, zero, suc, ◌+◌, ◌-◌, ◌<◌, ◌≤◌, ◌++◌, Bool, true, false, not, MatchBool, List, [], ◌∷◌, refl, sym, ap, ◌∙◌, subst, if◌then◌else◌, arith}
 use Rattle.std.proofs.lemmas.Bool.{or_parts, cases_lt}
 use Rattle.rio_chars.specs.declared.chars.Char.{Char}
 use Rattle.rio_symbols.specs.Fields.{Fields}
@@ -9,10 +9,9 @@ use Rattle.link_model.specs.declared.reading_kinds.Pending.TheVariants.{Nothing}
 use Rattle.link_model.specs.Places.{place}
 use Rattle.link_port.specs.Ports.{PortState}
 use Rattle.link_port.specs.States.{expected_of}
-use Rattle.link_watch.specs.Sides.{other_side}
 use Rattle.link_watch.specs.declared.side.Side.{Side}
 use Rattle.link_watch.specs.declared.side.Side.TheVariants.{A, B}
-use Rattle.link_machine.specs.States.{LinkState, turned_round, from_end}
+use Rattle.link_machine.specs.States.{LinkState, turned_round}
 use Rattle.link_machine.specs.Calls.{has_none}
 use Rattle.link_machine.specs.Sound.{IsSoundLink}
 use Rattle.link_model.specs.Said.{said}
@@ -31,7 +30,8 @@ pub goes_none : (r : Reached) → goes r [] ≡ r
 unfolding goes
 goes_none r = refl
 
-pub goes_found : (side : Side) (e : Event) (acts : List Act) → goes (Found side e) acts ≡ Found side e
+pub goes_found : (side : Side) (e : Event) (acts : List Act)
+    → goes (Found side e) acts ≡ Found side e
 unfolding goes
 goes_found side e [] = refl
 goes_found side e (act ∷ acts) = refl
@@ -43,17 +43,21 @@ goes-append (x ∷ xs) ys (At s) = goes-append xs ys (after x s)
 goes-append (x ∷ xs) ys (Found side e) = sym (goes_found side e ys)
 
 -- a part where a test holds
-pub where_goes : (r : Reached) (b : Bool) (all things : List Act) → MatchBool b (all ≡ things) (all ≡ []) → goes r all ≡ (if b then goes r things else r)
+pub where_goes : (r : Reached) (b : Bool) (all things : List Act)
+    → MatchBool b (all ≡ things) (all ≡ []) → goes r all ≡ (if b then goes r things else r)
 where_goes r true all things is = ap (goes r) is
 where_goes r false all things is = ap (goes r) is ∙ goes_none r
 
 -- ---- what is true of the state that is reached
 
-pub on_state : {P Q : LinkState → Type 0} → (r : Reached) → ((s : LinkState) → P s → Q s) → OnState P r → OnState Q r
+pub on_state : {P Q : LinkState → Type 0} → (r : Reached) → ((s : LinkState) → P s → Q s)
+    → OnState P r → OnState Q r
 on_state (At s) so h = so s h
 on_state (Found side e) so h = tt
 
-pub then_emptied : {P : LinkState → Type 0} → (Q : LinkState → Type 0) (from : Side) (r : Reached) → ((s : LinkState) → P s → OnState Q (emptied from (At s))) → OnState P r → OnState Q (emptied from r)
+pub then_emptied : {P : LinkState → Type 0} → (Q : LinkState → Type 0) (from : Side) (r : Reached)
+    → ((s : LinkState) → P s → OnState Q (emptied from (At s))) → OnState P r
+    → OnState Q (emptied from r)
 then_emptied Q from (At s) so h = so s h
 then_emptied Q from (Found side e) so h = tt
 
@@ -69,13 +73,17 @@ rounds (suc n) r = rounds n (round r)
 pub rounds-sum : (m n : ℕ) (r : Reached) → rounds (m + n) r ≡ rounds n (rounds m r)
 unfolding rounds
 rounds-sum zero n r = let same : 0 + n ≡ n = omega arith in ap (λ (k : ℕ). rounds k r) same
-rounds-sum (suc m) n r = let same : suc m + n ≡ suc (m + n) = omega arith in ap (λ (k : ℕ). rounds k r) same ∙ rounds-sum m n (round r)
+rounds-sum (suc m) n r =
+    let same : suc m + n ≡ suc (m + n) = omega arith in ap (λ (k : ℕ). rounds k r) same
+    ∙ rounds-sum m n (round r)
 
 -- where both wires are empty, nothing is delivered
 pub idle_stays : (r : Reached) → is_busy r ≡ false → (emptied A r ≡ r) × (emptied B r ≡ r)
 idle_stays r idle =
-    let both = or_parts (of_end A first_has_chars r) (of_end B first_has_chars r) idle in
-    (ap (λ (b : Bool). if b then goes r (all_chars A r) else r) both.0, ap (λ (b : Bool). if b then goes r (all_chars B r) else r) both.1)
+    let both = or_parts (of_end A first_has_chars r) (of_end B first_has_chars r) idle in (
+      ap (λ (b : Bool). if b then goes r (all_chars A r) else r) both.0,
+      ap (λ (b : Bool). if b then goes r (all_chars B r) else r) both.1,
+    )
 
 pub idle_round : (r : Reached) → is_busy r ≡ false → round r ≡ r
 idle_round r idle = let stays = idle_stays r idle in ap (emptied B) stays.0 ∙ stays.1
@@ -86,34 +94,54 @@ idle_rounds zero r idle = refl
 idle_rounds (suc n) r idle = ap (rounds n) (idle_round r idle) ∙ idle_rounds n r idle
 
 -- rounds that come to their end, and as many or more, come to the same
-ends_alike : (m n : ℕ) (r : Reached) → m ≤ n → is_busy (rounds m r) ≡ false → rounds n r ≡ rounds m r
+ends_alike : (m n : ℕ) (r : Reached) → m ≤ n → is_busy (rounds m r) ≡ false
+    → rounds n r ≡ rounds m r
 ends_alike m n r less idle =
     let count : m + (n - m) ≡ n = omega arith in
-    ap (λ (k : ℕ). rounds k r) (sym count) ∙ rounds-sum m (n - m) r ∙ idle_rounds (n - m) (rounds m r) idle
+    ap (λ (k : ℕ). rounds k r) (sym count)
+    ∙ rounds-sum m (n - m) r
+    ∙ idle_rounds (n - m) (rounds m r) idle
 
-ends_same : (m n : ℕ) (r : Reached) → is_busy (rounds m r) ≡ false → is_busy (rounds n r) ≡ false → rounds m r ≡ rounds n r
+ends_same : (m n : ℕ) (r : Reached) → is_busy (rounds m r) ≡ false → is_busy (rounds n r) ≡ false
+    → rounds m r ≡ rounds n r
 ends_same m n r first second =
-    elim (cases_lt m n) [ inl less ↦ sym (ends_alike m n r (omega arith) first) | inr more ↦ ends_alike n m r more second ]
+    elim (cases_lt m n) [
+      | inl less ↦ sym (ends_alike m n r (omega arith) first)
+      | inr more ↦
+          ends_alike n m r more second
+    ]
 
 -- a part of a round, and a whole one
 pub first_goes : (r : Reached) (first : List Act) → Empties A r first → goes r first ≡ emptied A r
 first_goes r first does = where_goes r (of_end A first_has_chars r) first (all_chars A r) does
 
-pub round_goes : (r : Reached) (first : List Act) → NextOf goes (Empties A) (Empties B) r first → goes r first ≡ round r
+pub round_goes : (r : Reached) (first : List Act) → NextOf goes (Empties A) (Empties B) r first
+    → goes r first ≡ round r
 round_goes r first (front, behind, split, does, then_does) =
     let next = goes r front in
-    ap (goes r) split ∙ goes-append front behind r ∙ where_goes next (of_end B first_has_chars next) behind (all_chars B next) then_does ∙ ap (emptied B) (first_goes r front does)
+    ap (goes r) split
+    ∙ goes-append front behind r
+    ∙ where_goes next (of_end B first_has_chars next) behind (all_chars B next) then_does
+    ∙ ap (emptied B) (first_goes r front does)
 
 -- what a drain comes to: rounds, until both wires are empty
-pub drain_rounds : {r : Reached} {all : List Act} → Drains r all → (n : ℕ) × (goes r all ≡ rounds n r) × (is_busy (goes r all) ≡ false)
+pub drain_rounds : {r : Reached} {all : List Act} → Drains r all
+    → (n : ℕ) × (goes r all ≡ rounds n r) × (is_busy (goes r all) ≡ false)
 unfolding rounds
 drain_rounds {r} {all} (Rests idle none) =
     let here = ap (goes r) none ∙ goes_none r in
     (0, here, ap is_busy here ∙ idle)
 drain_rounds {r} {all} (GoesOn first rest busy part split stays more) =
     let later = drain_rounds more in
-    let whole : goes r all ≡ goes (goes r first) rest = ap (goes r) split ∙ goes-append first rest r in
-    (suc later.0, whole ∙ later.1 ∙ ap (rounds later.0) (round_goes r first part), ap is_busy whole ∙ later.2)
+    let whole : goes r all ≡ goes (goes r first) rest =
+    ap (goes r) split ∙ goes-append first rest r in (
+      suc later.0,
+      whole
+          ∙ later.1
+          ∙ ap (rounds later.0) (round_goes r first part),
+      ap is_busy whole
+          ∙ later.2,
+    )
 drain_rounds (Leaves first rest busy part split stays last) = absurd cc
 
 -- ---- five deliveries empty both wires, whatever stood on them
@@ -124,21 +152,25 @@ AreEmpty s = (s.wire_a.chars ≡ []) × (s.wire_b.chars ≡ [])
 abbrev pub Rested : LinkState → Type 0
 Rested s = IsSoundLink s × AreEmpty s
 
-empty_has : (chars : List Char) → chars ≡ [] → not (has_none chars) ≡ false
+pub empty_has : (chars : List Char) → chars ≡ [] → not (has_none chars) ≡ false
 empty_has chars none = ap (λ (cs : List Char). not (has_none cs)) none
 
 pub empty_is_idle : (s : LinkState) → AreEmpty s → is_busy (At s) ≡ false
 empty_is_idle s none =
-    ap (λ (b : Bool). b || not (has_none s.wire_b.chars)) (empty_has s.wire_a.chars none.0) ∙ empty_has s.wire_b.chars none.1
+    ap (λ (b : Bool). b || not (has_none s.wire_b.chars)) (empty_has s.wire_a.chars none.0)
+    ∙ empty_has s.wire_b.chars none.1
 
-pub answers_are : (p : PortState) (chars : List Char) → expected_of p.input < 32 → AreAnswers (answered p chars)
+pub answers_are : (p : PortState) (chars : List Char) → expected_of p.input < 32
+    → AreAnswers (answered p chars)
 unfolding answered
 answers_are p chars below = replies_answer p (said p.place chars) below
 
 -- what a port answers has no answer where no symbol is in progress
-pub answers_are_silent : (p q : PortState) (chars : List Char) → expected_of p.input < 32 → q.place.pending ≡ Nothing → answered q (chars_of (answered p chars)) ≡ []
+pub answers_are_silent : (p q : PortState) (chars : List Char) → expected_of p.input < 32
+    → q.place.pending ≡ Nothing → answered q (chars_of (answered p chars)) ≡ []
 answers_are_silent p q chars below none =
-    (unbroken_leaves q q.place.text (answered p chars) (ap (λ (k : Pending). place q.place.text k) none) (answers_are p chars below)).0.silent
+    (unbroken_leaves q q.place.text (answered p chars)
+    (ap (λ (k : Pending). place q.place.text k) none) (answers_are p chars below)).0.silent
 
 -- after the answers to what came: answers alone, on their way to the second port
 record SecondSent (s : LinkState) : Type 0 where
@@ -189,7 +221,10 @@ to_third s m h t = record {
   are = h.are;
   b = t.a ∙ ap (fed s.b) h.wire_a;
   wire_a = t.wire_b;
-  wire_b = t.wire_a ∙ ap (λ (cs : List Char). cs ++ chars_of (answered s.b s.wire_a.chars)) h.wire_b ∙ ap (λ (cs : List Char). chars_of (answered s.b cs)) h.wire_a;
+  wire_b =
+      t.wire_a
+      ∙ ap (λ (cs : List Char). cs ++ chars_of (answered s.b s.wire_a.chars)) h.wire_b
+      ∙ ap (λ (cs : List Char). chars_of (answered s.b cs)) h.wire_a;
 }
 
 to_fourth : (s m : LinkState) → ThirdSent s → Takes s m → FourthSent m
@@ -200,10 +235,15 @@ to_fourth s m h t = record {
   second = h.second;
   fourth = answered s.a (chars_of (answered h.before (chars_of h.second)));
   are = h.are;
-  are_too = answers_are s.a (chars_of (answered h.before (chars_of h.second))) h.sound.port_a.expected_ack;
+  are_too =
+      answers_are s.a (chars_of (answered h.before (chars_of h.second)))
+      h.sound.port_a.expected_ack;
   is = refl;
   b = t.b ∙ h.b;
-  wire_a = t.wire_a ∙ ap (λ (cs : List Char). cs ++ chars_of (answered s.a s.wire_b.chars)) h.wire_a ∙ ap (λ (cs : List Char). chars_of (answered s.a cs)) h.wire_b;
+  wire_a =
+      t.wire_a
+      ∙ ap (λ (cs : List Char). cs ++ chars_of (answered s.a s.wire_b.chars)) h.wire_a
+      ∙ ap (λ (cs : List Char). chars_of (answered s.a cs)) h.wire_b;
   wire_b = t.wire_b;
 }
 
@@ -211,18 +251,34 @@ to_fifth : (s m : LinkState) → FourthSent s → Takes (turned_round s) (turned
 unfolding chars_of
 to_fifth s m h t =
     let silent : answered s.b s.wire_a.chars ≡ [] =
-    ap (answered s.b) h.wire_a ∙ ap (λ (q : PortState). answered q (chars_of h.fourth)) h.b ∙ third_is_silent h.before h.first h.second h.fourth h.are h.are_too h.is in (
+    ap (answered s.b) h.wire_a
+    ∙ ap (λ (q : PortState). answered q (chars_of h.fourth)) h.b
+    ∙ third_is_silent h.before h.first h.second h.fourth h.are h.are_too h.is in (
       round_sound (turned_round m) t.sound,
-      (t.wire_b, t.wire_a ∙ ap (λ (r : List Fields). s.wire_b.chars ++ chars_of r) silent ∙ ap (λ (cs : List Char). cs ++ []) h.wire_b),
+      (
+        t.wire_b,
+        t.wire_a
+            ∙ ap (λ (r : List Fields). s.wire_b.chars ++ chars_of r) silent
+            ∙ ap (λ (cs : List Char). cs ++ []) h.wire_b,
+      ),
     )
 
-pub five : (s : LinkState) → IsSoundLink s → OnState Rested (emptied A (emptied B (emptied A (emptied B (emptied A (At s))))))
+pub five : (s : LinkState) → IsSoundLink s
+    → OnState Rested (emptied A (emptied B (emptied A (emptied B (emptied A (At s))))))
 five s l =
-    then_emptied Rested A (emptied B (emptied A (emptied B (emptied A (At s))))) (λ (n : LinkState) (h : FourthSent n). on_state (emptied A (At n)) (λ m t. to_fifth n m h t) (emptied_takes A n h.sound))
-    (then_emptied FourthSent B (emptied A (emptied B (emptied A (At s)))) (λ (n : LinkState) (h : ThirdSent n). on_state (emptied B (At n)) (λ m t. to_fourth n m h t) (emptied_takes B n h.sound))
-    (then_emptied ThirdSent A (emptied B (emptied A (At s))) (λ (n : LinkState) (h : SecondSent n). on_state (emptied A (At n)) (λ m t. to_third n m h t) (emptied_takes A n h.sound))
-    (then_emptied SecondSent B (emptied A (At s)) (λ (n : LinkState) (h : IsSoundLink n × (n.wire_a.chars ≡ [])). on_state (emptied B (At n)) (λ m t. to_second n m h.0 h.1 t) (emptied_takes B n h.0))
-    (on_state (emptied A (At s)) (λ m t. (round_sound (turned_round m) t.sound, t.wire_b)) (emptied_takes A s l)))))
+    then_emptied Rested A (emptied B (emptied A (emptied B (emptied A (At s))))) (λ (n : LinkState)
+    (h : FourthSent n). on_state (emptied A (At n)) (λ m t. to_fifth n m h t)
+    (emptied_takes A n h.sound))
+    (then_emptied FourthSent B (emptied A (emptied B (emptied A (At s)))) (λ (n : LinkState)
+    (h : ThirdSent n). on_state (emptied B (At n)) (λ m t. to_fourth n m h t)
+    (emptied_takes B n h.sound))
+    (then_emptied ThirdSent A (emptied B (emptied A (At s))) (λ (n : LinkState) (h : SecondSent n).
+    on_state (emptied A (At n)) (λ m t. to_third n m h t) (emptied_takes A n h.sound))
+    (then_emptied SecondSent B (emptied A (At s)) (λ (n : LinkState)
+    (h : IsSoundLink n × (n.wire_a.chars ≡ [])). on_state (emptied B (At n))
+    (λ m t. to_second n m h.0 h.1 t) (emptied_takes B n h.0))
+    (on_state (emptied A (At s)) (λ m t. (round_sound (turned_round m) t.sound, t.wire_b))
+    (emptied_takes A s l)))))
 
 pub rested_is_idle : (r : Reached) → OnState Rested r → is_busy r ≡ false
 rested_is_idle (At s) h = empty_is_idle s h.1
@@ -237,112 +293,22 @@ three_rounds s l =
     subst (λ (r : Reached). OnState Rested r) (sym stays.1) h
 
 -- A drain of a sound link is three rounds, whatever stood on the wires.
-pub drain_is : (s : LinkState) (all : List Act) → IsSoundLink s → Drains (At s) all → goes (At s) all ≡ rounds 3 (At s)
+pub drain_is : (s : LinkState) (all : List Act) → IsSoundLink s → Drains (At s) all
+    → goes (At s) all ≡ rounds 3 (At s)
 drain_is s all l drains =
     let does = drain_rounds drains in
     let three = rested_is_idle (rounds 3 (At s)) (three_rounds s l) in
     does.1 ∙ ends_same does.0 3 (At s) (ap is_busy (sym does.1) ∙ does.2) three
 
 -- Then the link is sound, and both wires are empty.
-pub drain_rests : (s : LinkState) (all : List Act) → IsSoundLink s → Drains (At s) all → OnState (λ m. IsSoundLink m × AreEmpty m) (goes (At s) all)
-drain_rests s all l drains = subst (λ (r : Reached). OnState Rested r) (sym (drain_is s all l drains)) (three_rounds s l)
+pub drain_rests : (s : LinkState) (all : List Act) → IsSoundLink s → Drains (At s) all
+    → OnState (λ m. IsSoundLink m × AreEmpty m) (goes (At s) all)
+drain_rests s all l drains =
+    subst (λ (r : Reached). OnState Rested r) (sym (drain_is s all l drains)) (three_rounds s l)
 
 pub drain_empties : (s : LinkState) (all : List Act) → IsSoundLink s → Drains (At s) all
     → OnState (λ m. IsSoundLink m × (m.wire_a.chars ≡ []) × (m.wire_b.chars ≡ [])) (goes (At s) all)
 drain_empties s all l drains =
-    on_state {Q = λ m. IsSoundLink m × (m.wire_a.chars ≡ []) × (m.wire_b.chars ≡ [])} (goes (At s) all)
+    on_state {Q = λ m. IsSoundLink m × (m.wire_a.chars ≡ []) × (m.wire_b.chars ≡ [])}
+    (goes (At s) all)
     (λ (m : LinkState) (h : Rested m). (h.0, h.1.0, h.1.1)) (drain_rests s all l drains)
-
--- ---- a drain where one wire alone has characters
-
--- three deliveries, the first from this end's wire
-abbrev pub three : Side → Reached → Reached
-three near r = emptied near (emptied (other_side near) (emptied near r))
-
--- What comes to the port at the other end, what it answers to the port at this end, what that answers, and what is answered
--- to that: the ports after it.
-pub record Exchanged (p q : PortState) (chars : List Char) (m : LinkState) : Type 0 where
-  pub sound : IsSoundLink m
-  pub a : m.a ≡ fed p (chars_of (answered q chars))
-  pub b : m.b ≡ fed (fed q chars) (chars_of (answered p (chars_of (answered q chars))))
-  pub wire_a : m.wire_a.chars ≡ []
-  pub wire_b : m.wire_b.chars ≡ chars_of (answered (fed q chars) (chars_of (answered p (chars_of (answered q chars)))))
-
-three_takes : (s one two m : LinkState) → s.wire_b.chars ≡ [] → Takes (turned_round s) (turned_round one) → Takes one two → Takes (turned_round two) (turned_round m) → Exchanged s.a s.b s.wire_a.chars m
-three_takes s one two m none first second third =
-    let first_answers : one.wire_b.chars ≡ chars_of (answered s.b s.wire_a.chars) = first.wire_a ∙ ap (λ (cs : List Char). cs ++ chars_of (answered s.b s.wire_a.chars)) none in
-    let near : two.a ≡ fed s.a (chars_of (answered s.b s.wire_a.chars)) = second.a ∙ (λ i. fed (first.b i) (first_answers i)) in
-    let second_answers : two.wire_a.chars ≡ chars_of (answered s.a (chars_of (answered s.b s.wire_a.chars))) =
-    second.wire_a ∙ ap (λ (cs : List Char). cs ++ chars_of (answered one.a one.wire_b.chars)) first.wire_b ∙ (λ i. chars_of (answered (first.b i) (first_answers i))) in
-    let far : two.b ≡ fed s.b s.wire_a.chars = second.b ∙ first.a in
-    record {
-      sound = round_sound (turned_round m) third.sound;
-      a = third.b ∙ near;
-      b = third.a ∙ (λ i. fed (far i) (second_answers i));
-      wire_a = third.wire_b;
-      wire_b = third.wire_a ∙ ap (λ (cs : List Char). cs ++ chars_of (answered two.b two.wire_a.chars)) second.wire_b ∙ (λ i. chars_of (answered (far i) (second_answers i)));
-    }
-
-three_from_a : (s : LinkState) → IsSoundLink s → s.wire_b.chars ≡ [] → OnState (Exchanged s.a s.b s.wire_a.chars) (three A (At s))
-three_from_a s l none =
-    then_emptied (Exchanged s.a s.b s.wire_a.chars) A (emptied B (emptied A (At s)))
-    (λ (two : LinkState) (h : IsSoundLink two × ((one : LinkState) × Takes (turned_round s) (turned_round one) × Takes one two)).
-    on_state (emptied A (At two)) (λ m t. three_takes s h.1.0 two m none h.1.1 h.1.2 t) (emptied_takes A two h.0))
-    (then_emptied (λ two. IsSoundLink two × ((one : LinkState) × Takes (turned_round s) (turned_round one) × Takes one two)) B (emptied A (At s))
-    (λ (one : LinkState) (h : Takes (turned_round s) (turned_round one)).
-    on_state (emptied B (At one)) (λ two t. (t.sound, (one, h, t))) (emptied_takes B one (round_sound (turned_round one) h.sound)))
-    (on_state (emptied A (At s)) (λ m t. t) (emptied_takes A s l)))
-
-three_from_b : (s : LinkState) → IsSoundLink s → s.wire_a.chars ≡ [] → OnState (λ m. Exchanged s.b s.a s.wire_b.chars (turned_round m)) (three B (At s))
-three_from_b s l none =
-    then_emptied (λ m. Exchanged s.b s.a s.wire_b.chars (turned_round m)) B (emptied A (emptied B (At s)))
-    (λ (two : LinkState) (h : IsSoundLink two × ((one : LinkState) × Takes s one × Takes (turned_round one) (turned_round two))).
-    on_state (emptied B (At two)) (λ m t. three_takes (turned_round s) (turned_round h.1.0) (turned_round two) (turned_round m) none h.1.1 h.1.2 t) (emptied_takes B two h.0))
-    (then_emptied (λ two. IsSoundLink two × ((one : LinkState) × Takes s one × Takes (turned_round one) (turned_round two))) A (emptied B (At s))
-    (λ (one : LinkState) (h : Takes s one).
-    on_state (emptied A (At one)) (λ two t. (round_sound (turned_round two) t.sound, (one, h, t))) (emptied_takes A one h.sound))
-    (on_state (emptied B (At s)) (λ m t. t) (emptied_takes B s l)))
-
--- the same, with this end first
-pub three_from : (near : Side) (s : LinkState) → IsSoundLink s → (from_end near s).wire_b.chars ≡ []
-    → OnState (λ m. Exchanged (from_end near s).a (from_end near s).b (from_end near s).wire_a.chars (from_end near m)) (three near (At s))
-three_from A s l none = three_from_a s l none
-three_from B s l none = three_from_b s l none
-
--- where the third delivery is answered by nothing, the drain is these three
-three_end : (near : Side) (s : LinkState) → (from_end near s).wire_b.chars ≡ [] → is_busy (three near (At s)) ≡ false → rounds 3 (At s) ≡ three near (At s)
-unfolding rounds
-three_end A s none idle =
-    let stays = idle_stays (three A (At s)) idle in
-    ap (λ (r : Reached). emptied B (emptied A r)) stays.1
-    ∙ ap (emptied B) stays.0
-    ∙ stays.1
-three_end B s none idle =
-    let stays = idle_stays (three B (At s)) idle in
-    let first : emptied A (At s) ≡ At s = ap (λ (b : Bool). if b then goes (At s) (all_chars A (At s)) else At s) (empty_has s.wire_a.chars none) in
-    ap (λ (r : Reached). emptied B (emptied A (emptied B (emptied A (emptied B r))))) first
-    ∙ ap (emptied B) stays.0
-    ∙ stays.1
-
--- What a drain comes to, where the port at the other end has sent nothing and the third delivery is answered by nothing.
-pub drain_exchanges : (near : Side) (s : LinkState) (all : List Act) → IsSoundLink s → (from_end near s).wire_b.chars ≡ [] → Drains (At s) all
-    → (let p = (from_end near s).a in let q = (from_end near s).b in let cs = (from_end near s).wire_a.chars in
-    answered (fed q cs) (chars_of (answered p (chars_of (answered q cs)))) ≡ [])
-    → OnState (λ m. Exchanged (from_end near s).a (from_end near s).b (from_end near s).wire_a.chars (from_end near m) × AreEmpty m) (goes (At s) all)
-unfolding chars_of
-drain_exchanges near s all l none drains silent =
-    let p = (from_end near s).a in let q = (from_end near s).b in let cs = (from_end near s).wire_a.chars in
-    let h = three_from near s l none in
-    let ends = three_end near s none (idle_after near p q cs silent (three near (At s)) h) in
-    subst (λ (r : Reached). OnState (λ m. Exchanged p q cs (from_end near m) × AreEmpty m) r) (sym (drain_is s all l drains ∙ ends))
-    (on_state (three near (At s)) (λ m x. (x, empty_after near p q cs silent m x)) h)
-  where
-    empty_after : (near : Side) (p q : PortState) (cs : List Char) → answered (fed q cs) (chars_of (answered p (chars_of (answered q cs)))) ≡ []
-        → (m : LinkState) → Exchanged p q cs (from_end near m) → AreEmpty m
-    empty_after A p q cs silent m x = (x.wire_a, x.wire_b ∙ ap chars_of silent)
-    empty_after B p q cs silent m x = (x.wire_b ∙ ap chars_of silent, x.wire_a)
-
-    idle_after : (near : Side) (p q : PortState) (cs : List Char) → answered (fed q cs) (chars_of (answered p (chars_of (answered q cs)))) ≡ []
-        → (r : Reached) → OnState (λ m. Exchanged p q cs (from_end near m)) r → is_busy r ≡ false
-    idle_after near p q cs silent (At m) x = empty_is_idle m (empty_after near p q cs silent m x)
-    idle_after near p q cs silent (Found side e) x = refl

@@ -17,19 +17,25 @@ use Rattle.link_rest.specs.Settling.{Part, is_retry_stopped, has_failed, may_fir
 use Rattle.link_rest.specs.Rest.{IsRound}
 use Rattle.link_rest.proofs.Lines.{goes_one}
 use Rattle.link_rest.proofs.DrainCounts.{drain_exists}
-use Rattle.link_rest.proofs.Sending.{Quiet, AfterRound, Sending, round_goes, goes_on}
+use Rattle.link_rest.proofs.SendingRounds.{Quiet, AfterRound, round_goes}
+use Rattle.link_rest.proofs.Sending.{Sending, goes_on}
 use Rattle.link_rest.proofs.Rounds.{after_round}
 use Rattle.link_rest.proofs.Settled.{Drained, FirstRests, BothRest, FirstDone, go_on, drains_lead, first_recovers, second_recovers, first_sends, turned_quiet}
 
 -- ---- whatever is done keeps a link sound
 
-reached_keeps : (to : Side) (next : LinkState) (d : Delivered) → IsSoundLink next → OnState IsSoundLink (reached_by to next d)
+reached_keeps : (to : Side) (next : LinkState) (d : Delivered) → IsSoundLink next
+    → OnState IsSoundLink (reached_by to next d)
 reached_keeps to next (Through flow) l = l
 reached_keeps to next (Undetected told e) l = tt
 
 delivers_keep : (from : Side) (count : ℕ) (s : LinkState) (b : Bool) → IsSoundLink s
-    → OnState IsSoundLink (if b then reached_by (other_side from) (delivered_from from count s) (delivery_from from count s) else At s)
-delivers_keep from count s true l = reached_keeps (other_side from) (delivered_from from count s) (delivery_from from count s) (delivery_keeps from count s l)
+    → OnState IsSoundLink (if b
+    then reached_by (other_side from) (delivered_from from count s) (delivery_from from count s)
+    else At s)
+delivers_keep from count s true l =
+    reached_keeps (other_side from) (delivered_from from count s) (delivery_from from count s)
+    (delivery_keeps from count s l)
 delivers_keep from count s false l = l
 
 act_keeps : (act : Act) (s : LinkState) → IsSoundLink s → OnState IsSoundLink (after act s)
@@ -37,7 +43,8 @@ act_keeps (Pump from turns) s l = pump_keeps from turns s l
 act_keeps (Deliver from count) s l = delivers_keep from count s (has_chars from count s) l
 act_keeps (Fire side) s l = fired_keeps side s l
 
-pub acts_keep : (acts : List Act) (r : Reached) → OnState IsSoundLink r → OnState IsSoundLink (goes r acts)
+pub acts_keep : (acts : List Act) (r : Reached) → OnState IsSoundLink r
+    → OnState IsSoundLink (goes r acts)
 unfolding goes
 acts_keep [] r l = l
 acts_keep (act ∷ acts) (At s) l = acts_keep acts (after act s) (act_keeps act s l)
@@ -49,14 +56,16 @@ acts_keep (act ∷ acts) (Found side e) l = tt
 abbrev pub Can : Part → Reached → Type 0
 Can P r = (all : List Act) × P r all
 
-pub where_can : (test : Reached → Bool) (P : Part) (r : Reached) → (test r ≡ true → Can P r) → Can (WhereOf test P) r
+pub where_can : (test : Reached → Bool) (P : Part) (r : Reached) → (test r ≡ true → Can P r)
+    → Can (WhereOf test P) r
 where_can test P r can = by (test r) refl
   where
     by : (b : Bool) → test r ≡ b → (all : List Act) × MatchBool b (P r all) (all ≡ [])
     by true is = can is
     by false is = ([], refl)
 
-pub next_can : (First Then : Part) (r : Reached) (first : Can First r) → Can Then (goes r first.0) → Can (NextOf goes First Then) r
+pub next_can : (First Then : Part) (r : Reached) (first : Can First r) → Can Then (goes r first.0)
+    → Can (NextOf goes First Then) r
 next_can First Then r first more = (first.0 ++ more.0, (first.0, more.0, refl, first.1, more.1))
 
 pub found_none : (side : Side) (e : Event) → Drains (goes (Found side e) []) []
@@ -65,24 +74,41 @@ found_none side e = Rests refl refl
 
 pub turn_can : (near : Side) (r : Reached) → OnState IsSoundLink r → Can (TakesTurn near) r
 turn_can near (At s) l =
-    let d = drain_exists (pumped near 1 s) (pump_keeps near 1 s l) in
-    (Pump near 1 ∷ d.0, (Pump near 1 ∷ [], d.0, refl, refl, subst (λ (r : Reached). Drains r d.0) (sym (goes_one s (Pump near 1))) d.1))
+    let d = drain_exists (pumped near 1 s) (pump_keeps near 1 s l) in (
+      Pump near 1
+          ∷ d.0,
+      (
+        Pump near 1 ∷ [],
+        d.0,
+        refl,
+        refl,
+        subst (λ (r : Reached). Drains r d.0) (sym (goes_one s (Pump near 1))) d.1,
+      ),
+    )
 turn_can near (Found side e) l = ([], ([], [], refl, refl, found_none side e))
 
 pub restarts_can : (near : Side) (r : Reached) → OnState IsSoundLink r → Can (Restarts near) r
-restarts_can near r l = where_can (of_end near (λ link. is_retry_stopped link.a.output)) (TakesTurn near) r (λ is. turn_can near r l)
+restarts_can near r l =
+    where_can (of_end near (λ link. is_retry_stopped link.a.output)) (TakesTurn near) r
+    (λ is. turn_can near r l)
 
 pub requests_can : (near : Side) (r : Reached) → OnState IsSoundLink r → Can (Requests near) r
 requests_can near r l =
-    where_can (of_end near (λ link. not (first_rests link))) (NextOf goes (TimesOut near) (TakesTurn near)) r (λ is.
-    let fire : Can (TimesOut near) r = where_can (of_end near (λ link. may_fire link.a.output)) (Is (λ reached. Fire near ∷ [])) r (λ may. (Fire near ∷ [], refl)) in
-    next_can (TimesOut near) (TakesTurn near) r fire (turn_can near (goes r fire.0) (acts_keep fire.0 r l)))
+    where_can (of_end near (λ link. not (first_rests link)))
+    (NextOf goes (TimesOut near) (TakesTurn near)) r (λ is.
+    let fire : Can (TimesOut near) r =
+    where_can (of_end near (λ link. may_fire link.a.output)) (Is (λ reached. Fire near ∷ [])) r
+    (λ may. (Fire near ∷ [], refl)) in
+    next_can (TimesOut near) (TakesTurn near) r fire
+    (turn_can near (goes r fire.0) (acts_keep fire.0 r l)))
 
 pub recovers_can : (near : Side) (r : Reached) → OnState IsSoundLink r → Can (Recovers near) r
 recovers_can near r l =
-    where_can (of_end near (λ link. not (has_failed link.a.output))) (NextOf goes (Restarts near) (Requests near)) r (λ is.
+    where_can (of_end near (λ link. not (has_failed link.a.output)))
+    (NextOf goes (Restarts near) (Requests near)) r (λ is.
     let first = restarts_can near r l in
-    next_can (Restarts near) (Requests near) r first (requests_can near (goes r first.0) (acts_keep first.0 r l)))
+    next_can (Restarts near) (Requests near) r first
+    (requests_can near (goes r first.0) (acts_keep first.0 r l)))
 
 -- ---- the loop, which has fewer packets to send after each round that goes on
 
@@ -92,28 +118,35 @@ left_at near s = packet_count (from_end near s).a.queued
 abbrev pub Fewer : Side → ℕ → LinkState → Type 0
 Fewer near n s = Quiet near s × (left_at near s < n)
 
-fewer_by : (near : Side) (s m : LinkState) (n : ℕ) → IsRound (from_end near s) (from_end near m) → is_retry_stopped (from_end near m).a.output ≡ false → left_at near s < suc n → left_at near m < n
+fewer_by : (near : Side) (s m : LinkState) (n : ℕ) → IsRound (from_end near s) (from_end near m)
+    → is_retry_stopped (from_end near m).a.output ≡ false → left_at near s < suc n
+    → left_at near m < n
 fewer_by near s m n (inl (passed, so)) more less = let one = passed.less in omega arith
 fewer_by near s m n (inr (blocked, stopped)) more less = absurd cc
 
-pub fewer_after : (near : Side) (s : LinkState) (n : ℕ) (r : Reached) → Fewer near (suc n) s → OnState (AfterRound near s) r → of_end near (λ link. is_retry_stopped link.a.output) r ≡ false
+pub fewer_after : (near : Side) (s : LinkState) (n : ℕ) (r : Reached) → Fewer near (suc n) s
+    → OnState (AfterRound near s) r → of_end near (λ link. is_retry_stopped link.a.output) r ≡ false
     → OnState (Fewer near n) r
 fewer_after near s n (At m) h round more =
     let on = goes_on near s (At m) h.0 round more in
     (on.0, fewer_by near s m n (after_round near s m h.0.sound round) more h.1)
 fewer_after near s n (Found side e) h round more = tt
 
-pub sound_of : (near : Side) (s : LinkState) (r : Reached) → OnState (AfterRound near s) r → OnState IsSoundLink r
+pub sound_of : (near : Side) (s : LinkState) (r : Reached) → OnState (AfterRound near s) r
+    → OnState IsSoundLink r
 sound_of near s (At m) h = h.sound
 sound_of near s (Found side e) h = tt
 
-sending_busy : (near : Side) (n : ℕ) (s : LinkState) → ((r : Reached) → OnState (Fewer near n) r → Can (Sending near) r) → Fewer near (suc n) s → of_end near (λ link. waits link.a) (At s) ≡ true
+sending_busy : (near : Side) (n : ℕ) (s : LinkState)
+    → ((r : Reached) → OnState (Fewer near n) r → Can (Sending near) r) → Fewer near (suc n) s
+    → of_end near (λ link. waits link.a) (At s) ≡ true
     → Can (Sending near) (At s)
 sending_busy near n s more h busy =
     let first = turn_can near (At s) h.0.sound in
     let r = goes (At s) first.0 in
     let round = round_goes near s first.0 h.0 busy first.1 in
-    elim (of_end near (λ link. is_retry_stopped link.a.output) r) as (λ b. of_end near (λ link. is_retry_stopped link.a.output) r ≡ b → Can (Sending near) (At s)) [
+    elim (of_end near (λ link. is_retry_stopped link.a.output) r) as
+    (λ b. of_end near (λ link. is_retry_stopped link.a.output) r ≡ b → Can (Sending near) (At s)) [
       | true ↦ λ (last : of_end near (λ link. is_retry_stopped link.a.output) r ≡ true).
           let again = turn_can near r (sound_of near s r round) in
           (first.0 ++ again.0, Leaves first.0 again.0 busy first.1 refl last again.1)
@@ -122,17 +155,22 @@ sending_busy near n s more h busy =
           (first.0 ++ later.0, GoesOn first.0 later.0 busy first.1 refl on later.1)
     ] refl
 
-pub sending_can : (near : Side) (n : ℕ) (r : Reached) → OnState (Fewer near n) r → Can (Sending near) r
+pub sending_can : (near : Side) (n : ℕ) (r : Reached) → OnState (Fewer near n) r
+    → Can (Sending near) r
 sending_can near n (Found side e) h = ([], Rests refl refl)
 sending_can near zero (At s) h = absurd (let less = h.1 in omega arith)
 sending_can near (suc n) (At s) h =
-    elim (of_end near (λ link. waits link.a) (At s)) as (λ b. of_end near (λ link. waits link.a) (At s) ≡ b → Can (Sending near) (At s)) [
-      | true ↦ λ (busy : of_end near (λ link. waits link.a) (At s) ≡ true). sending_busy near n s (sending_can near n) h busy
+    elim (of_end near (λ link. waits link.a) (At s)) as
+    (λ b. of_end near (λ link. waits link.a) (At s) ≡ b → Can (Sending near) (At s)) [
+      | true ↦ λ (busy : of_end near (λ link. waits link.a) (At s) ≡ true). sending_busy near n s
+          (sending_can near n) h busy
       | false ↦ λ (none : of_end near (λ link. waits link.a) (At s) ≡ false). ([], Rests none refl)
     ] refl
 
 pub sends_can : (near : Side) (r : Reached) → OnState (Quiet near) r → Can (SendsAll near) r
-sends_can near (At s) quiet = where_can (of_end near first_rests) (Sending near) (At s) (λ is. sending_can near (suc (left_at near s)) (At s) (quiet, omega arith))
+sends_can near (At s) quiet =
+    where_can (of_end near first_rests) (Sending near) (At s)
+    (λ is. sending_can near (suc (left_at near s)) (At s) (quiet, omega arith))
 sends_can near (Found side e) quiet = ([], refl)
 
 -- ---- the whole
@@ -164,6 +202,9 @@ settling_can s l =
     let r4 = goes r3 three.0 in
     let h4 = go_on BothRest (SendsAll A) FirstDone first_sends r3 three.0 h3 three.1 in
     let four = sends_can B r4 (second_quiet r4 h4) in
-    next_can Drains (NextOf goes (Recovers A) (NextOf goes (Recovers B) (NextOf goes (SendsAll A) (SendsAll B)))) (At s) drain
+    next_can Drains
+    (NextOf goes (Recovers A) (NextOf goes (Recovers B) (NextOf goes (SendsAll A) (SendsAll B))))
+    (At s) drain
     (next_can (Recovers A) (NextOf goes (Recovers B) (NextOf goes (SendsAll A) (SendsAll B))) r1 one
-    (next_can (Recovers B) (NextOf goes (SendsAll A) (SendsAll B)) r2 two (next_can (SendsAll A) (SendsAll B) r3 three four)))
+    (next_can (Recovers B) (NextOf goes (SendsAll A) (SendsAll B)) r2 two
+    (next_can (SendsAll A) (SendsAll B) r3 three four)))

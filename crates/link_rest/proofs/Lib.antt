@@ -5,9 +5,12 @@ pub mod Signals
 pub mod Packets
 pub mod Lines
 pub mod Drains
+pub mod Exchanges
 pub mod TurnLaws
+pub mod Restarting
 pub mod Recovery
 pub mod Waiting
+pub mod SendingRounds
 pub mod Sending
 pub mod Settled
 pub mod Counts

@@ -32,56 +32,77 @@ abbrev pub OnFlow : (Flow → Type 0) → Delivered → Type 0
 OnFlow P (Through flow) = P flow
 OnFlow P (Undetected told e) = Unit {0}
 
-on_flow : (P Q : Flow → Type 0) → ((flow : Flow) → P flow → Q flow) → (d : Delivered) → OnFlow P d → OnFlow Q d
+on_flow : (P Q : Flow → Type 0) → ((flow : Flow) → P flow → Q flow) → (d : Delivered) → OnFlow P d
+    → OnFlow Q d
 on_flow P Q so (Through flow) h = so flow h
 on_flow P Q so (Undetected told e) h = tt
 
 -- events were led through the tables
 abbrev IsLed : Flow → List Event → Flow → Type 0
-IsLed flow es next = (next.port ≡ led flow.port es) × (next.told.replies ≡ flow.told.replies ++ replies flow.port es)
+IsLed flow es next =
+    (next.port ≡ led flow.port es) × (next.told.replies ≡ flow.told.replies ++ replies flow.port es)
 
 abbrev events_of : List (ℕ × Event) → List Event
 events_of placed = map (λ (p : ℕ × Event). p.1) placed
 
-done_led : (flow : Flow) (e : Event) (acted kept : List Event) (es : List Event) (next : Flow) → IsLed (done e acted kept flow) es next → IsLed flow (e ∷ es) next
+done_led : (flow : Flow) (e : Event) (acted kept : List Event) (es : List Event) (next : Flow)
+    → IsLed (done e acted kept flow) es next → IsLed flow (e ∷ es) next
 unfolding led replies
-done_led flow e acted kept es next h = (h.0, h.1 ∙ append_assoc flow.told.replies (option_to_list (acts flow.port e).reply) (replies (acts flow.port e).port es))
+done_led flow e acted kept es next h = (
+  h.0,
+  h.1
+      ∙ append_assoc flow.told.replies (option_to_list (acts flow.port e).reply)
+      (replies (acts flow.port e).port es),
+)
 
-met_led : (flow : Flow) (at : ℕ) (e : Event) (kept : Option (List Event)) (events : List (ℕ × Event))
-    → ((f : Flow) → OnFlow (IsLed f (events_of events)) (come events f)) → OnFlow (IsLed flow (e ∷ events_of events)) (goes_on (come events) (met at e kept flow))
+met_led : (flow : Flow) (at : ℕ) (e : Event) (kept : Option (List Event))
+    (events : List (ℕ × Event))
+    → ((f : Flow) → OnFlow (IsLed f (events_of events)) (come events f))
+    → OnFlow (IsLed flow (e ∷ events_of events)) (goes_on (come events) (met at e kept flow))
 met_led flow at e None events rest = tt
 met_led flow at e (Some kept) events rest =
     let next = done e (e ∷ []) kept flow in
-    on_flow (IsLed next (events_of events)) (IsLed flow (e ∷ events_of events)) (done_led flow e (e ∷ []) kept (events_of events)) (come events next) (rest next)
+    on_flow (IsLed next (events_of events)) (IsLed flow (e ∷ events_of events))
+    (done_led flow e (e ∷ []) kept (events_of events)) (come events next) (rest next)
 
-come_led : (events : List (ℕ × Event)) (flow : Flow) → OnFlow (IsLed flow (events_of events)) (come events flow)
+come_led : (events : List (ℕ × Event)) (flow : Flow)
+    → OnFlow (IsLed flow (events_of events)) (come events flow)
 unfolding come led replies
 come_led [] flow = (refl, sym (append-nil flow.told.replies))
 come_led (placed ∷ events) flow =
     elim (is_acted flow.port placed.1) as (λ b.
-    OnFlow (IsLed flow (placed.1 ∷ events_of events)) (goes_on (come events) (if b then met placed.0 placed.1 (behind placed.1 flow.kept) flow else Through (done placed.1 [] flow.kept flow)))) [
+    OnFlow (IsLed flow (placed.1 ∷ events_of events)) (goes_on (come events) (if b
+    then met placed.0 placed.1 (behind placed.1 flow.kept) flow
+    else Through (done placed.1 [] flow.kept flow)))) [
       | true ↦ met_led flow placed.0 placed.1 (behind placed.1 flow.kept) events (come_led events)
       | false ↦
           let next = done placed.1 [] flow.kept flow in
-          on_flow (IsLed next (events_of events)) (IsLed flow (placed.1 ∷ events_of events)) (done_led flow placed.1 [] flow.kept (events_of events)) (come events next) (come_led events next)
+          on_flow (IsLed next (events_of events)) (IsLed flow (placed.1 ∷ events_of events))
+          (done_led flow placed.1 [] flow.kept (events_of events)) (come events next)
+          (come_led events next)
     ]
 
 -- the port and its answers are those of the tables
 abbrev pub IsFed : PortState → List Char → Flow → Type 0
 IsFed port chars flow = (flow.port ≡ fed port chars) × (flow.told.replies ≡ answered port chars)
 
-ended_led : (port : PortState) (kept : List Event) (chars : List Char) (events : List Event) (count : ℕ) (d : Delivered) → events ≡ said port.place chars
-    → OnFlow (IsLed (begun port kept) events) d → OnFlow (IsFed port chars) (ended (place_after port.place chars) count d)
+ended_led : (port : PortState) (kept : List Event) (chars : List Char) (events : List Event)
+    (count : ℕ) (d : Delivered) → events ≡ said port.place chars
+    → OnFlow (IsLed (begun port kept) events) d
+    → OnFlow (IsFed port chars) (ended (place_after port.place chars) count d)
 unfolding fed answered
 ended_led port kept chars events count (Through flow) is h = (
-  ap (λ (p : PortState). record p { place = place_after port.place chars }) (h.0 ∙ ap (led port) is),
+  ap (λ (p : PortState). record p { place = place_after port.place chars })
+      (h.0 ∙ ap (led port) is),
   h.1 ∙ ap (replies port) is,
 )
 ended_led port kept chars events count (Undetected told e) is h = tt
 
-pub by_tables : (port : PortState) (kept : List Event) (chars : List Char) → OnFlow (IsFed port chars) (delivered port kept chars)
+pub by_tables : (port : PortState) (kept : List Event) (chars : List Char)
+    → OnFlow (IsFed port chars) (delivered port kept chars)
 by_tables port kept chars =
-    ended_led port kept chars (events_of (run port.place 0 chars)) _ (come (run port.place 0 chars) (begun port kept)) refl
+    ended_led port kept chars (events_of (run port.place 0 chars)) _
+    (come (run port.place 0 chars) (begun port kept)) refl
     (come_led (run port.place 0 chars) (begun port kept))
 
 -- ---- all characters of a wire
@@ -100,11 +121,15 @@ takes_none s sound none = record {
   sound = sound;
   a = sym (ap (fed s.a) none ∙ fed_none s.a);
   b = refl;
-  wire_a = sym (ap (λ (cs : List Char). s.wire_a.chars ++ chars_of (answered s.a cs)) none ∙ ap (λ (r : List Fields). s.wire_a.chars ++ chars_of r) (answered_none s.a) ∙ append-nil s.wire_a.chars);
+  wire_a =
+      sym (ap (λ (cs : List Char). s.wire_a.chars ++ chars_of (answered s.a cs)) none
+      ∙ ap (λ (r : List Fields). s.wire_a.chars ++ chars_of r) (answered_none s.a)
+      ∙ append-nil s.wire_a.chars);
   wire_b = none;
 }
 
-takes_by : (s : LinkState) (count : ℕ) (chars : List Char) (d : Delivered) → IsSoundLink s → count ≡ length s.wire_b.chars → chars ≡ s.wire_b.chars
+takes_by : (s : LinkState) (count : ℕ) (chars : List Char) (d : Delivered) → IsSoundLink s
+    → count ≡ length s.wire_b.chars → chars ≡ s.wire_b.chars
     → AreFlowing s.b s.wire_a.kept (queues_between s.a s.b) d → OnFlow (IsFed s.a chars) d
     → (to : Side) → OnState (λ m. Takes s m) (reached_by to (after_delivery count d s) d)
 unfolding chars_of
@@ -118,12 +143,14 @@ takes_by s count chars (Through flow) l all whole f h to = record {
 takes_by s count chars (Undetected told e) l all whole f h to = tt
 
 takes_all : (s : LinkState) (to : Side) → IsSoundLink s
-    → OnState (λ m. Takes s m) (reached_by to (first_takes (length s.wire_b.chars) s) (delivery (length s.wire_b.chars) s))
+    → OnState (λ m. Takes s m)
+    (reached_by to (first_takes (length s.wire_b.chars) s) (delivery (length s.wire_b.chars) s))
 takes_all s to l =
     let n = length s.wire_b.chars in
     let chars = take n s.wire_b.chars in
     takes_by s n chars (delivery n s) l refl (take_all n s.wire_b.chars (omega arith))
-    (delivered_flowing s.a s.b s.wire_a.kept s.wire_b.kept chars l.port_a l.port_b l.sound) (by_tables s.a s.wire_b.kept chars) to
+    (delivered_flowing s.a s.b s.wire_a.kept s.wire_b.kept chars l.port_a l.port_b l.sound)
+    (by_tables s.a s.wire_b.kept chars) to
 
 -- ---- as a step of the schedule
 
@@ -150,29 +177,40 @@ goes_one s act = ends (after act s)
     ends r = refl
 
 pub round_sound : (s : LinkState) → IsSoundLink s → IsSoundLink (turned_round s)
-round_sound s l = record { port_a = l.port_b; port_b = l.port_a; sound = record { a_to_b = l.sound.b_to_a; b_to_a = l.sound.a_to_b } }
+round_sound s l = record {
+  port_a = l.port_b;
+  port_b = l.port_a;
+  sound = record { a_to_b = l.sound.b_to_a; b_to_a = l.sound.a_to_b };
+}
 
 -- the same delivery, with the ends in the other order
-turned_by : (s : LinkState) (next : LinkState) (d : Delivered) → OnState (λ m. Takes s m) (reached_by B next d) → OnState (λ m. Takes s (turned_round m)) (reached_by B (turned_round next) d)
+turned_by : (s : LinkState) (next : LinkState) (d : Delivered)
+    → OnState (λ m. Takes s m) (reached_by B next d)
+    → OnState (λ m. Takes s (turned_round m)) (reached_by B (turned_round next) d)
 turned_by s next (Through flow) h = h
 turned_by s next (Undetected told e) h = tt
 
-full_takes : (from : Side) (s : LinkState) → IsSoundLink s → OnState (TakesFrom from s) (after (Deliver from (length (from_end from s).wire_a.chars)) s)
+full_takes : (from : Side) (s : LinkState) → IsSoundLink s
+    → OnState (TakesFrom from s) (after (Deliver from (length (from_end from s).wire_a.chars)) s)
 full_takes A s l =
     let t = turned_round s in
     let n = length s.wire_a.chars in
-    rw (same_count n) (turned_by t (first_takes n t) (delivery n t) (takes_all t B (round_sound s l)))
+    rw (same_count n)
+    (turned_by t (first_takes n t) (delivery n t) (takes_all t B (round_sound s l)))
 full_takes B s l =
     let n = length s.wire_b.chars in
     rw (same_count n) (takes_all s A l)
 
-pub emptied_takes : (from : Side) (s : LinkState) → IsSoundLink s → OnState (TakesFrom from s) (emptied from (At s))
+pub emptied_takes : (from : Side) (s : LinkState) → IsSoundLink s
+    → OnState (TakesFrom from s) (emptied from (At s))
 emptied_takes from s l = by_test (first_has_chars (from_end from s)) refl
   where
     none_from : (side : Side) → (from_end side s).wire_a.chars ≡ [] → TakesFrom side s s
     none_from A none = takes_none (turned_round s) (round_sound s l) none
     none_from B none = takes_none s l none
 
-    by_test : (b : Bool) → first_has_chars (from_end from s) ≡ b → OnState (TakesFrom from s) (if b then goes (At s) (all_chars from (At s)) else At s)
-    by_test true is = rw (goes_one s (Deliver from (length (from_end from s).wire_a.chars))) (full_takes from s l)
+    by_test : (b : Bool) → first_has_chars (from_end from s) ≡ b
+        → OnState (TakesFrom from s) (if b then goes (At s) (all_chars from (At s)) else At s)
+    by_test true is =
+        rw (goes_one s (Deliver from (length (from_end from s).wire_a.chars))) (full_takes from s l)
     by_test false is = none_from from (none_is (from_end from s).wire_a.chars is)

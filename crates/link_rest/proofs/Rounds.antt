@@ -13,13 +13,24 @@ use Rattle.link_rest.specs.Settling.{is_retry_stopped, waits, of_end, TakesTurn}
 use Rattle.link_rest.specs.Rest.{IsBlocked, IsQuiet, HasPassed, IsRound}
 use Rattle.link_rest.proofs.Drains.{on_state}
 use Rattle.link_rest.proofs.TurnLaws.{end_sound}
-use Rattle.link_rest.proofs.Sending.{Round, Quiet, AfterRound, round_goes}
+use Rattle.link_rest.proofs.SendingRounds.{Round, Quiet, AfterRound, round_goes}
 
 pub quiet_at : (near : Side) (s : LinkState) → IsSoundLink s → IsQuiet s → Quiet near s
-quiet_at A s l q = record { sound = l; none = (q.wire_a, q.wire_b); out = q.a_to_b; into = q.b_to_a }
-quiet_at B s l q = record { sound = l; none = (q.wire_a, q.wire_b); out = q.b_to_a; into = q.a_to_b }
+quiet_at A s l q = record {
+  sound = l;
+  none = (q.wire_a, q.wire_b);
+  out = q.a_to_b;
+  into = q.b_to_a;
+}
+quiet_at B s l q = record {
+  sound = l;
+  none = (q.wire_a, q.wire_b);
+  out = q.b_to_a;
+  into = q.a_to_b;
+}
 
-passed : (t u : LinkState) (ack : ℕ) → length t.a.queued ≡ 4 → Round true ack t.a t.b u.a u.b → HasPassed t u
+passed : (t u : LinkState) (ack : ℕ) → length t.a.queued ≡ 4 → Round true ack t.a t.b u.a u.b
+    → HasPassed t u
 passed t u ack four r =
     let found = highest_below-some 4 r.prio t.a.queued r.highest_is in
     let one = packet_count-popped t.a.queued r.prio (omega arith) found.1 in
@@ -36,18 +47,33 @@ passed t u ack four r =
       less = omega arith;
     }
 
-blocked : (t u : LinkState) (ack : ℕ) → Round false ack t.a t.b u.a u.b → IsBlocked t.a.queued t.b.received
-blocked t u ack r = record { prio = r.prio; packet = r.packet; highest_is = r.highest_is; first = r.first; full = r.has }
+blocked : (t u : LinkState) (ack : ℕ) → Round false ack t.a t.b u.a u.b
+    → IsBlocked t.a.queued t.b.received
+blocked t u ack r = record {
+  prio = r.prio;
+  packet = r.packet;
+  highest_is = r.highest_is;
+  first = r.first;
+  full = r.has;
+}
 
-by_room : (t u : LinkState) (room : Bool) (ack : ℕ) → length t.a.queued ≡ 4 → Round room ack t.a t.b u.a u.b → IsRound t u
-by_room t u true ack four r = inl (passed t u ack four r, ap (λ (p : PortState). is_retry_stopped p.output) r.a)
-by_room t u false ack four r = inr (blocked t u ack r, ap (λ (p : PortState). is_retry_stopped p.output) r.a)
+by_room : (t u : LinkState) (room : Bool) (ack : ℕ) → length t.a.queued ≡ 4
+    → Round room ack t.a t.b u.a u.b → IsRound t u
+by_room t u true ack four r =
+    inl (passed t u ack four r, ap (λ (p : PortState). is_retry_stopped p.output) r.a)
+by_room t u false ack four r =
+    inr (blocked t u ack r, ap (λ (p : PortState). is_retry_stopped p.output) r.a)
 
-pub after_round : (near : Side) (s m : LinkState) → IsSoundLink s → AfterRound near s m → IsRound (from_end near s) (from_end near m)
-after_round near s m l h = by_room (from_end near s) (from_end near m) h.room h.ack (end_sound near s l).port_a.sends.four h.round
+pub after_round : (near : Side) (s m : LinkState) → IsSoundLink s → AfterRound near s m
+    → IsRound (from_end near s) (from_end near m)
+after_round near s m l h =
+    by_room (from_end near s) (from_end near m) h.room h.ack (end_sound near s l).port_a.sends.four
+    h.round
 
 -- A round, from a link at rest on which a packet waits.
-pub round_is : (near : Side) (s : LinkState) (all : List Act) → IsSoundLink s → IsQuiet s → of_end near (λ link. waits link.a) (At s) ≡ true → TakesTurn near (At s) all
+pub round_is : (near : Side) (s : LinkState) (all : List Act) → IsSoundLink s → IsQuiet s
+    → of_end near (λ link. waits link.a) (At s) ≡ true → TakesTurn near (At s) all
     → OnState (λ m. IsSoundLink m × IsRound (from_end near s) (from_end near m)) (goes (At s) all)
 round_is near s all l quiet some turn =
-    on_state (goes (At s) all) (λ m x. (x.sound, after_round near s m l x)) (round_goes near s all (quiet_at near s l quiet) some turn)
+    on_state (goes (At s) all) (λ m x. (x.sound, after_round near s m l x))
+    (round_goes near s all (quiet_at near s l quiet) some turn)

@@ -22,15 +22,20 @@ placed_away at [] = refl
 placed_away at (e ∷ es) = ap (λ (r : List Event). e ∷ r) (placed_away at es)
 
 -- what is said does not depend on the place of the first character
-said_from : (from : Place) (at n : ℕ) (cs : List Char) → events_of (run from at cs) ≡ events_of (run from n cs)
+said_from : (from : Place) (at n : ℕ) (cs : List Char)
+    → events_of (run from at cs) ≡ events_of (run from n cs)
 unfolding run
 said_from from at n [] = refl
 said_from from at n (c ∷ cs) =
-    map-append (λ (p : ℕ × Event). p.1) (placed at (step from c).gives) (run (step from c).place (suc at) cs)
-    ∙ (λ i. (placed_away at (step from c).gives ∙ sym (placed_away n (step from c).gives)) i ++ said_from (step from c).place (suc at) (suc n) cs i)
-    ∙ sym (map-append (λ (p : ℕ × Event). p.1) (placed n (step from c).gives) (run (step from c).place (suc n) cs))
+    map-append (λ (p : ℕ × Event). p.1) (placed at (step from c).gives)
+    (run (step from c).place (suc at) cs)
+    ∙ (λ i. (placed_away at (step from c).gives ∙ sym (placed_away n (step from c).gives)) i
+    ++ said_from (step from c).place (suc at) (suc n) cs i)
+    ∙ sym (map-append (λ (p : ℕ × Event). p.1) (placed n (step from c).gives)
+    (run (step from c).place (suc n) cs))
 
-pub said-append : (from : Place) (xs cs : List Char) → said from (xs ++ cs) ≡ said from xs ++ said (place_after from xs) cs
+pub said-append : (from : Place) (xs cs : List Char)
+    → said from (xs ++ cs) ≡ said from xs ++ said (place_after from xs) cs
 said-append from xs cs =
     let n = length xs in
     ap events_of (run-append from 0 (0 + n) xs cs refl)
@@ -44,7 +49,8 @@ reads from cs = (said from cs, place_after from cs)
 abbrev pub prepended : List Event → List Event × Place → List Event × Place
 prepended es r = (es ++ r.0, r.1)
 
-symbol_said : (t : Text) (k : Pending) (s : Fields) → InRange s → said (place t k) (symbol_chars_of s) ≡ broken_off k ++ told (begins_in t k) s
+symbol_said : (t : Text) (k : Pending) (s : Fields) → InRange s
+    → said (place t k) (symbol_chars_of s) ≡ broken_off k ++ told (begins_in t k) s
 symbol_said t k s range =
     let tells = told (begins_in t k) s in
     ap events_of (run-symbol_anywhere t k 0 s range)
@@ -53,9 +59,14 @@ symbol_said t k s range =
 
 -- A symbol, from any place, and more characters.
 pub symbol_reads : (t : Text) (k : Pending) (s : Fields) (cs : List Char) → InRange s
-    → reads (place t k) (symbol_chars_of s ++ cs) ≡ prepended (broken_off k ++ told (begins_in t k) s) (reads (place (text_after (begins_in t k) s.s1) Nothing) cs)
+    → reads (place t k) (symbol_chars_of s ++ cs)
+    ≡ prepended (broken_off k ++ told (begins_in t k) s)
+    (reads (place (text_after (begins_in t k) s.s1) Nothing) cs)
 symbol_reads t k s cs range =
     let from = place t k in
     let xs = symbol_chars_of s in
     (λ i. (said-append from xs cs i, place_after-append from xs cs i))
-    ∙ (λ i. (symbol_said t k s range i ++ said (place_after-symbol_anywhere t k s range i) cs, place_after (place_after-symbol_anywhere t k s range i) cs))
+    ∙ (λ i. (
+      symbol_said t k s range i ++ said (place_after-symbol_anywhere t k s range i) cs,
+      place_after (place_after-symbol_anywhere t k s range i) cs,
+    ))

@@ -19,37 +19,49 @@ use Rattle.link_rest.specs.Settling.{Drains, Recovers, SendsAll, Settles}
 use Rattle.link_rest.specs.Rest.{IsAtRest, IsDone, IsSettled}
 use Rattle.link_rest.proofs.Drains.{goes_found, goes-append, on_state, AreEmpty, drain_rests}
 use Rattle.link_rest.proofs.Recovery.{recovers}
-use Rattle.link_rest.proofs.Sending.{Quiet, sends_all}
+use Rattle.link_rest.proofs.SendingRounds.{Quiet}
+use Rattle.link_rest.proofs.Sending.{sends_all}
 
 none_lent : (p q : PortState) → IsAtRest p q → lent p q ≡ []
 none_lent p q rests =
-    ap (λ (o : Output). packets_of (take (distance (oldest_of o) (expected_of q.input)) (prios_of o)) p.queued) rests.sender_ok
-    ∙ ap (λ (prios : List ℕ). packets_of prios p.queued) (take_all (distance rests.ack (expected_of q.input)) [] (omega arith))
+    ap (λ (o : Output). packets_of
+    (take (distance (oldest_of o) (expected_of q.input)) (prios_of o)) p.queued) rests.sender_ok
+    ∙ ap (λ (prios : List ℕ). packets_of prios p.queued)
+    (take_all (distance rests.ack (expected_of q.input)) [] (omega arith))
 
 -- what a side left undone does not change where the other sends
-still_done : (p q p2 q2 : PortState) → p2.queued ≡ p.queued → q2.received ≡ q.received → IsDone p q → IsDone p2 q2
+still_done : (p q p2 q2 : PortState) → p2.queued ≡ p.queued → q2.received ≡ q.received → IsDone p q
+    → IsDone p2 q2
 still_done p q p2 q2 same store (inl none) = inl (ap highest same ∙ none)
 still_done p q p2 q2 same store (inr blocked) = inr (record {
   prio = blocked.prio;
   packet = blocked.packet;
   highest_is = ap highest same ∙ blocked.highest_is;
-  first = ap (λ (lists : List (List (List ℕ))). slice_get (list_at lists blocked.prio) 0) same ∙ blocked.first;
+  first =
+      ap (λ (lists : List (List (List ℕ))). slice_get (list_at lists blocked.prio) 0) same
+      ∙ blocked.first;
   full = ap (λ (b : Buffered). room_for b (prio_of blocked.packet)) store ∙ blocked.full;
 })
 
 -- ---- one part after another
 
 -- a part that leads from one thing that is true of a link to the next
-abbrev pub Leads : (LinkState → Type 0) → (Reached → List Act → Type 0) → (LinkState → Type 0) → Type 0
-Leads P Part Q = (s : LinkState) (all : List Act) → P s → Part (At s) all → OnState Q (goes (At s) all)
+abbrev pub Leads : (LinkState → Type 0) → (Reached → List Act → Type 0) → (LinkState → Type 0)
+    → Type 0
+Leads P Part Q =
+    (s : LinkState) (all : List Act) → P s → Part (At s) all → OnState Q (goes (At s) all)
 
-pub go_on : (P : LinkState → Type 0) (Part : Reached → List Act → Type 0) (Q : LinkState → Type 0) → Leads P Part Q → (r : Reached) (all : List Act) → OnState P r → Part r all → OnState Q (goes r all)
+pub go_on : (P : LinkState → Type 0) (Part : Reached → List Act → Type 0) (Q : LinkState → Type 0)
+    → Leads P Part Q → (r : Reached) (all : List Act) → OnState P r → Part r all
+    → OnState Q (goes r all)
 go_on P Part Q leads (At s) all h does = leads s all h does
 go_on P Part Q leads (Found side e) all h does = rw (goes_found side e all) tt
 
-next_leads : (P Q R : LinkState → Type 0) (First Then : Reached → List Act → Type 0) → Leads P First Q → Leads Q Then R → Leads P (NextOf goes First Then) R
+next_leads : (P Q R : LinkState → Type 0) (First Then : Reached → List Act → Type 0)
+    → Leads P First Q → Leads Q Then R → Leads P (NextOf goes First Then) R
 next_leads P Q R First Then first next s all h (front, rest, split, does, more) =
-    subst (λ (r : Reached). OnState R r) (sym (ap (goes (At s)) split ∙ goes-append front rest (At s)))
+    subst (λ (r : Reached). OnState R r)
+    (sym (ap (goes (At s)) split ∙ goes-append front rest (At s)))
     (go_on Q Then R next (goes (At s) front) rest (first s front h does) more)
 
 abbrev pub Drained : LinkState → Type 0
@@ -68,27 +80,50 @@ abbrev pub BothDone : LinkState → Type 0
 BothDone s = Quiet A s × IsDone s.a s.b × IsDone s.b s.a
 
 pub turned_quiet : (s : LinkState) → Quiet A s → Quiet B s
-turned_quiet s quiet = record { sound = quiet.sound; none = quiet.none; out = quiet.into; into = quiet.out }
+turned_quiet s quiet = record {
+  sound = quiet.sound;
+  none = quiet.none;
+  out = quiet.into;
+  into = quiet.out;
+}
 
 first_quiet : (s : LinkState) → Quiet B s → Quiet A s
-first_quiet s quiet = record { sound = quiet.sound; none = quiet.none; out = quiet.into; into = quiet.out }
+first_quiet s quiet = record {
+  sound = quiet.sound;
+  none = quiet.none;
+  out = quiet.into;
+  into = quiet.out;
+}
 
 pub drains_lead : Leads IsSoundLink Drains Drained
 drains_lead s all l does = drain_rests s all l does
 
 pub first_recovers : Leads Drained (Recovers A) FirstRests
-first_recovers s all h does = on_state (goes (At s) all) (λ m x. ((x.kept.sound, x.kept.none), x.rests)) (recovers A s all h.0 h.1 does)
+first_recovers s all h does =
+    on_state (goes (At s) all) (λ m x. ((x.kept.sound, x.kept.none), x.rests))
+    (recovers A s all h.0 h.1 does)
 
 pub second_recovers : Leads FirstRests (Recovers B) BothRest
 second_recovers s all h does =
-    on_state (goes (At s) all) (λ m x. record { sound = x.kept.sound; none = x.kept.none; out = x.kept.other h.1; into = x.rests }) (recovers B s all h.0.0 h.0.1 does)
+    on_state (goes (At s) all) (λ m x. record {
+      sound = x.kept.sound;
+      none = x.kept.none;
+      out = x.kept.other h.1;
+      into = x.rests;
+    }) (recovers B s all h.0.0 h.0.1 does)
 
 pub first_sends : Leads BothRest (SendsAll A) FirstDone
-first_sends s all h does = on_state (goes (At s) all) (λ m x. (x.quiet, x.done)) (sends_all A s all h does)
+first_sends s all h does =
+    on_state (goes (At s) all) (λ m x. (x.quiet, x.done)) (sends_all A s all h does)
 
 second_sends : Leads FirstDone (SendsAll B) BothDone
 second_sends s all h does =
-    on_state (goes (At s) all) (λ m x. (first_quiet m x.quiet, still_done s.a s.b m.a m.b x.beside.queued x.beside.received h.1, x.done)) (sends_all B s all (turned_quiet s h.0) does)
+    on_state (goes (At s) all) (λ m x. (
+      first_quiet m x.quiet,
+      still_done s.a s.b m.a m.b x.beside.queued x.beside.received h.1,
+      x.done,
+    ))
+    (sends_all B s all (turned_quiet s h.0) does)
 
 settled : (s : LinkState) → BothDone s → IsSettled s
 settled s h = record {
@@ -100,16 +135,28 @@ settled s h = record {
 }
 
 sends_lead : Leads BothRest (NextOf goes (SendsAll A) (SendsAll B)) BothDone
-sends_lead = next_leads BothRest FirstDone BothDone (SendsAll A) (SendsAll B) first_sends second_sends
+sends_lead =
+    next_leads BothRest FirstDone BothDone (SendsAll A) (SendsAll B) first_sends second_sends
 
-second_lead : Leads FirstRests (NextOf goes (Recovers B) (NextOf goes (SendsAll A) (SendsAll B))) BothDone
-second_lead = next_leads FirstRests BothRest BothDone (Recovers B) (NextOf goes (SendsAll A) (SendsAll B)) second_recovers sends_lead
+second_lead : Leads FirstRests (NextOf goes (Recovers B) (NextOf goes (SendsAll A) (SendsAll B)))
+    BothDone
+second_lead =
+    next_leads FirstRests BothRest BothDone (Recovers B) (NextOf goes (SendsAll A) (SendsAll B))
+    second_recovers sends_lead
 
-first_lead : Leads Drained (NextOf goes (Recovers A) (NextOf goes (Recovers B) (NextOf goes (SendsAll A) (SendsAll B)))) BothDone
-first_lead = next_leads Drained FirstRests BothDone (Recovers A) (NextOf goes (Recovers B) (NextOf goes (SendsAll A) (SendsAll B))) first_recovers second_lead
+first_lead : Leads Drained
+    (NextOf goes (Recovers A) (NextOf goes (Recovers B) (NextOf goes (SendsAll A) (SendsAll B))))
+    BothDone
+first_lead =
+    next_leads Drained FirstRests BothDone (Recovers A)
+    (NextOf goes (Recovers B) (NextOf goes (SendsAll A) (SendsAll B))) first_recovers second_lead
 
--- Settling ends at rest, from every sound state, however the framers stood, if every event that was acted on was sent.
-pub settling_rests : (s : LinkState) (all : List Act) → IsSoundLink s → Settles (At s) all → OnState (λ m. IsSoundLink m × IsSettled m) (goes (At s) all)
+-- Settling ends at rest, from every sound state, however the framers stood, if every event that was
+-- acted on was sent.
+pub settling_rests : (s : LinkState) (all : List Act) → IsSoundLink s → Settles (At s) all
+    → OnState (λ m. IsSoundLink m × IsSettled m) (goes (At s) all)
 settling_rests s all l does =
     on_state (goes (At s) all) (λ m x. (x.0.sound, settled m x))
-    (next_leads IsSoundLink Drained BothDone Drains (NextOf goes (Recovers A) (NextOf goes (Recovers B) (NextOf goes (SendsAll A) (SendsAll B)))) drains_lead first_lead s all l does)
+    (next_leads IsSoundLink Drained BothDone Drains
+    (NextOf goes (Recovers A) (NextOf goes (Recovers B) (NextOf goes (SendsAll A) (SendsAll B))))
+    drains_lead first_lead s all l does)

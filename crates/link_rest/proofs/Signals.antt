@@ -59,19 +59,23 @@ reply_broken (Opened d) input = (receives (Arrival.Damaged 5) input).reply
 reply_broken (One d x) input = (receives (Arrival.Damaged 5) input).reply
 reply_broken (Two d x y) input = (receives (Arrival.Damaged 5) input).reply
 
-pub break_led : (p : PortState) (k : Pending) → led p (broken_off k) ≡ record p { input = input_broken k p.input }
+pub break_led : (p : PortState) (k : Pending)
+    → led p (broken_off k) ≡ record p { input = input_broken k p.input }
 unfolding led
 break_led p Nothing = refl
 break_led p (Opened d) = refl
 break_led p (One d x) = refl
 break_led p (Two d x y) = refl
 
-pub break_replies : (p : PortState) (k : Pending) → replies p (broken_off k) ≡ option_to_list (reply_broken k p.input)
+pub break_replies : (p : PortState) (k : Pending)
+    → replies p (broken_off k) ≡ option_to_list (reply_broken k p.input)
 unfolding replies
 break_replies p Nothing = refl
-break_replies p (Opened d) = append-nil (option_to_list (receives (Arrival.Damaged 5) p.input).reply)
+break_replies p (Opened d) =
+    append-nil (option_to_list (receives (Arrival.Damaged 5) p.input).reply)
 break_replies p (One d x) = append-nil (option_to_list (receives (Arrival.Damaged 5) p.input).reply)
-break_replies p (Two d x y) = append-nil (option_to_list (receives (Arrival.Damaged 5) p.input).reply)
+break_replies p (Two d x y) =
+    append-nil (option_to_list (receives (Arrival.Damaged 5) p.input).reply)
 
 -- ---- a symbol that ends whatever was in progress
 
@@ -84,9 +88,13 @@ pub record IsSignal (s : Fields) (what : Arrival) : Type 0 where
   pub arrival : symbol_arrival s.s1 s.cmd ≡ what
 
 -- what a symbol does, by what the two halves make of it
-abbrev hearing : PortState → Heard → Received → Acted
+abbrev pub hearing : PortState → Heard → Received → Acted
 hearing port h r =
-    acted (record port { output = h.state; queued = lists_without (take h.freed (prios_of port.output)) port.queued; input = r.state })
+    acted (record port {
+      output = h.state;
+      queued = lists_without (take h.freed (prios_of port.output)) port.queued;
+      input = r.state;
+    })
     r.reply None (packets_of (take h.freed (prios_of port.output)) port.queued)
 
 other_is_ignored : (o : Output) (ack : ℕ) → hears Stype0.OtherStype0 o ack ≡ ignored o
@@ -99,22 +107,31 @@ other_is_ignored Output.Failed ack = refl
 abbrev pub input_moved : PortState → Received → Acted
 input_moved port r = acted (record port { input = r.state }) r.reply None []
 
-pub status_acts : (p : PortState) (s : Fields) → stype0 s.s0 ≡ Stype0.OtherStype0 → acts_symbol p s ≡ input_moved p (receives (symbol_arrival s.s1 s.cmd) p.input)
+pub status_acts : (p : PortState) (s : Fields) → stype0 s.s0 ≡ Stype0.OtherStype0
+    → acts_symbol p s ≡ input_moved p (receives (symbol_arrival s.s1 s.cmd) p.input)
 status_acts p s status =
-    ap (λ (k : Stype0). hearing p (hears k p.output s.p0) (receives (symbol_arrival s.s1 s.cmd) p.input)) status
-    ∙ ap (λ (h : Heard). hearing p h (receives (symbol_arrival s.s1 s.cmd) p.input)) (other_is_ignored p.output s.p0)
+    ap (λ (k : Stype0). hearing p (hears k p.output s.p0)
+    (receives (symbol_arrival s.s1 s.cmd) p.input)) status
+    ∙ ap (λ (h : Heard). hearing p h (receives (symbol_arrival s.s1 s.cmd) p.input))
+    (other_is_ignored p.output s.p0)
 
-signal_acts : (p : PortState) (s : Fields) (what : Arrival) → IsSignal s what → acts p (Ctl s) ≡ input_moved p (receives what p.input)
-signal_acts p s what is = status_acts p s is.status ∙ ap (λ (a : Arrival). input_moved p (receives a p.input)) is.arrival
+signal_acts : (p : PortState) (s : Fields) (what : Arrival) → IsSignal s what
+    → acts p (Ctl s) ≡ input_moved p (receives what p.input)
+signal_acts p s what is =
+    status_acts p s is.status ∙ ap (λ (a : Arrival). input_moved p (receives a p.input)) is.arrival
 
-signal_reads : (from : Place) (s : Fields) (what : Arrival) → IsSignal s what → reads from (symbol_chars_of s) ≡ (broken_off from.pending ++ Ctl s ∷ [], start)
+signal_reads : (from : Place) (s : Fields) (what : Arrival) → IsSignal s what
+    → reads from (symbol_chars_of s) ≡ (broken_off from.pending ++ Ctl s ∷ [], start)
 unfolding run place_after
 signal_reads from s what is =
     let u = begins_in from.text from.pending in
     ap (reads from) (sym (append-nil (symbol_chars_of s)))
     ∙ symbol_reads from.text from.pending s [] is.range
-    ∙ ap (λ (es : List Event). prepended (broken_off from.pending ++ es) (reads (place (text_after u s.s1) Nothing) [])) (is.tells u)
-    ∙ ap (λ (v : Text). prepended (broken_off from.pending ++ Ctl s ∷ []) (reads (place v Nothing) [])) (is.plain u)
+    ∙ ap (λ (es : List Event). prepended (broken_off from.pending ++ es)
+    (reads (place (text_after u s.s1) Nothing) [])) (is.tells u)
+    ∙ ap
+    (λ (v : Text). prepended (broken_off from.pending ++ Ctl s ∷ []) (reads (place v Nothing) []))
+    (is.plain u)
     ∙ ap (λ (es : List Event). (es, start)) (append-nil (broken_off from.pending ++ Ctl s ∷ []))
 
 -- the input half after it, and the answers
@@ -122,17 +139,22 @@ abbrev pub input_signalled : Arrival → Pending → Input → Input
 input_signalled what k input = (receives what (input_broken k input)).state
 
 abbrev pub replies_signalled : Arrival → Pending → Input → List Fields
-replies_signalled what k input = option_to_list (reply_broken k input) ++ option_to_list (receives what (input_broken k input)).reply
+replies_signalled what k input =
+    option_to_list (reply_broken k input)
+    ++ option_to_list (receives what (input_broken k input)).reply
 
 pub signal_fed : (p : PortState) (s : Fields) (what : Arrival) → IsSignal s what
-    → fed p (symbol_chars_of s) ≡ record p { input = input_signalled what p.place.pending p.input; place = start }
+    → fed p (symbol_chars_of s)
+    ≡ record p { input = input_signalled what p.place.pending p.input; place = start }
 unfolding led
 signal_fed p s what is =
     let k = p.place.pending in
     fed_is p (symbol_chars_of s)
     ∙ ap (fed_by p) (signal_reads p.place s what is)
-    ∙ ap (λ (q : PortState). record q { place = start }) (led-append p (broken_off k) (Ctl s ∷ []) ∙ ap (λ (q : PortState). (acts q (Ctl s)).port) (break_led p k))
-    ∙ ap (λ (a : Acted). record a.port { place = start }) (signal_acts (record p { input = input_broken k p.input }) s what is)
+    ∙ ap (λ (q : PortState). record q { place = start }) (led-append p (broken_off k) (Ctl s ∷ [])
+    ∙ ap (λ (q : PortState). (acts q (Ctl s)).port) (break_led p k))
+    ∙ ap (λ (a : Acted). record a.port { place = start })
+    (signal_acts (record p { input = input_broken k p.input }) s what is)
 
 pub signal_answered : (p : PortState) (s : Fields) (what : Arrival) → IsSignal s what
     → answered p (symbol_chars_of s) ≡ replies_signalled what p.place.pending p.input
@@ -143,9 +165,12 @@ signal_answered p s what is =
     ∙ ap (λ (r : List Event × Place). replies p r.0) (signal_reads p.place s what is)
     ∙ replies-append p (broken_off k) (Ctl s ∷ [])
     ∙ ap (λ (r : List Fields). r ++ replies (led p (broken_off k)) (Ctl s ∷ [])) (break_replies p k)
-    ∙ ap (λ (q : PortState). option_to_list (reply_broken k p.input) ++ replies q (Ctl s ∷ [])) (break_led p k)
-    ∙ ap (λ (a : Acted). option_to_list (reply_broken k p.input) ++ (option_to_list a.reply ++ [])) (signal_acts (record p { input = input_broken k p.input }) s what is)
-    ∙ ap (λ (r : List Fields). option_to_list (reply_broken k p.input) ++ r) (append-nil (option_to_list (receives what (input_broken k p.input)).reply))
+    ∙ ap (λ (q : PortState). option_to_list (reply_broken k p.input) ++ replies q (Ctl s ∷ []))
+    (break_led p k)
+    ∙ ap (λ (a : Acted). option_to_list (reply_broken k p.input) ++ (option_to_list a.reply ++ []))
+    (signal_acts (record p { input = input_broken k p.input }) s what is)
+    ∙ ap (λ (r : List Fields). option_to_list (reply_broken k p.input) ++ r)
+    (append-nil (option_to_list (receives what (input_broken k p.input)).reply))
 
 -- ---- answers come back
 
@@ -154,25 +179,30 @@ abbrev pub text_answered : List Fields → Text → Text
 text_answered [] text = text
 text_answered (s ∷ ss) text = opened text
 
-pub unbroken_reads : (t : Text) (ss : List Fields) → AreAnswers ss → reads (place t Nothing) (chars_of ss) ≡ (controls ss, place (text_answered ss t) Nothing)
+pub unbroken_reads : (t : Text) (ss : List Fields) → AreAnswers ss
+    → reads (place t Nothing) (chars_of ss) ≡ (controls ss, place (text_answered ss t) Nothing)
 unfolding chars_of controls run place_after
 unbroken_reads t [] are = refl
 unbroken_reads t (s ∷ ss) are = first_breaks t Nothing s ss are
 
-pub resting_answered : (ss : List Fields) (t : Text) → at_rest (place t Nothing) ≡ true → at_rest (place (text_answered ss t) Nothing) ≡ true
+pub resting_answered : (ss : List Fields) (t : Text) → at_rest (place t Nothing) ≡ true
+    → at_rest (place (text_answered ss t) Nothing) ≡ true
 resting_answered [] t rests = rests
 resting_answered (s ∷ ss) Plain rests = refl
 resting_answered (s ∷ ss) Skipped rests = refl
 resting_answered (s ∷ ss) (Within bytes) rests = absurd cc
 
 -- where no symbol is in progress, answers leave the input half as it is, and have no answer
-pub unbroken_leaves : (p : PortState) (t : Text) (ss : List Fields) → p.place ≡ place t Nothing → AreAnswers ss
-    → LeavesInput p (fed p (chars_of ss)) (answered p (chars_of ss)) × ((fed p (chars_of ss)).place ≡ place (text_answered ss t) Nothing)
+pub unbroken_leaves : (p : PortState) (t : Text) (ss : List Fields) → p.place ≡ place t Nothing
+    → AreAnswers ss
+    → LeavesInput p (fed p (chars_of ss)) (answered p (chars_of ss))
+    × ((fed p (chars_of ss)).place ≡ place (text_answered ss t) Nothing)
 unbroken_leaves p t ss there are =
     let r = ap (λ (from : Place). reads from (chars_of ss)) there ∙ unbroken_reads t ss are in
     let leaves = answers_leave p ss are in
     let fed_to = fed_is p (chars_of ss) ∙ ap (fed_by p) r in
-    let said_to = answered_is p (chars_of ss) ∙ ap (λ (x : List Event × Place). replies p x.0) r in (
+    let said_to =
+    answered_is p (chars_of ss) ∙ ap (λ (x : List Event × Place). replies p x.0) r in (
       record {
         input = ap (λ (q : PortState). q.input) fed_to ∙ leaves.input;
         received = ap (λ (q : PortState). q.received) fed_to ∙ leaves.received;
@@ -182,21 +212,28 @@ unbroken_leaves p t ss there are =
     )
 
 -- after an answer no symbol is in progress
-pub answers_end : (p : PortState) (s : Fields) (ss : List Fields) → AreAnswers (s ∷ ss) → (fed p (chars_of (s ∷ ss))).place ≡ place (begins_in p.place.text p.place.pending) Nothing
-answers_end p s ss are = ap (λ (q : PortState). q.place) (fed_is p (chars_of (s ∷ ss)) ∙ ap (fed_by p) (first_breaks p.place.text p.place.pending s ss are))
+pub answers_end : (p : PortState) (s : Fields) (ss : List Fields) → AreAnswers (s ∷ ss)
+    → (fed p (chars_of (s ∷ ss))).place ≡ place (begins_in p.place.text p.place.pending) Nothing
+answers_end p s ss are =
+    ap (λ (q : PortState). q.place) (fed_is p (chars_of (s ∷ ss))
+    ∙ ap (fed_by p) (first_breaks p.place.text p.place.pending s ss are))
 
 -- Of answers, what is answered to those, and what is answered to that: it has no answer.
-pub third_is_silent : (q p : PortState) (second fourth : List Fields) → AreAnswers second → AreAnswers fourth
+pub third_is_silent : (q p : PortState) (second fourth : List Fields) → AreAnswers second
+    → AreAnswers fourth
     → fourth ≡ answered p (chars_of (answered q (chars_of second)))
     → answered (fed q (chars_of second)) (chars_of fourth) ≡ []
 unfolding chars_of
 third_is_silent q p [] fourth are answer is =
     let none : answered q [] ≡ [] = answered_none q in
-    let silent : fourth ≡ [] = is ∙ ap (λ (r : List Fields). answered p (chars_of r)) none ∙ answered_none p in
+    let silent : fourth ≡ [] =
+    is ∙ ap (λ (r : List Fields). answered p (chars_of r)) none ∙ answered_none p in
     ap (λ (r : List Fields). answered (fed q []) (chars_of r)) silent ∙ answered_none (fed q [])
 third_is_silent q p (s ∷ ss) fourth are answer is =
     let next = fed q (chars_of (s ∷ ss)) in
-    let leaves = unbroken_leaves next (begins_in q.place.text q.place.pending) fourth (answers_end q s ss are) answer in
+    let leaves =
+    unbroken_leaves next (begins_in q.place.text q.place.pending) fourth
+    (answers_end q s ss are) answer in
     leaves.0.silent
 
 -- ---- a sender that has nothing on its way
@@ -216,7 +253,9 @@ down_accepted w ack none = rw (none_oldest w ack none) tt
 down_retried : (w : Outstanding) (ack : ℕ) → w.prios ≡ [] → IsDown (retried w ack).state
 down_retried w ack none = rw (none_oldest w ack none) tt
 
-down_responded : (within : Bool) (w : Outstanding) (ack count : ℕ) → IsDown (if within then heard (Output.Ok (from_ack ack)) count else heard Output.Failed 0).state
+down_responded : (within : Bool) (w : Outstanding) (ack count : ℕ)
+    → IsDown
+    (if within then heard (Output.Ok (from_ack ack)) count else heard Output.Failed 0).state
 down_responded true w ack count = refl
 down_responded false w ack count = tt
 
@@ -236,7 +275,8 @@ down_heard Stype0.PacketNotAccepted Output.Failed ack down = tt
 down_heard Stype0.LinkResponse (Output.Ok w) ack down = down
 down_heard Stype0.LinkResponse (Output.RetryStopped w) ack down = down
 down_heard Stype0.LinkResponse (Output.ErrorStopped false w) ack down = tt
-down_heard Stype0.LinkResponse (Output.ErrorStopped true w) ack down = down_responded (nat_le (distance w.oldest ack) (length w.prios)) w ack (distance w.oldest ack)
+down_heard Stype0.LinkResponse (Output.ErrorStopped true w) ack down =
+    down_responded (nat_le (distance w.oldest ack) (length w.prios)) w ack (distance w.oldest ack)
 down_heard Stype0.LinkResponse Output.Failed ack down = tt
 down_heard Stype0.OtherStype0 (Output.Ok w) ack down = down
 down_heard Stype0.OtherStype0 (Output.RetryStopped w) ack down = down
@@ -246,7 +286,8 @@ down_heard Stype0.OtherStype0 Output.Failed ack down = tt
 pub down_led : (p : PortState) (es : List Event) → IsDown p.output → IsDown (led p es).output
 unfolding led
 down_led p [] down = down
-down_led p (Ctl s ∷ es) down = down_led (acts p (Ctl s)).port es (down_heard (stype0 s.s0) p.output s.p0 down)
+down_led p (Ctl s ∷ es) down =
+    down_led (acts p (Ctl s)).port es (down_heard (stype0 s.s0) p.output s.p0 down)
 down_led p (Pkt ack packet ∷ es) down = down_led (acts p (Pkt ack packet)).port es down
 down_led p (Bad cause ∷ es) down = down_led (acts p (Bad cause)).port es down
 
@@ -257,7 +298,8 @@ down_fed p cs down = down_led p (said p.place cs) down
 -- ---- a link-request and its response
 
 -- a link-request is answered by a link-response, and the input half takes packets
-pub request_input : (k : Pending) (i : Input) → input_signalled Arrival.LinkRequest k i ≡ Input.Ok (expected_of i)
+pub request_input : (k : Pending) (i : Input)
+    → input_signalled Arrival.LinkRequest k i ≡ Input.Ok (expected_of i)
 request_input Nothing (Input.Ok e) = refl
 request_input Nothing (Input.RetryStopped e) = refl
 request_input Nothing (Input.ErrorStopped e) = refl
@@ -276,14 +318,16 @@ unfoldable pub output_after : Output → List Fields → Output
 output_after o [] = o
 output_after o (s ∷ ss) = output_after (hears (stype0 s.s0) o s.p0).state ss
 
-pub output_led : (p : PortState) (ss : List Fields) → (led p (controls ss)).output ≡ output_after p.output ss
+pub output_led : (p : PortState) (ss : List Fields)
+    → (led p (controls ss)).output ≡ output_after p.output ss
 unfolding led controls output_after
 output_led p [] = refl
 output_led p (s ∷ ss) = output_led (acts p (Ctl s)).port ss
 
 -- a sender that has asked hears the answers to its link-request
 pub response_heard : (k : Pending) (i : Input) (w : Outstanding)
-    → output_after (Output.ErrorStopped true w) (replies_signalled Arrival.LinkRequest k i) ≡ (responded true w (expected_of i)).state
+    → output_after (Output.ErrorStopped true w) (replies_signalled Arrival.LinkRequest k i)
+    ≡ (responded true w (expected_of i)).state
 unfolding output_after
 response_heard Nothing (Input.Ok e) w = refl
 response_heard Nothing (Input.RetryStopped e) w = refl
@@ -299,10 +343,15 @@ response_heard (Two d x y) (Input.RetryStopped e) w = refl
 response_heard (Two d x y) (Input.ErrorStopped e) w = refl
 
 responded_by : (within : Bool) (ack count : ℕ)
-    → ((if within then heard (Output.Ok (from_ack ack)) count else heard Output.Failed 0).state ≡ Output.Ok (from_ack ack))
-    ⊎ ((if within then heard (Output.Ok (from_ack ack)) count else heard Output.Failed 0).state ≡ Output.Failed)
+    → ((if within then heard (Output.Ok (from_ack ack)) count else heard Output.Failed 0).state
+    ≡ Output.Ok (from_ack ack))
+    ⊎ ((if within then heard (Output.Ok (from_ack ack)) count else heard Output.Failed 0).state
+    ≡ Output.Failed)
 responded_by true ack count = inl refl
 responded_by false ack count = inr refl
 
-pub response_is : (w : Outstanding) (ack : ℕ) → ((responded true w ack).state ≡ Output.Ok (from_ack ack)) ⊎ ((responded true w ack).state ≡ Output.Failed)
-response_is w ack = responded_by (nat_le (distance w.oldest ack) (length w.prios)) ack (distance w.oldest ack)
+pub response_is : (w : Outstanding) (ack : ℕ)
+    → ((responded true w ack).state ≡ Output.Ok (from_ack ack))
+    ⊎ ((responded true w ack).state ≡ Output.Failed)
+response_is w ack =
+    responded_by (nat_le (distance w.oldest ack) (length w.prios)) ack (distance w.oldest ack)

@@ -1,10 +1,9 @@
 -- What a port becomes of events, of characters and of symbols, by the tables alone, and what it
 -- answers.
-use Rattle.std.specs.Prelude.{◌≡◌, List, [], ◌∷◌, map}
+use Rattle.std.specs.Prelude.{List, [], ◌∷◌, map}
 use Rattle.std.specs.List.{flat_map}
 use Rattle.rio_chars.specs.declared.chars.Char.{Char}
-use Rattle.rio_symbols.specs.declared.stype1.TheConstants.{NOP}
-use Rattle.rio_symbols.specs.Fields.{Fields, InRange}
+use Rattle.rio_symbols.specs.Fields.{Fields}
 use Rattle.link_model.specs.declared.event.Event.{Event}
 use Rattle.link_model.specs.declared.event.Event.TheVariants.{Ctl}
 use Rattle.link_model.specs.Places.{place_after}
@@ -12,6 +11,7 @@ use Rattle.link_model.specs.ReadingSpelt.{symbol_chars_of}
 use Rattle.link_port.specs.Ports.{PortState}
 use Rattle.link_port.specs.Steps.{acts}
 use Rattle.link_port.specs.Acts.{replies}
+pub use Rattle.link_port.specs.Answers.{IsAnswer}
 use Rattle.link_model.specs.Said.{said}
 
 -- events, one after another
@@ -33,11 +33,7 @@ chars_of symbols = flat_map symbol_chars_of symbols
 unfoldable pub controls : List Fields → List Event
 controls symbols = map (λ symbol. Ctl symbol) symbols
 
--- a symbol that answers: it says nothing to a receiver
-pub record IsAnswer (symbol : Fields) : Type 0 where
-  pub range : InRange symbol
-  pub nop : symbol.s1 ≡ NOP
-
+-- symbols that answer: they say nothing to a receiver
 unfoldable pub AreAnswers : List Fields → Type 0
 AreAnswers [] = Unit {0}
 AreAnswers (symbol ∷ symbols) = IsAnswer symbol × AreAnswers symbols

@@ -19,7 +19,8 @@ pub(crate) fn free_all(prios: &[u8], store: &mut OutStore, freed: &mut ArrayVec<
     }
 }
 
-/// Takes the first packet of a priority out of the store, if there is one, and appends it to `freed`.
+/// Takes the first packet of a priority out of the store, if there is one, and appends it to
+/// `freed`.
 fn free_one(prio: u8, store: &mut OutStore, freed: &mut ArrayVec<Packet, 31>)
     requires few { prio < 4 }
     requires room { array_vec_len freed.old < 31 }

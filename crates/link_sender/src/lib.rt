@@ -1,9 +1,10 @@
-//! The output half of a port as states by type (RapidIO Interconnect Specification 1.3, Part 6, packet retry and error
-//! recovery): each step consumes a state and gives the next one, by the step tables of `link_model`. A packet starts only
-//! in `OutOk`, and a restart comes only after a retry, since the other states have no such method.
+//! The output half of a port as states by type (RapidIO Interconnect Specification 1.3, Part 6,
+//! packet retry and error recovery): each step consumes a state and gives the next one, by the step
+//! tables of `link_model`. A packet starts only in `OutOk`, and a restart comes only after a retry,
+//! since the other states have no such method.
 //!
-//! Promised: each step is one entry of the table, frees the packets of the entry from the store in the order in which
-//! they were sent, and changes nothing else. No call takes memory.
+//! Promised: each step is one entry of the table, frees the packets of the entry from the store in
+//! the order in which they were sent, and changes nothing else. No call takes memory.
 //!
 //! Left out: the characters that are sent, and the input half.
 //!
@@ -31,9 +32,9 @@
 //!
 //! What is not drawn leads to no other state, as a time-out in `OutRetryStopped`.
 //!
-//! This project's profile: the highest priority goes first, also among what has to be sent again after a retry; at most
-//! `WINDOW` packets are outstanding; a time-out in `OutOk` is an error also where nothing is outstanding, and in
-//! `OutRetryStopped` it changes nothing.
+//! This project's profile: the highest priority goes first, also among what has to be sent again
+//! after a retry; at most `WINDOW` packets are outstanding; a time-out in `OutOk` is an error also
+//! where nothing is outstanding, and in `OutRetryStopped` it changes nothing.
 //!
 //! - `OutOk`, `OutRetryStopped`, `OutErrorStopped`, `OutFailed`: the states
 //! - `AfterAccepted`, `AfterRetry`, `AfterResponse`: the next state, where there is a choice

@@ -17,7 +17,8 @@ use link_buffers::OutStore;
 use rio_packets::Packet;
 use std::marker::Model;
 
-/// A sender that met an error. It keeps the outstanding packets until it learns which of them were accepted.
+/// A sender that met an error. It keeps the outstanding packets until it learns which of them were
+/// accepted.
 #[derive(Debug, Drop)]
 pub struct OutErrorStopped {
     pub(crate) outstanding: Outstanding,
@@ -33,7 +34,8 @@ impl Model for OutErrorStopped {
 }
 
 impl OutErrorStopped {
-    /// A turn of a sender that has not asked, which sends a link-request. One that has asked is unchanged.
+    /// A turn of a sender that has not asked, which sends a link-request. One that has asked is
+    /// unchanged.
     pub fn request(self) -> OutErrorStopped
         ensures { (waiting : Option ℕ)
             → turned (error_stopped result) Sends.Request
@@ -72,9 +74,10 @@ impl OutErrorStopped {
         }
     }
 
-    /// A link-response, whose ackID is the next that the far port expects. Where no link-request was sent it is
-    /// ignored. Where the outstanding packets before that ackID are no more than all of them, these leave the store
-    /// into `freed` in order, nothing is outstanding, and that ackID is the next one. Else the sender has failed.
+    /// A link-response, whose ackID is the next that the far port expects. Where no link-request
+    /// was sent it is ignored. Where the outstanding packets before that ackID are no more than all
+    /// of them, these leave the store into `freed` in order, nothing is outstanding, and that ackID
+    /// is the next one. Else the sender has failed.
     pub fn response(
         self,
         ack: u8,

@@ -43,8 +43,8 @@ impl OutOk {
         }
     }
 
-    /// Starts the first packet of the highest priority that has one which is not outstanding (this project's profile),
-    /// where fewer than `WINDOW` are outstanding. It takes the next ackID.
+    /// Starts the first packet of the highest priority that has one which is not outstanding (this
+    /// project's profile), where fewer than `WINDOW` are outstanding. It takes the next ackID.
     pub fn turn(self, store: &OutStore) -> (OutOk, Option<Started>)
         requires { Covers self.prios store.now }
         ensures entry { after_turn result.0 result.1
@@ -72,8 +72,8 @@ impl OutOk {
         (OutOk { outstanding }, Some(started))
     }
 
-    /// A packet-accepted with this ackID. Where it is that of the oldest outstanding packet, this packet leaves the
-    /// store into `freed`. Else it is an error, and both are unchanged.
+    /// A packet-accepted with this ackID. Where it is that of the oldest outstanding packet, this
+    /// packet leaves the store into `freed`. Else it is an error, and both are unchanged.
     pub fn accepted(
         self,
         ack: u8,
@@ -103,7 +103,8 @@ impl OutOk {
         AfterAccepted::Ok(OutOk { outstanding })
     }
 
-    /// A packet-retry with this ackID: it is an error unless it is that of the oldest outstanding packet.
+    /// A packet-retry with this ackID: it is an error unless it is that of the oldest outstanding
+    /// packet.
     pub fn retry(self, ack: u8) -> AfterRetry
         ensures entry { after_retry result ≡ (hears PacketRetry (Output.Ok self) ack).state }
     {

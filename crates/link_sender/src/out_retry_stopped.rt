@@ -27,7 +27,8 @@ impl Model for OutRetryStopped {
 }
 
 impl OutRetryStopped {
-    /// A turn, which sends restart-from-retry: nothing is outstanding, and the oldest ackID is the next one.
+    /// A turn, which sends restart-from-retry: nothing is outstanding, and the oldest ackID is the
+    /// next one.
     pub fn restart(self) -> OutOk
         ensures { (waiting : Option ℕ)
             → turned (Output.Ok result) Sends.Restart ≡ turns (Output.RetryStopped self) waiting }

@@ -17,7 +17,8 @@ const LOW: [u8; 8] = [0x00, 0x0f, 0x02, 0x01, 0xde, 0xb2, 0x00, 0x00];
 /// A packet of priority 3.
 const HIGH: [u8; 8] = [0x00, 0xcf, 0x02, 0x01, 0xf8, 0x45, 0x00, 0x00];
 
-/// A state as a table writes it: the oldest ackID and the number of outstanding packets, and whether it has asked.
+/// A state as a table writes it: the oldest ackID and the number of outstanding packets, and
+/// whether it has asked.
 #[derive(Clone, Copy, Debug, PartialEq, Eq)]
 enum State {
     Sending(u8, u8),
@@ -29,8 +30,9 @@ enum State {
 /// How many packets left the store, and how many of priority 3 and of priority 0 stay.
 type Packets = [usize; 3];
 
-/// The column of an output that sends. Two packets of priority 3 and two of priority 0 are to be sent, and the ackIDs
-/// begin with 30. A link-response and other symbols are ignored, and have no call.
+/// The column of an output that sends. Two packets of priority 3 and two of priority 0 are to be
+/// sent, and the ackIDs begin with 30. A link-response and other symbols are ignored, and have no
+/// call.
 #[test]
 fn an_output_that_is_ok_answers_each_event(rt: HostRuntime) -> Result<(), Fail> {
     let starts = |ack, prio, place| Some(Started { ack, prio, place });
@@ -81,8 +83,8 @@ fn an_output_that_is_ok_answers_each_event(rt: HostRuntime) -> Result<(), Fail> 
     Ok(())
 }
 
-/// The column of an output that was asked for a retry. A link-response and other symbols are ignored and a time-out
-/// changes nothing; none of them has a call.
+/// The column of an output that was asked for a retry. A link-response and other symbols are
+/// ignored and a time-out changes nothing; none of them has a call.
 #[test]
 fn an_output_that_has_to_restart_answers_each_event(rt: HostRuntime) -> Result<(), Fail> {
     let store = filled(rt.alloc(), 2)?;
@@ -106,8 +108,9 @@ fn an_output_that_has_to_restart_answers_each_event(rt: HostRuntime) -> Result<(
     Ok(())
 }
 
-/// The column of an output that met an error. All symbols but a link-response are ignored, and a turn of one that has
-/// asked sends nothing; they have no call. One that has failed has no call at all.
+/// The column of an output that met an error. All symbols but a link-response are ignored, and a
+/// turn of one that has asked sends nothing; they have no call. One that has failed has no call at
+/// all.
 #[test]
 fn an_output_that_met_an_error_answers_each_event(rt: HostRuntime) -> Result<(), Fail> {
     let store = filled(rt.alloc(), 2)?;

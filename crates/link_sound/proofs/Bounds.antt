@@ -28,55 +28,89 @@ pub covers_none : (queued : List (List (List ℕ))) → Covers [] queued
 covers_none queued prio = omega arith
 
 pub nothing_from : (ack : ℕ) → ack < 32 → IsOutstanding (from_ack ack)
-nothing_from ack below = record { oldest = below; few = omega arith; prios = All-nil (λ (prio : ℕ). prio < 4) }
+nothing_from ack below = record {
+  oldest = below;
+  few = omega arith;
+  prios = All-nil (λ (prio : ℕ). prio < 4);
+}
 
 -- the oldest packet is acknowledged
 fewer : (w : Outstanding) → IsOutstanding w → IsOutstanding (without_oldest w)
-fewer w is = record { oldest = omega arith; few = omega (arith, is.few, length-drop 1 w.prios); prios = All-drop (λ (prio : ℕ). prio < 4) 1 w.prios is.prios }
+fewer w is = record {
+  oldest = omega arith;
+  few = omega (arith, is.few, length-drop 1 w.prios);
+  prios = All-drop (λ (prio : ℕ). prio < 4) 1 w.prios is.prios;
+}
 
 -- one more packet is outstanding
-more : (w : Outstanding) (prio : ℕ) → length w.prios < window → prio < 4 → IsOutstanding w → IsOutstanding (with_next w prio)
+more : (w : Outstanding) (prio : ℕ) → length w.prios < window → prio < 4 → IsOutstanding w
+    → IsOutstanding (with_next w prio)
 more w prio room few is = record {
   oldest = is.oldest;
   few = omega (arith, length-append w.prios (prio ∷ []));
-  prios = All-append (λ (p : ℕ). p < 4) w.prios (prio ∷ []) is.prios (All-cons (λ (p : ℕ). p < 4) prio [] few (All-nil (λ (p : ℕ). p < 4)));
+  prios =
+      All-append (λ (p : ℕ). p < 4) w.prios (prio ∷ []) is.prios
+      (All-cons (λ (p : ℕ). p < 4) prio [] few (All-nil (λ (p : ℕ). p < 4)));
 }
 
 -- a turn
-started_sends : (w : Outstanding) (queued : List (List (List ℕ))) (waiting : Option ℕ) → length w.prios < window → highest (lists_without w.prios queued) ≡ waiting → IsSender (Output.Ok w) queued → IsSender (started w waiting).state queued
+started_sends : (w : Outstanding) (queued : List (List (List ℕ))) (waiting : Option ℕ)
+    → length w.prios < window → highest (lists_without w.prios queued) ≡ waiting
+    → IsSender (Output.Ok w) queued → IsSender (started w waiting).state queued
 started_sends w queued None room waits s = s
 started_sends w queued (Some prio) room waits s = record {
-  window_is = more w prio room (highest_below-some 4 prio (lists_without w.prios queued) waits).0 s.window_is;
+  window_is =
+      more w prio room (highest_below-some 4 prio (lists_without w.prios queued) waits).0
+      s.window_is;
   covered = Covers-highest w.prios prio queued s.covered waits;
 }
 
-pub turn_sends : (output : Output) (queued : List (List (List ℕ))) → IsSender output queued → IsSender (turns output (highest (lists_without (prios_of output) queued))).state queued
+pub turn_sends : (output : Output) (queued : List (List (List ℕ))) → IsSender output queued
+    → IsSender (turns output (highest (lists_without (prios_of output) queued))).state queued
 turn_sends (Output.Ok w) queued s =
     elim (cases_lt (length w.prios) window) [
-      | inl few ↦ rw (startable-open w (highest (lists_without w.prios queued)) few) (started_sends w queued (highest (lists_without w.prios queued)) few refl s)
+      | inl few ↦ rw (startable-open w (highest (lists_without w.prios queued)) few)
+          (started_sends w queued (highest (lists_without w.prios queued)) few refl s)
       | inr full ↦ rw (startable-full w (highest (lists_without w.prios queued)) full) s
     ]
-turn_sends (Output.RetryStopped w) queued s = record { window_is = nothing_from w.oldest s.window_is.oldest; covered = covers_none queued }
-turn_sends (Output.ErrorStopped false w) queued s = record { window_is = s.window_is; covered = s.covered }
+turn_sends (Output.RetryStopped w) queued s = record {
+  window_is = nothing_from w.oldest s.window_is.oldest;
+  covered = covers_none queued;
+}
+turn_sends (Output.ErrorStopped false w) queued s = record {
+  window_is = s.window_is;
+  covered = s.covered;
+}
 turn_sends (Output.ErrorStopped true w) queued s = s
 turn_sends Output.Failed queued s = s
 
 -- a time-out
-pub time_out_sends : (output : Output) (queued : List (List (List ℕ))) → IsSender output queued → IsSender (times_out output) queued
+pub time_out_sends : (output : Output) (queued : List (List (List ℕ))) → IsSender output queued
+    → IsSender (times_out output) queued
 time_out_sends (Output.Ok w) queued s = record { window_is = s.window_is; covered = s.covered }
 time_out_sends (Output.RetryStopped w) queued s = s
-time_out_sends (Output.ErrorStopped asked w) queued s = record { window_is = s.window_is; covered = s.covered }
+time_out_sends (Output.ErrorStopped asked w) queued s = record {
+  window_is = s.window_is;
+  covered = s.covered;
+}
 time_out_sends Output.Failed queued s = s
 
 -- what comes back
-accepted_sends : (w : Outstanding) (ack : ℕ) (queued : List (List (List ℕ))) → IsSender (Output.Ok w) queued → IsSender (accepted w ack).state (lists_without (take (accepted w ack).freed w.prios) queued)
+accepted_sends : (w : Outstanding) (ack : ℕ) (queued : List (List (List ℕ)))
+    → IsSender (Output.Ok w) queued
+    → IsSender (accepted w ack).state (lists_without (take (accepted w ack).freed w.prios) queued)
 accepted_sends w ack queued s =
     elim (oldest_cases w ack) [
-      | inl (holds, same) ↦ rw holds (record { window_is = fewer w s.window_is; covered = Covers-drop 1 w.prios queued s.covered })
+      | inl (holds, same) ↦ rw holds (record {
+        window_is = fewer w s.window_is;
+        covered = Covers-drop 1 w.prios queued s.covered;
+      })
       | inr fails ↦ rw fails (record { window_is = s.window_is; covered = s.covered })
     ]
 
-retried_sends : (w : Outstanding) (ack : ℕ) (queued : List (List (List ℕ))) → IsSender (Output.Ok w) queued → IsSender (retried w ack).state (lists_without (take (retried w ack).freed w.prios) queued)
+retried_sends : (w : Outstanding) (ack : ℕ) (queued : List (List (List ℕ)))
+    → IsSender (Output.Ok w) queued
+    → IsSender (retried w ack).state (lists_without (take (retried w ack).freed w.prios) queued)
 retried_sends w ack queued s =
     elim (oldest_cases w ack) [
       | inl (holds, same) ↦ rw holds (record { window_is = s.window_is; covered = s.covered })
@@ -87,13 +121,19 @@ below_32 : (ack held : ℕ) → ack ≡ held % 32 → ack < 32
 below_32 ack held is = omega arith
 
 responded_sends :
-    (w : Outstanding) (ack : ℕ) (input : Input) (queued : List (List (List ℕ))) (kept_ahead : List Forward) (kept_back : List Backward)
-    → IsBetween (Output.ErrorStopped true w) input queued kept_ahead (Response ack ∷ kept_back) → IsSender (Output.ErrorStopped true w) queued
-    → IsSender (responded true w ack).state (lists_without (take (responded true w ack).freed w.prios) queued)
+    (w : Outstanding) (ack : ℕ) (input : Input) (queued : List (List (List ℕ)))
+    (kept_ahead : List Forward) (kept_back : List Backward)
+    → IsBetween (Output.ErrorStopped true w) input queued kept_ahead (Response ack ∷ kept_back)
+    → IsSender (Output.ErrorStopped true w) queued
+    → IsSender (responded true w ack).state
+    (lists_without (take (responded true w ack).freed w.prios) queued)
 responded_sends w ack input queued kept_ahead kept_back b s =
     let does = answered (receiver_of input) b.freed b.held ack b.sent kept_ahead kept_back b.is in
-    let far : distance w.oldest ack ≡ b.held - b.freed = ap (λ oldest. distance oldest ack) b.oldest ∙ does.1 in
-    let total = count_is w.prios queued b.freed b.sent s.covered (omega (arith, b.is.held_first, b.is.sent_first)) b.outstanding in
+    let far : distance w.oldest ack ≡ b.held - b.freed =
+    ap (λ oldest. distance oldest ack) b.oldest ∙ does.1 in
+    let total =
+    count_is w.prios queued b.freed b.sent s.covered
+    (omega (arith, b.is.held_first, b.is.sent_first)) b.outstanding in
     let within : distance w.oldest ack ≤ length w.prios = omega (arith, b.is.sent_first) in
     rw (le-leb (distance w.oldest ack) (length w.prios) within) (record {
       window_is = nothing_from ack (below_32 ack b.held does.0);
@@ -101,29 +141,42 @@ responded_sends w ack input queued kept_ahead kept_back b s =
     })
 
 -- a sender that stopped knows of the same packets
-stopped_sends : (w : Outstanding) (queued : List (List (List ℕ))) → IsOutstanding w → Covers w.prios queued → IsSender (Output.ErrorStopped false w) queued
+stopped_sends : (w : Outstanding) (queued : List (List (List ℕ))) → IsOutstanding w
+    → Covers w.prios queued → IsSender (Output.ErrorStopped false w) queued
 stopped_sends w queued is covered = record { window_is = is; covered = covered }
 
 pub heard_sends :
-    (kind : Stype0) (ack : ℕ) (output : Output) (input : Input) (queued : List (List (List ℕ))) (kept_ahead : List Forward) (kept_back : List Backward)
+    (kind : Stype0) (ack : ℕ) (output : Output) (input : Input) (queued : List (List (List ℕ)))
+    (kept_ahead : List Forward) (kept_back : List Backward)
     → IsBetween output input queued kept_ahead (tells kind ack ∷ kept_back) → IsSender output queued
-    → IsSender (hears kind output ack).state (lists_without (take (hears kind output ack).freed (prios_of output)) queued)
-heard_sends PacketAccepted ack (Output.Ok w) input queued kept_ahead kept_back b s = accepted_sends w ack queued s
-heard_sends PacketAccepted ack (Output.RetryStopped w) input queued kept_ahead kept_back b s = stopped_sends w queued s.window_is s.covered
-heard_sends PacketAccepted ack (Output.ErrorStopped asked w) input queued kept_ahead kept_back b s = s
+    → IsSender (hears kind output ack).state
+    (lists_without (take (hears kind output ack).freed (prios_of output)) queued)
+heard_sends PacketAccepted ack (Output.Ok w) input queued kept_ahead kept_back b s =
+    accepted_sends w ack queued s
+heard_sends PacketAccepted ack (Output.RetryStopped w) input queued kept_ahead kept_back b s =
+    stopped_sends w queued s.window_is s.covered
+heard_sends PacketAccepted ack (Output.ErrorStopped asked w) input queued kept_ahead kept_back b s =
+    s
 heard_sends PacketAccepted ack Output.Failed input queued kept_ahead kept_back b s = s
-heard_sends PacketRetry ack (Output.Ok w) input queued kept_ahead kept_back b s = retried_sends w ack queued s
-heard_sends PacketRetry ack (Output.RetryStopped w) input queued kept_ahead kept_back b s = stopped_sends w queued s.window_is s.covered
+heard_sends PacketRetry ack (Output.Ok w) input queued kept_ahead kept_back b s =
+    retried_sends w ack queued s
+heard_sends PacketRetry ack (Output.RetryStopped w) input queued kept_ahead kept_back b s =
+    stopped_sends w queued s.window_is s.covered
 heard_sends PacketRetry ack (Output.ErrorStopped asked w) input queued kept_ahead kept_back b s = s
 heard_sends PacketRetry ack Output.Failed input queued kept_ahead kept_back b s = s
-heard_sends PacketNotAccepted ack (Output.Ok w) input queued kept_ahead kept_back b s = stopped_sends w queued s.window_is s.covered
-heard_sends PacketNotAccepted ack (Output.RetryStopped w) input queued kept_ahead kept_back b s = stopped_sends w queued s.window_is s.covered
-heard_sends PacketNotAccepted ack (Output.ErrorStopped asked w) input queued kept_ahead kept_back b s = s
+heard_sends PacketNotAccepted ack (Output.Ok w) input queued kept_ahead kept_back b s =
+    stopped_sends w queued s.window_is s.covered
+heard_sends PacketNotAccepted ack (Output.RetryStopped w) input queued kept_ahead kept_back b s =
+    stopped_sends w queued s.window_is s.covered
+heard_sends PacketNotAccepted ack (Output.ErrorStopped asked w) input queued kept_ahead kept_back b
+    s =
+    s
 heard_sends PacketNotAccepted ack Output.Failed input queued kept_ahead kept_back b s = s
 heard_sends LinkResponse ack (Output.Ok w) input queued kept_ahead kept_back b s = s
 heard_sends LinkResponse ack (Output.RetryStopped w) input queued kept_ahead kept_back b s = s
 heard_sends LinkResponse ack (Output.ErrorStopped false w) input queued kept_ahead kept_back b s = s
-heard_sends LinkResponse ack (Output.ErrorStopped true w) input queued kept_ahead kept_back b s = responded_sends w ack input queued kept_ahead kept_back b s
+heard_sends LinkResponse ack (Output.ErrorStopped true w) input queued kept_ahead kept_back b s =
+    responded_sends w ack input queued kept_ahead kept_back b s
 heard_sends LinkResponse ack Output.Failed input queued kept_ahead kept_back b s = s
 heard_sends OtherStype0 ack (Output.Ok w) input queued kept_ahead kept_back b s = s
 heard_sends OtherStype0 ack (Output.RetryStopped w) input queued kept_ahead kept_back b s = s

@@ -8,7 +8,8 @@ use Rattle.rio_packets.specs.Fields.{prio_of}
 use Rattle.link_buffers.specs.Queues.{no_packets, list_at, popped, appended, of_prio}
 use Rattle.link_buffers.specs.Priorities.{Covers, highest}
 use Rattle.link_buffers.proofs.PriorityParts.{of_prio_one, held_of_prio}
-use Rattle.link_buffers.proofs.PriorityLaws.{list_at-appended, list_at-popped, packets_of-appended, lists_without-appended, Covers-take, length-lists_without}
+use Rattle.link_buffers.proofs.PriorityLists.{list_at-popped}
+use Rattle.link_buffers.proofs.PriorityLaws.{list_at-appended, packets_of-appended, lists_without-appended, Covers-take, length-lists_without}
 use Rattle.link_model.specs.declared.event.Event.{Event}
 use Rattle.link_model.specs.Output as out
 use Rattle.link_model.specs.Outstanding.{distance}
@@ -36,44 +37,69 @@ pub record IsLawful (l : Link) : Type 0 where
 
 -- nothing moves
 stay_carried :
-    (j : Journeys) (p q next_p next_q : PortState) → lent next_p next_q ≡ lent p q → waiting next_p next_q ≡ waiting p q → AreCarried j p q → AreCarried j next_p next_q
+    (j : Journeys) (p q next_p next_q : PortState) → lent next_p next_q ≡ lent p q
+    → waiting next_p next_q ≡ waiting p q → AreCarried j p q → AreCarried j next_p next_q
 stay_carried j p q next_p next_q same_lent same_waiting c = record {
-  in_order = λ prio. c.in_order prio ∙ ap (λ lists. of_prio prio j.held ++ list_at lists prio) (sym same_waiting);
+  in_order =
+      λ prio. c.in_order prio
+      ∙ ap (λ lists. of_prio prio j.held ++ list_at lists prio) (sym same_waiting);
   freed_after_held = c.freed_after_held ∙ ap (λ packets. j.freed ++ packets) (sym same_lent);
 }
 
 -- packets are freed
-free_carried : (j : Journeys) (p next q : PortState) (freed : List (List ℕ)) → Frees p next q freed → AreCarried j p q → AreCarried (record j { freed = j.freed ++ freed }) next q
+free_carried : (j : Journeys) (p next q : PortState) (freed : List (List ℕ)) → Frees p next q freed
+    → AreCarried j p q → AreCarried (record j { freed = j.freed ++ freed }) next q
 free_carried j p next q freed f c = record {
-  in_order = λ prio. c.in_order prio ∙ ap (λ lists. of_prio prio j.held ++ list_at lists prio) (sym f.1);
-  freed_after_held = c.freed_after_held ∙ ap (λ packets. j.freed ++ packets) f.0 ∙ sym (append_assoc j.freed freed (lent next q));
+  in_order =
+      λ prio. c.in_order prio ∙ ap (λ lists. of_prio prio j.held ++ list_at lists prio) (sym f.1);
+  freed_after_held =
+      c.freed_after_held
+      ∙ ap (λ packets. j.freed ++ packets) f.0
+      ∙ sym (append_assoc j.freed freed (lent next q));
 }
 
 -- a packet is held, or none
 hold_carried :
-    (j : Journeys) (p q next : PortState) (held : Option (List ℕ)) → Holds p q next held → AreCarried j p q → AreCarried (record j { held = j.held ++ option_to_list held }) p next
+    (j : Journeys) (p q next : PortState) (held : Option (List ℕ)) → Holds p q next held
+    → AreCarried j p q → AreCarried (record j { held = j.held ++ option_to_list held }) p next
 hold_carried j p q next None h c = record {
-  in_order = λ prio. c.in_order prio ∙ ap (λ lists. of_prio prio j.held ++ list_at lists prio) (sym h.1) ∙ ap (λ packets. of_prio prio packets ++ list_at (waiting p next) prio) (sym (append-nil j.held));
-  freed_after_held = append-nil j.held ∙ c.freed_after_held ∙ ap (λ packets. j.freed ++ packets) (sym h.0);
+  in_order =
+      λ prio. c.in_order prio
+      ∙ ap (λ lists. of_prio prio j.held ++ list_at lists prio) (sym h.1)
+      ∙ ap (λ packets. of_prio prio packets ++ list_at (waiting p next) prio)
+      (sym (append-nil j.held));
+  freed_after_held =
+      append-nil j.held ∙ c.freed_after_held ∙ ap (λ packets. j.freed ++ packets) (sym h.0);
 }
 hold_carried j p q next (Some packet) h c = record {
-  in_order = λ prio. c.in_order prio ∙ held_of_prio prio j.held (waiting p q) packet h.0 ∙ ap (λ lists. of_prio prio (j.held ++ packet ∷ []) ++ list_at lists prio) (sym h.3);
-  freed_after_held = ap (λ packets. packets ++ packet ∷ []) c.freed_after_held ∙ append_assoc j.freed (lent p q) (packet ∷ []) ∙ ap (λ packets. j.freed ++ packets) (sym h.2);
+  in_order =
+      λ prio. c.in_order prio
+      ∙ held_of_prio prio j.held (waiting p q) packet h.0
+      ∙ ap (λ lists. of_prio prio (j.held ++ packet ∷ []) ++ list_at lists prio) (sym h.3);
+  freed_after_held =
+      ap (λ packets. packets ++ packet ∷ []) c.freed_after_held
+      ∙ append_assoc j.freed (lent p q) (packet ∷ [])
+      ∙ ap (λ packets. j.freed ++ packets) (sym h.2);
 }
 
 -- a packet is put
 put_of_prio :
-    (prio : ℕ) (put held : List (List ℕ)) (lists : List (List (List ℕ))) (packet : List ℕ) → prio_of packet < length lists → of_prio prio put ≡ of_prio prio held ++ list_at lists prio
-    → of_prio prio (put ++ packet ∷ []) ≡ of_prio prio held ++ list_at (appended lists (prio_of packet) packet) prio
+    (prio : ℕ) (put held : List (List ℕ)) (lists : List (List (List ℕ))) (packet : List ℕ)
+    → prio_of packet < length lists → of_prio prio put ≡ of_prio prio held ++ list_at lists prio
+    → of_prio prio (put ++ packet ∷ [])
+    ≡ of_prio prio held ++ list_at (appended lists (prio_of packet) packet) prio
 put_of_prio prio put held lists packet few is =
     filter-append (λ p. prio_of p == prio) put (packet ∷ [])
     ∙ ap (λ packets. packets ++ of_prio prio (packet ∷ [])) is
     ∙ append_assoc (of_prio prio held) (list_at lists prio) (of_prio prio (packet ∷ []))
-    ∙ ap (λ packets. of_prio prio held ++ packets) (ap (λ packets. list_at lists prio ++ packets) (of_prio_one prio packet) ∙ sym (list_at-appended lists (prio_of packet) packet prio few))
+    ∙ ap (λ packets. of_prio prio held ++ packets) (ap (λ packets. list_at lists prio ++ packets)
+    (of_prio_one prio packet) ∙ sym (list_at-appended lists (prio_of packet) packet prio few))
 
 put_carried :
-    (j : Journeys) (p q : PortState) (packet : List ℕ) → Covers (prios_of p.output) p.queued → prio_of packet < length p.queued → AreCarried j p q
-    → AreCarried (record j { put = j.put ++ packet ∷ [] }) (record p { queued = appended p.queued (prio_of packet) packet }) q
+    (j : Journeys) (p q : PortState) (packet : List ℕ) → Covers (prios_of p.output) p.queued
+    → prio_of packet < length p.queued → AreCarried j p q
+    → AreCarried (record j { put = j.put ++ packet ∷ [] })
+    (record p { queued = appended p.queued (prio_of packet) packet }) q
 put_carried j p q packet covers few c =
     let count = distance (oldest_of p.output) (expected_of q.input) in
     let prios = take count (prios_of p.output) in
@@ -82,13 +108,20 @@ put_carried j p q packet covers few c =
     let within : prio_of packet < length (waiting p q) = omega arith in
     record {
       in_order = λ prio. put_of_prio prio j.put j.held (waiting p q) packet within (c.in_order prio)
-          ∙ ap (λ lists. of_prio prio j.held ++ list_at lists prio) (sym (lists_without-appended prios p.queued (prio_of packet) packet covered few));
-      freed_after_held = c.freed_after_held ∙ ap (λ packets. j.freed ++ packets) (sym (packets_of-appended prios p.queued (prio_of packet) packet covered few));
+          ∙ ap (λ lists. of_prio prio j.held ++ list_at lists prio)
+          (sym (lists_without-appended prios p.queued (prio_of packet) packet covered few));
+      freed_after_held =
+          c.freed_after_held
+          ∙ ap (λ packets. j.freed ++ packets)
+          (sym (packets_of-appended prios p.queued (prio_of packet) packet covered few));
     }
 
 event_keeps :
-    (l : Link) (e : Event) (rest : List Event) → IsPort (acts l.a e).port → IsSound (acts l.a e).port l.b (after_event l e rest).kept_a rest
-    → Frees l.a (acts l.a e).port l.b (acts l.a e).freed → Holds l.b l.a (acts l.a e).port (acts l.a e).held → IsLawful l → IsLawful (after_event l e rest)
+    (l : Link) (e : Event) (rest : List Event) → IsPort (acts l.a e).port
+    → IsSound (acts l.a e).port l.b (after_event l e rest).kept_a rest
+    → Frees l.a (acts l.a e).port l.b (acts l.a e).freed
+    → Holds l.b l.a (acts l.a e).port (acts l.a e).held → IsLawful l
+    → IsLawful (after_event l e rest)
 event_keeps l e rest port sound frees holds is = record {
   port_a = port;
   port_b = is.port_b;
@@ -99,7 +132,9 @@ event_keeps l e rest port sound frees holds is = record {
 
 step_keeps : (l next : Link) → IsStep l next → IsLawful l → IsLawful next
 step_keeps l next (Turns _) is =
-    let stays = turn_stays l.a.output (highest (waiting_in l.a)) l.b.input l.a.queued (map forward l.kept_a) (map backward l.kept_b) is.port_a.covered is.sound.a_to_b in
+    let stays =
+    turn_stays l.a.output (highest (waiting_in l.a)) l.b.input l.a.queued (map forward l.kept_a)
+    (map backward l.kept_b) is.port_a.covered is.sound.a_to_b in
     record {
       port_a = turn_port l.a is.port_a;
       port_b = is.port_b;
@@ -109,10 +144,14 @@ step_keeps l next (Turns _) is =
     }
 step_keeps l next (Acts _ e rest first acted) is =
     let sound = subst (λ (es : List Event). IsSound l.a l.b l.kept_a es) first is.sound in
-    event_keeps l e rest (acted_port l.a l.b l.kept_a rest e is.port_a is.port_b acted sound) (acted_keeps l.a l.b l.kept_a rest e is.port_a.covered acted sound)
-    (acted_frees l.a l.b l.kept_a rest e is.port_a.covered acted sound) (acted_holds l.a l.b l.kept_a rest e is.port_b.covered is.port_b.sends acted sound) is
+    event_keeps l e rest (acted_port l.a l.b l.kept_a rest e is.port_a is.port_b acted sound)
+    (acted_keeps l.a l.b l.kept_a rest e is.port_a.covered acted sound)
+    (acted_frees l.a l.b l.kept_a rest e is.port_a.covered acted sound)
+    (acted_holds l.a l.b l.kept_a rest e is.port_b.covered is.port_b.sends acted sound) is
 step_keeps l next (Others _ e other) is =
-    event_keeps l e l.kept_b (other_port l.a e is.port_a other) (other_keeps l.a l.b l.kept_a l.kept_b e other is.sound) (other_frees l.a l.b e other) (other_holds l.a l.b e other) is
+    event_keeps l e l.kept_b (other_port l.a e is.port_a other)
+    (other_keeps l.a l.b l.kept_a l.kept_b e other is.sound) (other_frees l.a l.b e other)
+    (other_holds l.a l.b e other) is
 step_keeps l next (TimesOut _) is =
     let stays = time_out_stays l.a.output (expected_of l.b.input) l.a.queued in
     record {
@@ -127,12 +166,18 @@ step_keeps l next (Puts _ packet few passes room) is =
     record {
       port_a = put_port l.a packet few passes room is.port_a;
       port_b = is.port_b;
-      sound = put_keeps l.a l.b l.kept_a l.kept_b (prio_of packet) packet is.port_a.covered within is.sound;
+      sound =
+          put_keeps l.a l.b l.kept_a l.kept_b (prio_of packet) packet is.port_a.covered within
+          is.sound;
       of_a = put_carried l.of_a l.a l.b packet is.port_a.covered within is.of_a;
-      of_b = stay_carried l.of_b l.b l.a l.b (record l.a { queued = appended l.a.queued (prio_of packet) packet }) refl refl is.of_b;
+      of_b =
+          stay_carried l.of_b l.b l.a l.b
+          (record l.a { queued = appended l.a.queued (prio_of packet) packet }) refl refl is.of_b;
     }
 step_keeps l next (Loses _ lost_a kept_a lost_b kept_b first second) is =
-    let sound = subst (λ (es : List Event). IsSound l.a l.b (lost_a ++ kept_a) es) second (subst (λ (es : List Event). IsSound l.a l.b es l.kept_b) first is.sound) in
+    let sound =
+    subst (λ (es : List Event). IsSound l.a l.b (lost_a ++ kept_a) es) second
+    (subst (λ (es : List Event). IsSound l.a l.b es l.kept_b) first is.sound) in
     record {
       port_a = is.port_a;
       port_b = is.port_b;
@@ -144,17 +189,30 @@ step_keeps l next (GoesOn _ received place store bounded) is = record {
   port_a = read_port l.a received place store bounded is.port_a;
   port_b = is.port_b;
   sound = other_parts l.a l.b l.kept_a l.kept_b received place is.sound;
-  of_a = stay_carried l.of_a l.a l.b (record l.a { received = received; place = place }) l.b refl refl is.of_a;
-  of_b = stay_carried l.of_b l.b l.a l.b (record l.a { received = received; place = place }) refl refl is.of_b;
+  of_a =
+      stay_carried l.of_a l.a l.b (record l.a { received = received; place = place }) l.b refl refl
+      is.of_a;
+  of_b =
+      stay_carried l.of_b l.b l.a l.b (record l.a { received = received; place = place }) refl refl
+      is.of_b;
 }
 
 round_keeps : (l : Link) → IsLawful l → IsLawful (turned_round l)
-round_keeps l is = record { port_a = is.port_b; port_b = is.port_a; sound = exchanged l.a l.b l.kept_a l.kept_b is.sound; of_a = is.of_b; of_b = is.of_a }
+round_keeps l is = record {
+  port_a = is.port_b;
+  port_b = is.port_a;
+  sound = exchanged l.a l.b l.kept_a l.kept_b is.sound;
+  of_a = is.of_b;
+  of_b = is.of_a;
+}
 
 history_keeps : (l end : Link) → IsHistory l end → IsLawful l → IsLawful end
 history_keeps l end (Rests _) is = is
-history_keeps l end (AtFirst {next} _ step more) is = history_keeps next end more (step_keeps l next step is)
-history_keeps l end (AtSecond {next} _ step more) is = history_keeps (turned_round next) end more (round_keeps next (step_keeps (turned_round l) next step (round_keeps l is)))
+history_keeps l end (AtFirst {next} _ step more) is =
+    history_keeps next end more (step_keeps l next step is)
+history_keeps l end (AtSecond {next} _ step more) is =
+    history_keeps (turned_round next) end more
+    (round_keeps next (step_keeps (turned_round l) next step (round_keeps l is)))
 
 none_waits : (prio : ℕ) → [] ≡ list_at no_packets prio
 none_waits zero = refl
@@ -173,19 +231,29 @@ new_is_lawful m n first second = record {
 }
 
 -- every history from two new ports
-all_lawful : (m n : ℕ) (l : Link) → AreBuffers m → AreBuffers n → IsHistory (new_link m n) l → IsLawful l
-all_lawful m n l first second history = history_keeps (new_link m n) l history (new_is_lawful m n first second)
+all_lawful : (m n : ℕ) (l : Link) → AreBuffers m → AreBuffers n → IsHistory (new_link m n) l
+    → IsLawful l
+all_lawful m n l first second history =
+    history_keeps (new_link m n) l history (new_is_lawful m n first second)
 
-pub all_ports : (m n : ℕ) (l : Link) → AreBuffers m → AreBuffers n → IsHistory (new_link m n) l → IsPort l.a × IsPort l.b
-all_ports m n l first second history = let is = all_lawful m n l first second history in (is.port_a, is.port_b)
+pub all_ports : (m n : ℕ) (l : Link) → AreBuffers m → AreBuffers n → IsHistory (new_link m n) l
+    → IsPort l.a × IsPort l.b
+all_ports m n l first second history =
+    let is = all_lawful m n l first second history in (is.port_a, is.port_b)
 
-pub all_sound : (m n : ℕ) (l : Link) → AreBuffers m → AreBuffers n → IsHistory (new_link m n) l → IsSound l.a l.b l.kept_a l.kept_b
+pub all_sound : (m n : ℕ) (l : Link) → AreBuffers m → AreBuffers n → IsHistory (new_link m n) l
+    → IsSound l.a l.b l.kept_a l.kept_b
 all_sound m n l first second history = (all_lawful m n l first second history).sound
 
-pub all_carried : (m n : ℕ) (l : Link) → AreBuffers m → AreBuffers n → IsHistory (new_link m n) l → AreCarried l.of_a l.a l.b × AreCarried l.of_b l.b l.a
-all_carried m n l first second history = let is = all_lawful m n l first second history in (is.of_a, is.of_b)
+pub all_carried : (m n : ℕ) (l : Link) → AreBuffers m → AreBuffers n → IsHistory (new_link m n) l
+    → AreCarried l.of_a l.a l.b × AreCarried l.of_b l.b l.a
+all_carried m n l first second history =
+    let is = all_lawful m n l first second history in (is.of_a, is.of_b)
 
-pub none_failed : (m n : ℕ) (l : Link) → AreBuffers m → AreBuffers n → IsHistory (new_link m n) l → (l.a.output ≢ out.Output.Failed) × (l.b.output ≢ out.Output.Failed)
+pub none_failed : (m n : ℕ) (l : Link) → AreBuffers m → AreBuffers n → IsHistory (new_link m n) l
+    → (l.a.output ≢ out.Output.Failed) × (l.b.output ≢ out.Output.Failed)
 none_failed m n l first second history =
-    let sound = all_sound m n l first second history in
-    (not_failed l.a l.b l.kept_a l.kept_b sound, not_failed l.b l.a l.kept_b l.kept_a (exchanged l.a l.b l.kept_a l.kept_b sound))
+    let sound = all_sound m n l first second history in (
+      not_failed l.a l.b l.kept_a l.kept_b sound,
+      not_failed l.b l.a l.kept_b l.kept_a (exchanged l.a l.b l.kept_a l.kept_b sound),
+    )

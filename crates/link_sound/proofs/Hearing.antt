@@ -22,7 +22,8 @@ use Rattle.link_sound.specs.Between.{IsBetween}
 use Rattle.link_sound.proofs.Turning.{count_is, drop_taken}
 
 -- whether the ackID is that of the oldest packet
-pub oldest_cases : (w : Outstanding) (ack : ℕ) → ((is_oldest w ack ≡ true) × (ack ≡ w.oldest)) ⊎ (is_oldest w ack ≡ false)
+pub oldest_cases : (w : Outstanding) (ack : ℕ)
+    → ((is_oldest w ack ≡ true) × (ack ≡ w.oldest)) ⊎ (is_oldest w ack ≡ false)
 oldest_cases w ack =
     elim (eqb_tells ack w.oldest) [
       | inl (test, same) ↦ elim (cases_Bool (is_oldest w ack)) [
@@ -34,8 +35,10 @@ oldest_cases w ack =
 
 -- the symbol is taken away
 pub one_lost :
-    (output : Output) (input : Input) (queued : List (List (List ℕ))) (kept_ahead : List Forward) (mark : Backward) (kept_back : List Backward)
-    → IsBetween output input queued kept_ahead (mark ∷ kept_back) → IsBetween output input queued kept_ahead kept_back
+    (output : Output) (input : Input) (queued : List (List (List ℕ))) (kept_ahead : List Forward)
+    (mark : Backward) (kept_back : List Backward)
+    → IsBetween output input queued kept_ahead (mark ∷ kept_back)
+    → IsBetween output input queued kept_ahead kept_back
 one_lost output input queued kept_ahead mark kept_back b = record {
   sent = b.sent;
   freed = b.freed;
@@ -43,13 +46,17 @@ one_lost output input queued kept_ahead mark kept_back b = record {
   oldest = b.oldest;
   expected = b.expected;
   outstanding = b.outstanding;
-  is = lost_front (sender_of output) (receiver_of input) b.freed b.held b.sent [] kept_ahead (mark ∷ []) kept_back b.is;
+  is =
+      lost_front (sender_of output) (receiver_of input) b.freed b.held b.sent [] kept_ahead
+      (mark ∷ []) kept_back b.is;
 }
 
 -- the sender stops
 error_at_ok :
-    (w : Outstanding) (input : Input) (queued : List (List (List ℕ))) (kept_ahead : List Forward) (kept_back : List Backward)
-    → IsBetween (Output.Ok w) input queued kept_ahead kept_back → IsBetween (Output.ErrorStopped false w) input queued kept_ahead kept_back
+    (w : Outstanding) (input : Input) (queued : List (List (List ℕ))) (kept_ahead : List Forward)
+    (kept_back : List Backward)
+    → IsBetween (Output.Ok w) input queued kept_ahead kept_back
+    → IsBetween (Output.ErrorStopped false w) input queued kept_ahead kept_back
 error_at_ok w input queued kept_ahead kept_back b = record {
   sent = b.sent;
   freed = b.freed;
@@ -61,8 +68,10 @@ error_at_ok w input queued kept_ahead kept_back b = record {
 }
 
 error_at_retry :
-    (w : Outstanding) (input : Input) (queued : List (List (List ℕ))) (kept_ahead : List Forward) (kept_back : List Backward)
-    → IsBetween (Output.RetryStopped w) input queued kept_ahead kept_back → IsBetween (Output.ErrorStopped false w) input queued kept_ahead kept_back
+    (w : Outstanding) (input : Input) (queued : List (List (List ℕ))) (kept_ahead : List Forward)
+    (kept_back : List Backward)
+    → IsBetween (Output.RetryStopped w) input queued kept_ahead kept_back
+    → IsBetween (Output.ErrorStopped false w) input queued kept_ahead kept_back
 error_at_retry w input queued kept_ahead kept_back b = record {
   sent = b.sent;
   freed = b.freed;
@@ -77,29 +86,41 @@ pub next_oldest : (oldest freed : ℕ) → oldest ≡ freed % 32 → (oldest + 1
 next_oldest oldest freed is = omega arith
 
 accepted_keeps :
-    (w : Outstanding) (ack : ℕ) (input : Input) (queued : List (List (List ℕ))) (kept_ahead : List Forward) (kept_back : List Backward) → Covers w.prios queued
+    (w : Outstanding) (ack : ℕ) (input : Input) (queued : List (List (List ℕ)))
+    (kept_ahead : List Forward) (kept_back : List Backward) → Covers w.prios queued
     → IsBetween (Output.Ok w) input queued kept_ahead (Accept ack ∷ kept_back)
-    → IsBetween (accepted w ack).state input (lists_without (take (accepted w ack).freed w.prios) queued) kept_ahead kept_back
+    → IsBetween (accepted w ack).state input
+    (lists_without (take (accepted w ack).freed w.prios) queued) kept_ahead kept_back
 accepted_keeps w ack input queued kept_ahead kept_back covers b =
     elim (oldest_cases w ack) [
       | inl (holds, same) ↦
-          let does = oldest_accepted (receiver_of input) b.freed b.held ack b.sent kept_ahead kept_back (same ∙ b.oldest) b.is in
+          let does =
+          oldest_accepted (receiver_of input) b.freed b.held ack b.sent kept_ahead kept_back
+          (same ∙ b.oldest) b.is in
           rw holds (record {
             sent = b.sent;
             freed = suc b.freed;
             held = b.held;
             oldest = next_oldest w.oldest b.freed b.oldest;
             expected = b.expected;
-            outstanding = sym (drop-packets_of 1 w.prios queued covers) ∙ ap (drop 1) b.outstanding ∙ drop-drop 1 b.freed b.sent ∙ ap (λ n. drop n b.sent) (let next : b.freed + 1 ≡ suc b.freed = omega arith in next);
+            outstanding =
+                sym (drop-packets_of 1 w.prios queued covers)
+                ∙ ap (drop 1) b.outstanding
+                ∙ drop-drop 1 b.freed b.sent
+                ∙ ap (λ n. drop n b.sent)
+                (let next : b.freed + 1 ≡ suc b.freed = omega arith in next);
             is = does.1;
           })
-      | inr fails ↦ rw fails (error_at_ok w input queued kept_ahead kept_back (one_lost (Output.Ok w) input queued kept_ahead (Accept ack) kept_back b))
+      | inr fails ↦ rw fails (error_at_ok w input queued kept_ahead kept_back
+          (one_lost (Output.Ok w) input queued kept_ahead (Accept ack) kept_back b))
     ]
 
 retried_keeps :
-    (w : Outstanding) (ack : ℕ) (input : Input) (queued : List (List (List ℕ))) (kept_ahead : List Forward) (kept_back : List Backward)
+    (w : Outstanding) (ack : ℕ) (input : Input) (queued : List (List (List ℕ)))
+    (kept_ahead : List Forward) (kept_back : List Backward)
     → IsBetween (Output.Ok w) input queued kept_ahead (Retry ack ∷ kept_back)
-    → IsBetween (retried w ack).state input (lists_without (take (retried w ack).freed w.prios) queued) kept_ahead kept_back
+    → IsBetween (retried w ack).state input
+    (lists_without (take (retried w ack).freed w.prios) queued) kept_ahead kept_back
 retried_keeps w ack input queued kept_ahead kept_back b =
     elim (oldest_cases w ack) [
       | inl (holds, same) ↦ rw holds (record {
@@ -109,21 +130,40 @@ retried_keeps w ack input queued kept_ahead kept_back b =
         oldest = b.oldest;
         expected = b.expected;
         outstanding = b.outstanding;
-        is = oldest_refused (receiver_of input) b.freed b.held ack b.sent kept_ahead kept_back (same ∙ b.oldest) b.is;
+        is =
+            oldest_refused (receiver_of input) b.freed b.held ack b.sent kept_ahead kept_back
+            (same ∙ b.oldest) b.is;
       })
-      | inr fails ↦ rw fails (error_at_ok w input queued kept_ahead kept_back (one_lost (Output.Ok w) input queued kept_ahead (Retry ack) kept_back b))
+      | inr fails ↦ rw fails (error_at_ok w input queued kept_ahead kept_back
+          (one_lost (Output.Ok w) input queued kept_ahead (Retry ack) kept_back b))
     ]
 
+-- what a link-response counts: all that the receiver held, and no more than is outstanding
+pub response_counts :
+    (w : Outstanding) (ack : ℕ) (input : Input) (queued : List (List (List ℕ)))
+    (kept_ahead : List Forward) (kept_back : List Backward) → Covers w.prios queued
+    → (b : IsBetween (Output.ErrorStopped true w) input queued kept_ahead (Response ack ∷ kept_back))
+    → (distance w.oldest ack ≡ b.held - b.freed) × (distance w.oldest ack ≤ length w.prios)
+response_counts w ack input queued kept_ahead kept_back covers b =
+    let does = answered (receiver_of input) b.freed b.held ack b.sent kept_ahead kept_back b.is in
+    let far : distance w.oldest ack ≡ b.held - b.freed =
+    ap (λ oldest. distance oldest ack) b.oldest ∙ does.1 in
+    let total =
+    count_is w.prios queued b.freed b.sent covers
+    (omega (arith, b.is.held_first, b.is.sent_first)) b.outstanding in
+    let within : distance w.oldest ack ≤ length w.prios = omega (arith, b.is.sent_first) in
+    (far, within)
+
 responded_keeps :
-    (w : Outstanding) (ack : ℕ) (input : Input) (queued : List (List (List ℕ))) (kept_ahead : List Forward) (kept_back : List Backward) → Covers w.prios queued
+    (w : Outstanding) (ack : ℕ) (input : Input) (queued : List (List (List ℕ)))
+    (kept_ahead : List Forward) (kept_back : List Backward) → Covers w.prios queued
     → IsBetween (Output.ErrorStopped true w) input queued kept_ahead (Response ack ∷ kept_back)
-    → IsBetween (responded true w ack).state input (lists_without (take (responded true w ack).freed w.prios) queued) kept_ahead kept_back
+    → IsBetween (responded true w ack).state input
+    (lists_without (take (responded true w ack).freed w.prios) queued) kept_ahead kept_back
 responded_keeps w ack input queued kept_ahead kept_back covers b =
     let does = answered (receiver_of input) b.freed b.held ack b.sent kept_ahead kept_back b.is in
-    let far : distance w.oldest ack ≡ b.held - b.freed = ap (λ oldest. distance oldest ack) b.oldest ∙ does.1 in
-    let total = count_is w.prios queued b.freed b.sent covers (omega (arith, b.is.held_first, b.is.sent_first)) b.outstanding in
-    let within : distance w.oldest ack ≤ length w.prios = omega (arith, b.is.sent_first) in
-    rw (le-leb (distance w.oldest ack) (length w.prios) within) (record {
+    let counts = response_counts w ack input queued kept_ahead kept_back covers b in
+    rw (le-leb (distance w.oldest ack) (length w.prios) counts.1) (record {
       sent = take b.held b.sent;
       freed = b.held;
       held = b.held;
@@ -135,32 +175,74 @@ responded_keeps w ack input queued kept_ahead kept_back covers b =
 
 -- a sender that has not asked is told nothing by a link-response
 pub no_response :
-    (output : Output) (ack : ℕ) (input : Input) (queued : List (List (List ℕ))) (kept_ahead : List Forward) (kept_back : List Backward)
-    → IsBetween output input queued kept_ahead (Response ack ∷ kept_back) → sender_of output ≡ Sender.ErrorStoppedAsked
-no_response output ack input queued kept_ahead kept_back b = no_response_unasked (sender_of output) (receiver_of input) b.freed b.held ack b.sent kept_ahead kept_back b.is
+    (output : Output) (ack : ℕ) (input : Input) (queued : List (List (List ℕ)))
+    (kept_ahead : List Forward) (kept_back : List Backward)
+    → IsBetween output input queued kept_ahead (Response ack ∷ kept_back)
+    → sender_of output ≡ Sender.ErrorStoppedAsked
+no_response output ack input queued kept_ahead kept_back b =
+    no_response_unasked (sender_of output) (receiver_of input) b.freed b.held ack b.sent kept_ahead
+    kept_back b.is
 
 pub heard_keeps :
-    (kind : Stype0) (ack : ℕ) (output : Output) (input : Input) (queued : List (List (List ℕ))) (kept_ahead : List Forward) (kept_back : List Backward)
-    → Covers (prios_of output) queued → IsBetween output input queued kept_ahead (tells kind ack ∷ kept_back)
-    → IsBetween (hears kind output ack).state input (lists_without (take (hears kind output ack).freed (prios_of output)) queued) kept_ahead kept_back
-heard_keeps PacketAccepted ack (Output.Ok w) input queued kept_ahead kept_back covers b = accepted_keeps w ack input queued kept_ahead kept_back covers b
-heard_keeps PacketAccepted ack (Output.RetryStopped w) input queued kept_ahead kept_back covers b = absurd (no_accept_at_retry (receiver_of input) b.freed b.held ack b.sent kept_ahead kept_back b.is)
-heard_keeps PacketAccepted ack (Output.ErrorStopped asked w) input queued kept_ahead kept_back covers b = one_lost (Output.ErrorStopped asked w) input queued kept_ahead (Accept ack) kept_back b
-heard_keeps PacketAccepted ack Output.Failed input queued kept_ahead kept_back covers b = one_lost Output.Failed input queued kept_ahead (Accept ack) kept_back b
-heard_keeps PacketRetry ack (Output.Ok w) input queued kept_ahead kept_back covers b = retried_keeps w ack input queued kept_ahead kept_back b
-heard_keeps PacketRetry ack (Output.RetryStopped w) input queued kept_ahead kept_back covers b = absurd (no_retry_at_retry (receiver_of input) b.freed b.held ack b.sent kept_ahead kept_back b.is)
-heard_keeps PacketRetry ack (Output.ErrorStopped asked w) input queued kept_ahead kept_back covers b = one_lost (Output.ErrorStopped asked w) input queued kept_ahead (Retry ack) kept_back b
-heard_keeps PacketRetry ack Output.Failed input queued kept_ahead kept_back covers b = one_lost Output.Failed input queued kept_ahead (Retry ack) kept_back b
-heard_keeps PacketNotAccepted ack (Output.Ok w) input queued kept_ahead kept_back covers b = error_at_ok w input queued kept_ahead kept_back (one_lost (Output.Ok w) input queued kept_ahead _ kept_back b)
-heard_keeps PacketNotAccepted ack (Output.RetryStopped w) input queued kept_ahead kept_back covers b = error_at_retry w input queued kept_ahead kept_back (one_lost (Output.RetryStopped w) input queued kept_ahead _ kept_back b)
-heard_keeps PacketNotAccepted ack (Output.ErrorStopped asked w) input queued kept_ahead kept_back covers b = one_lost (Output.ErrorStopped asked w) input queued kept_ahead _ kept_back b
-heard_keeps PacketNotAccepted ack Output.Failed input queued kept_ahead kept_back covers b = one_lost Output.Failed input queued kept_ahead _ kept_back b
-heard_keeps LinkResponse ack (Output.Ok w) input queued kept_ahead kept_back covers b = let asked = no_response (Output.Ok w) ack input queued kept_ahead kept_back b in absurd cc
-heard_keeps LinkResponse ack (Output.RetryStopped w) input queued kept_ahead kept_back covers b = let asked = no_response (Output.RetryStopped w) ack input queued kept_ahead kept_back b in absurd cc
-heard_keeps LinkResponse ack (Output.ErrorStopped false w) input queued kept_ahead kept_back covers b = let asked = no_response (Output.ErrorStopped false w) ack input queued kept_ahead kept_back b in absurd cc
-heard_keeps LinkResponse ack (Output.ErrorStopped true w) input queued kept_ahead kept_back covers b = responded_keeps w ack input queued kept_ahead kept_back covers b
-heard_keeps LinkResponse ack Output.Failed input queued kept_ahead kept_back covers b = one_lost Output.Failed input queued kept_ahead (Response ack) kept_back b
-heard_keeps OtherStype0 ack (Output.Ok w) input queued kept_ahead kept_back covers b = one_lost (Output.Ok w) input queued kept_ahead _ kept_back b
-heard_keeps OtherStype0 ack (Output.RetryStopped w) input queued kept_ahead kept_back covers b = one_lost (Output.RetryStopped w) input queued kept_ahead _ kept_back b
-heard_keeps OtherStype0 ack (Output.ErrorStopped asked w) input queued kept_ahead kept_back covers b = one_lost (Output.ErrorStopped asked w) input queued kept_ahead _ kept_back b
-heard_keeps OtherStype0 ack Output.Failed input queued kept_ahead kept_back covers b = one_lost Output.Failed input queued kept_ahead _ kept_back b
+    (kind : Stype0) (ack : ℕ) (output : Output) (input : Input) (queued : List (List (List ℕ)))
+    (kept_ahead : List Forward) (kept_back : List Backward)
+    → Covers (prios_of output) queued
+    → IsBetween output input queued kept_ahead (tells kind ack ∷ kept_back)
+    → IsBetween (hears kind output ack).state input
+    (lists_without (take (hears kind output ack).freed (prios_of output)) queued) kept_ahead
+    kept_back
+heard_keeps PacketAccepted ack (Output.Ok w) input queued kept_ahead kept_back covers b =
+    accepted_keeps w ack input queued kept_ahead kept_back covers b
+heard_keeps PacketAccepted ack (Output.RetryStopped w) input queued kept_ahead kept_back covers b =
+    absurd
+    (no_accept_at_retry (receiver_of input) b.freed b.held ack b.sent kept_ahead kept_back b.is)
+heard_keeps PacketAccepted ack (Output.ErrorStopped asked w) input queued kept_ahead kept_back
+    covers b =
+    one_lost (Output.ErrorStopped asked w) input queued kept_ahead (Accept ack) kept_back b
+heard_keeps PacketAccepted ack Output.Failed input queued kept_ahead kept_back covers b =
+    one_lost Output.Failed input queued kept_ahead (Accept ack) kept_back b
+heard_keeps PacketRetry ack (Output.Ok w) input queued kept_ahead kept_back covers b =
+    retried_keeps w ack input queued kept_ahead kept_back b
+heard_keeps PacketRetry ack (Output.RetryStopped w) input queued kept_ahead kept_back covers b =
+    absurd
+    (no_retry_at_retry (receiver_of input) b.freed b.held ack b.sent kept_ahead kept_back b.is)
+heard_keeps PacketRetry ack (Output.ErrorStopped asked w) input queued kept_ahead kept_back covers
+    b =
+    one_lost (Output.ErrorStopped asked w) input queued kept_ahead (Retry ack) kept_back b
+heard_keeps PacketRetry ack Output.Failed input queued kept_ahead kept_back covers b =
+    one_lost Output.Failed input queued kept_ahead (Retry ack) kept_back b
+heard_keeps PacketNotAccepted ack (Output.Ok w) input queued kept_ahead kept_back covers b =
+    error_at_ok w input queued kept_ahead kept_back
+    (one_lost (Output.Ok w) input queued kept_ahead _ kept_back b)
+heard_keeps PacketNotAccepted ack (Output.RetryStopped w) input queued kept_ahead kept_back covers
+    b =
+    error_at_retry w input queued kept_ahead kept_back
+    (one_lost (Output.RetryStopped w) input queued kept_ahead _ kept_back b)
+heard_keeps PacketNotAccepted ack (Output.ErrorStopped asked w) input queued kept_ahead kept_back
+    covers b =
+    one_lost (Output.ErrorStopped asked w) input queued kept_ahead _ kept_back b
+heard_keeps PacketNotAccepted ack Output.Failed input queued kept_ahead kept_back covers b =
+    one_lost Output.Failed input queued kept_ahead _ kept_back b
+heard_keeps LinkResponse ack (Output.Ok w) input queued kept_ahead kept_back covers b =
+    let asked = no_response (Output.Ok w) ack input queued kept_ahead kept_back b in absurd cc
+heard_keeps LinkResponse ack (Output.RetryStopped w) input queued kept_ahead kept_back covers b =
+    let asked = no_response (Output.RetryStopped w) ack input queued kept_ahead kept_back b in
+    absurd cc
+heard_keeps LinkResponse ack (Output.ErrorStopped false w) input queued kept_ahead kept_back covers
+    b =
+    let asked = no_response (Output.ErrorStopped false w) ack input queued kept_ahead kept_back b in
+    absurd cc
+heard_keeps LinkResponse ack (Output.ErrorStopped true w) input queued kept_ahead kept_back covers
+    b =
+    responded_keeps w ack input queued kept_ahead kept_back covers b
+heard_keeps LinkResponse ack Output.Failed input queued kept_ahead kept_back covers b =
+    one_lost Output.Failed input queued kept_ahead (Response ack) kept_back b
+heard_keeps OtherStype0 ack (Output.Ok w) input queued kept_ahead kept_back covers b =
+    one_lost (Output.Ok w) input queued kept_ahead _ kept_back b
+heard_keeps OtherStype0 ack (Output.RetryStopped w) input queued kept_ahead kept_back covers b =
+    one_lost (Output.RetryStopped w) input queued kept_ahead _ kept_back b
+heard_keeps OtherStype0 ack (Output.ErrorStopped asked w) input queued kept_ahead kept_back covers
+    b =
+    one_lost (Output.ErrorStopped asked w) input queued kept_ahead _ kept_back b
+heard_keeps OtherStype0 ack Output.Failed input queued kept_ahead kept_back covers b =
+    one_lost Output.Failed input queued kept_ahead _ kept_back b

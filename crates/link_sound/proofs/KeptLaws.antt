@@ -16,98 +16,155 @@ is_accept (Retry ack) = false
 is_accept (Response ack) = false
 is_accept Neutral = false
 
-pub Lacks-lost : {X : Type 0} (kind : X → Bool) (lost kept : List X) → Lacks kind (lost ++ kept) → Lacks kind kept
+pub Lacks-lost : {X : Type 0} (kind : X → Bool) (lost kept : List X) → Lacks kind (lost ++ kept)
+    → Lacks kind kept
 Lacks-lost kind [] kept none = none
 Lacks-lost kind (e ∷ lost) kept none = Lacks-lost kind lost kept none.1
 
-pub Lacks-append : {X : Type 0} (kind : X → Bool) (kept : List X) (e : X) → Lacks kind kept → kind e ≡ false → Lacks kind (kept ++ e ∷ [])
+pub Lacks-append : {X : Type 0} (kind : X → Bool) (kept : List X) (e : X) → Lacks kind kept
+    → kind e ≡ false → Lacks kind (kept ++ e ∷ [])
 Lacks-append kind [] e none is = (is, tt)
 Lacks-append kind (x ∷ kept) e none is = (none.0, Lacks-append kind kept e none.1 is)
 
-pub AcceptsInTurn-lower : (low least held : ℕ) (kept : List Backward) → low ≤ least → AcceptsInTurn least held kept → AcceptsInTurn low held kept
+pub AcceptsInTurn-lower : (low least held : ℕ) (kept : List Backward) → low ≤ least
+    → AcceptsInTurn least held kept → AcceptsInTurn low held kept
 AcceptsInTurn-lower low least held [] below accepts = tt
-AcceptsInTurn-lower low least held (Accept ack ∷ kept) below (n, is, from, within, rest) = (n, is, omega arith, within, rest)
-AcceptsInTurn-lower low least held (Retry ack ∷ kept) below accepts = AcceptsInTurn-lower low least held kept below accepts
-AcceptsInTurn-lower low least held (Response ack ∷ kept) below accepts = AcceptsInTurn-lower low least held kept below accepts
-AcceptsInTurn-lower low least held (Neutral ∷ kept) below accepts = AcceptsInTurn-lower low least held kept below accepts
+AcceptsInTurn-lower low least held (Accept ack ∷ kept) below (n, is, from, within, rest) =
+    (n, is, omega arith, within, rest)
+AcceptsInTurn-lower low least held (Retry ack ∷ kept) below accepts =
+    AcceptsInTurn-lower low least held kept below accepts
+AcceptsInTurn-lower low least held (Response ack ∷ kept) below accepts =
+    AcceptsInTurn-lower low least held kept below accepts
+AcceptsInTurn-lower low least held (Neutral ∷ kept) below accepts =
+    AcceptsInTurn-lower low least held kept below accepts
 
-pub AcceptsInTurn-lost : (least held : ℕ) (lost kept : List Backward) → AcceptsInTurn least held (lost ++ kept) → AcceptsInTurn least held kept
+pub AcceptsInTurn-lost : (least held : ℕ) (lost kept : List Backward)
+    → AcceptsInTurn least held (lost ++ kept) → AcceptsInTurn least held kept
 AcceptsInTurn-lost least held [] kept accepts = accepts
-AcceptsInTurn-lost least held (Accept ack ∷ lost) kept (n, is, from, within, rest) = AcceptsInTurn-lower least (suc n) held kept (omega arith) (AcceptsInTurn-lost (suc n) held lost kept rest)
-AcceptsInTurn-lost least held (Retry ack ∷ lost) kept accepts = AcceptsInTurn-lost least held lost kept accepts
-AcceptsInTurn-lost least held (Response ack ∷ lost) kept accepts = AcceptsInTurn-lost least held lost kept accepts
-AcceptsInTurn-lost least held (Neutral ∷ lost) kept accepts = AcceptsInTurn-lost least held lost kept accepts
+AcceptsInTurn-lost least held (Accept ack ∷ lost) kept (n, is, from, within, rest) =
+    AcceptsInTurn-lower least (suc n) held kept (omega arith)
+    (AcceptsInTurn-lost (suc n) held lost kept rest)
+AcceptsInTurn-lost least held (Retry ack ∷ lost) kept accepts =
+    AcceptsInTurn-lost least held lost kept accepts
+AcceptsInTurn-lost least held (Response ack ∷ lost) kept accepts =
+    AcceptsInTurn-lost least held lost kept accepts
+AcceptsInTurn-lost least held (Neutral ∷ lost) kept accepts =
+    AcceptsInTurn-lost least held lost kept accepts
 
 -- the next packet is accepted
-pub AcceptsInTurn-accept : (least held : ℕ) (kept : List Backward) → least ≤ held → AcceptsInTurn least held kept → AcceptsInTurn least (suc held) (kept ++ Accept (held % 32) ∷ [])
+pub AcceptsInTurn-accept : (least held : ℕ) (kept : List Backward) → least ≤ held
+    → AcceptsInTurn least held kept
+    → AcceptsInTurn least (suc held) (kept ++ Accept (held % 32) ∷ [])
 AcceptsInTurn-accept least held [] below accepts = (held, refl, below, omega arith, tt)
-AcceptsInTurn-accept least held (Accept ack ∷ kept) below (n, is, from, within, rest) = (n, is, from, omega arith, AcceptsInTurn-accept (suc n) held kept (omega arith) rest)
-AcceptsInTurn-accept least held (Retry ack ∷ kept) below accepts = AcceptsInTurn-accept least held kept below accepts
-AcceptsInTurn-accept least held (Response ack ∷ kept) below accepts = AcceptsInTurn-accept least held kept below accepts
-AcceptsInTurn-accept least held (Neutral ∷ kept) below accepts = AcceptsInTurn-accept least held kept below accepts
+AcceptsInTurn-accept least held (Accept ack ∷ kept) below (n, is, from, within, rest) =
+    (n, is, from, omega arith, AcceptsInTurn-accept (suc n) held kept (omega arith) rest)
+AcceptsInTurn-accept least held (Retry ack ∷ kept) below accepts =
+    AcceptsInTurn-accept least held kept below accepts
+AcceptsInTurn-accept least held (Response ack ∷ kept) below accepts =
+    AcceptsInTurn-accept least held kept below accepts
+AcceptsInTurn-accept least held (Neutral ∷ kept) below accepts =
+    AcceptsInTurn-accept least held kept below accepts
 
-pub AcceptsInTurn-append : (least held : ℕ) (kept : List Backward) (e : Backward) → is_accept e ≡ false → AcceptsInTurn least held kept → AcceptsInTurn least held (kept ++ e ∷ [])
+pub AcceptsInTurn-append : (least held : ℕ) (kept : List Backward) (e : Backward)
+    → is_accept e ≡ false → AcceptsInTurn least held kept
+    → AcceptsInTurn least held (kept ++ e ∷ [])
 AcceptsInTurn-append least held [] (Accept ack) is accepts = absurd cc
 AcceptsInTurn-append least held [] (Retry ack) is accepts = tt
 AcceptsInTurn-append least held [] (Response ack) is accepts = tt
 AcceptsInTurn-append least held [] Neutral is accepts = tt
-AcceptsInTurn-append least held (Accept ack ∷ kept) e is (n, number, from, within, rest) = (n, number, from, within, AcceptsInTurn-append (suc n) held kept e is rest)
-AcceptsInTurn-append least held (Retry ack ∷ kept) e is accepts = AcceptsInTurn-append least held kept e is accepts
-AcceptsInTurn-append least held (Response ack ∷ kept) e is accepts = AcceptsInTurn-append least held kept e is accepts
-AcceptsInTurn-append least held (Neutral ∷ kept) e is accepts = AcceptsInTurn-append least held kept e is accepts
+AcceptsInTurn-append least held (Accept ack ∷ kept) e is (n, number, from, within, rest) =
+    (n, number, from, within, AcceptsInTurn-append (suc n) held kept e is rest)
+AcceptsInTurn-append least held (Retry ack ∷ kept) e is accepts =
+    AcceptsInTurn-append least held kept e is accepts
+AcceptsInTurn-append least held (Response ack ∷ kept) e is accepts =
+    AcceptsInTurn-append least held kept e is accepts
+AcceptsInTurn-append least held (Neutral ∷ kept) e is accepts =
+    AcceptsInTurn-append least held kept e is accepts
 
-pub AcceptsInTurn-none : (least held : ℕ) (kept : List Backward) → Lacks is_backward kept → AcceptsInTurn least held kept
+pub AcceptsInTurn-none : (least held : ℕ) (kept : List Backward) → Lacks is_backward kept
+    → AcceptsInTurn least held kept
 AcceptsInTurn-none least held [] none = tt
 AcceptsInTurn-none least held (Accept ack ∷ kept) none = absurd cc
 AcceptsInTurn-none least held (Retry ack ∷ kept) none = absurd cc
 AcceptsInTurn-none least held (Response ack ∷ kept) none = absurd cc
 AcceptsInTurn-none least held (Neutral ∷ kept) none = AcceptsInTurn-none least held kept none.1
 
-pub PacketsInTurn-lower : (sent : List (List ℕ)) (low least : ℕ) (kept : List Forward) → low ≤ least → PacketsInTurn sent least kept → PacketsInTurn sent low kept
+pub PacketsInTurn-lower : (sent : List (List ℕ)) (low least : ℕ) (kept : List Forward) → low ≤ least
+    → PacketsInTurn sent least kept → PacketsInTurn sent low kept
 PacketsInTurn-lower sent low least [] below flight = tt
-PacketsInTurn-lower sent low least (Packet ack packet ∷ kept) below (n, is, from, found, rest) = (n, is, omega arith, found, rest)
-PacketsInTurn-lower sent low least (Restart ∷ kept) below flight = PacketsInTurn-lower sent low least kept below flight
-PacketsInTurn-lower sent low least (Request ∷ kept) below flight = PacketsInTurn-lower sent low least kept below flight
-PacketsInTurn-lower sent low least (Other ∷ kept) below flight = PacketsInTurn-lower sent low least kept below flight
+PacketsInTurn-lower sent low least (Packet ack packet ∷ kept) below (n, is, from, found, rest) =
+    (n, is, omega arith, found, rest)
+PacketsInTurn-lower sent low least (Restart ∷ kept) below flight =
+    PacketsInTurn-lower sent low least kept below flight
+PacketsInTurn-lower sent low least (Request ∷ kept) below flight =
+    PacketsInTurn-lower sent low least kept below flight
+PacketsInTurn-lower sent low least (Other ∷ kept) below flight =
+    PacketsInTurn-lower sent low least kept below flight
 
-pub PacketsInTurn-lost : (sent : List (List ℕ)) (least : ℕ) (lost kept : List Forward) → PacketsInTurn sent least (lost ++ kept) → PacketsInTurn sent least kept
+pub PacketsInTurn-lost : (sent : List (List ℕ)) (least : ℕ) (lost kept : List Forward)
+    → PacketsInTurn sent least (lost ++ kept) → PacketsInTurn sent least kept
 PacketsInTurn-lost sent least [] kept flight = flight
-PacketsInTurn-lost sent least (Packet ack packet ∷ lost) kept (n, is, from, found, rest) = PacketsInTurn-lower sent least (suc n) kept (omega arith) (PacketsInTurn-lost sent (suc n) lost kept rest)
-PacketsInTurn-lost sent least (Restart ∷ lost) kept flight = PacketsInTurn-lost sent least lost kept flight
-PacketsInTurn-lost sent least (Request ∷ lost) kept flight = PacketsInTurn-lost sent least lost kept flight
-PacketsInTurn-lost sent least (Other ∷ lost) kept flight = PacketsInTurn-lost sent least lost kept flight
+PacketsInTurn-lost sent least (Packet ack packet ∷ lost) kept (n, is, from, found, rest) =
+    PacketsInTurn-lower sent least (suc n) kept (omega arith)
+    (PacketsInTurn-lost sent (suc n) lost kept rest)
+PacketsInTurn-lost sent least (Restart ∷ lost) kept flight =
+    PacketsInTurn-lost sent least lost kept flight
+PacketsInTurn-lost sent least (Request ∷ lost) kept flight =
+    PacketsInTurn-lost sent least lost kept flight
+PacketsInTurn-lost sent least (Other ∷ lost) kept flight =
+    PacketsInTurn-lost sent least lost kept flight
 
-pub PacketsInTurn-append : (sent : List (List ℕ)) (least : ℕ) (kept : List Forward) (e : Forward) → is_packet e ≡ false → PacketsInTurn sent least kept → PacketsInTurn sent least (kept ++ e ∷ [])
+pub PacketsInTurn-append : (sent : List (List ℕ)) (least : ℕ) (kept : List Forward) (e : Forward)
+    → is_packet e ≡ false → PacketsInTurn sent least kept
+    → PacketsInTurn sent least (kept ++ e ∷ [])
 PacketsInTurn-append sent least [] (Packet ack packet) is flight = absurd cc
 PacketsInTurn-append sent least [] Restart is flight = tt
 PacketsInTurn-append sent least [] Request is flight = tt
 PacketsInTurn-append sent least [] Other is flight = tt
-PacketsInTurn-append sent least (Packet ack packet ∷ kept) e is (n, number, from, found, rest) = (n, number, from, found, PacketsInTurn-append sent (suc n) kept e is rest)
-PacketsInTurn-append sent least (Restart ∷ kept) e is flight = PacketsInTurn-append sent least kept e is flight
-PacketsInTurn-append sent least (Request ∷ kept) e is flight = PacketsInTurn-append sent least kept e is flight
-PacketsInTurn-append sent least (Other ∷ kept) e is flight = PacketsInTurn-append sent least kept e is flight
+PacketsInTurn-append sent least (Packet ack packet ∷ kept) e is (n, number, from, found, rest) =
+    (n, number, from, found, PacketsInTurn-append sent (suc n) kept e is rest)
+PacketsInTurn-append sent least (Restart ∷ kept) e is flight =
+    PacketsInTurn-append sent least kept e is flight
+PacketsInTurn-append sent least (Request ∷ kept) e is flight =
+    PacketsInTurn-append sent least kept e is flight
+PacketsInTurn-append sent least (Other ∷ kept) e is flight =
+    PacketsInTurn-append sent least kept e is flight
 
-slice_get-last : (sent : List (List ℕ)) (packet : List ℕ) → slice_get (sent ++ packet ∷ []) (length sent) ≡ Some packet
+slice_get-last : (sent : List (List ℕ)) (packet : List ℕ)
+    → slice_get (sent ++ packet ∷ []) (length sent) ≡ Some packet
 slice_get-last [] packet = refl
 slice_get-last (first ∷ sent) packet = slice_get-last sent packet
 
-slice_get-before : (sent : List (List ℕ)) (packet : List ℕ) (n : ℕ) (other : List ℕ) → slice_get sent n ≡ Some other → slice_get (sent ++ packet ∷ []) n ≡ Some other
+slice_get-before : (sent : List (List ℕ)) (packet : List ℕ) (n : ℕ) (other : List ℕ)
+    → slice_get sent n ≡ Some other → slice_get (sent ++ packet ∷ []) n ≡ Some other
 slice_get-before [] packet n other found = absurd cc
 slice_get-before (first ∷ sent) packet zero other found = found
-slice_get-before (first ∷ sent) packet (suc n) other found = slice_get-before sent packet n other found
+slice_get-before (first ∷ sent) packet (suc n) other found =
+    slice_get-before sent packet n other found
 
 -- one more packet is sent
 pub PacketsInTurn-start :
-    (sent : List (List ℕ)) (least : ℕ) (kept : List Forward) (packet : List ℕ) → least ≤ length sent → PacketsInTurn sent least kept
+    (sent : List (List ℕ)) (least : ℕ) (kept : List Forward) (packet : List ℕ) → least ≤ length sent
+    → PacketsInTurn sent least kept
     → PacketsInTurn (sent ++ packet ∷ []) least (kept ++ Packet (length sent % 32) packet ∷ [])
-PacketsInTurn-start sent least [] packet below flight = (length sent, refl, below, slice_get-last sent packet, tt)
-PacketsInTurn-start sent least (Packet ack other ∷ kept) packet below (n, is, from, found, rest) =
-    (n, is, from, slice_get-before sent packet n other found, PacketsInTurn-start sent (suc n) kept packet (slice_get_within sent n other found) rest)
-PacketsInTurn-start sent least (Restart ∷ kept) packet below flight = PacketsInTurn-start sent least kept packet below flight
-PacketsInTurn-start sent least (Request ∷ kept) packet below flight = PacketsInTurn-start sent least kept packet below flight
-PacketsInTurn-start sent least (Other ∷ kept) packet below flight = PacketsInTurn-start sent least kept packet below flight
+PacketsInTurn-start sent least [] packet below flight =
+    (length sent, refl, below, slice_get-last sent packet, tt)
+PacketsInTurn-start sent least (Packet ack other ∷ kept) packet below (n, is, from, found, rest) = (
+  n,
+  is,
+  from,
+  slice_get-before sent packet n other found,
+  PacketsInTurn-start sent (suc n) kept packet (slice_get_within sent n other found) rest,
+)
+PacketsInTurn-start sent least (Restart ∷ kept) packet below flight =
+    PacketsInTurn-start sent least kept packet below flight
+PacketsInTurn-start sent least (Request ∷ kept) packet below flight =
+    PacketsInTurn-start sent least kept packet below flight
+PacketsInTurn-start sent least (Other ∷ kept) packet below flight =
+    PacketsInTurn-start sent least kept packet below flight
 
-pub PacketsInTurn-none : (sent : List (List ℕ)) (least : ℕ) (kept : List Forward) → Lacks is_forward kept → PacketsInTurn sent least kept
+pub PacketsInTurn-none : (sent : List (List ℕ)) (least : ℕ) (kept : List Forward)
+    → Lacks is_forward kept → PacketsInTurn sent least kept
 PacketsInTurn-none sent least [] none = tt
 PacketsInTurn-none sent least (Packet ack packet ∷ kept) none = absurd cc
 PacketsInTurn-none sent least (Restart ∷ kept) none = absurd cc
@@ -121,71 +178,94 @@ RetryOnce-none held (Retry ack ∷ kept) none = absurd cc
 RetryOnce-none held (Response ack ∷ kept) none = RetryOnce-none held kept none.1
 RetryOnce-none held (Neutral ∷ kept) none = RetryOnce-none held kept none.1
 
-pub RetryOnce-lost : (held : ℕ) (lost kept : List Backward) → RetryOnce held (lost ++ kept) → RetryOnce held kept
+pub RetryOnce-lost : (held : ℕ) (lost kept : List Backward) → RetryOnce held (lost ++ kept)
+    → RetryOnce held kept
 RetryOnce-lost held [] kept once = once
 RetryOnce-lost held (Accept ack ∷ lost) kept once = RetryOnce-lost held lost kept once
-RetryOnce-lost held (Retry ack ∷ lost) kept once = RetryOnce-none held kept (Lacks-lost is_retry lost kept once.1)
+RetryOnce-lost held (Retry ack ∷ lost) kept once =
+    RetryOnce-none held kept (Lacks-lost is_retry lost kept once.1)
 RetryOnce-lost held (Response ack ∷ lost) kept once = RetryOnce-lost held lost kept once
 RetryOnce-lost held (Neutral ∷ lost) kept once = RetryOnce-lost held lost kept once
 
-pub RetryOnce-append : (held : ℕ) (kept : List Backward) (e : Backward) → is_retry e ≡ false → RetryOnce held kept → RetryOnce held (kept ++ e ∷ [])
+pub RetryOnce-append : (held : ℕ) (kept : List Backward) (e : Backward) → is_retry e ≡ false
+    → RetryOnce held kept → RetryOnce held (kept ++ e ∷ [])
 RetryOnce-append held [] (Accept ack) is once = tt
 RetryOnce-append held [] (Retry ack) is once = absurd cc
 RetryOnce-append held [] (Response ack) is once = tt
 RetryOnce-append held [] Neutral is once = tt
 RetryOnce-append held (Accept ack ∷ kept) e is once = RetryOnce-append held kept e is once
-RetryOnce-append held (Retry ack ∷ kept) e is once = (once.0, Lacks-append is_retry kept e once.1 is)
+RetryOnce-append held (Retry ack ∷ kept) e is once =
+    (once.0, Lacks-append is_retry kept e once.1 is)
 RetryOnce-append held (Response ack ∷ kept) e is once = RetryOnce-append held kept e is once
 RetryOnce-append held (Neutral ∷ kept) e is once = RetryOnce-append held kept e is once
 
 -- the packet that is expected has to be sent again
-pub RetryOnce-retry : (held : ℕ) (kept : List Backward) → Lacks is_retry kept → RetryOnce held (kept ++ Retry (held % 32) ∷ [])
+pub RetryOnce-retry : (held : ℕ) (kept : List Backward) → Lacks is_retry kept
+    → RetryOnce held (kept ++ Retry (held % 32) ∷ [])
 RetryOnce-retry held [] none = (refl, tt)
 RetryOnce-retry held (Accept ack ∷ kept) none = RetryOnce-retry held kept none.1
 RetryOnce-retry held (Retry ack ∷ kept) none = absurd cc
 RetryOnce-retry held (Response ack ∷ kept) none = RetryOnce-retry held kept none.1
 RetryOnce-retry held (Neutral ∷ kept) none = RetryOnce-retry held kept none.1
 
-pub RestartOnce-none : (sent : List (List ℕ)) (held : ℕ) (kept : List Forward) → Lacks is_restart kept → RestartOnce sent held kept
+pub RestartOnce-none : (sent : List (List ℕ)) (held : ℕ) (kept : List Forward)
+    → Lacks is_restart kept → RestartOnce sent held kept
 RestartOnce-none sent held [] none = tt
 RestartOnce-none sent held (Packet ack packet ∷ kept) none = RestartOnce-none sent held kept none.1
 RestartOnce-none sent held (Restart ∷ kept) none = absurd cc
 RestartOnce-none sent held (Request ∷ kept) none = RestartOnce-none sent held kept none.1
 RestartOnce-none sent held (Other ∷ kept) none = RestartOnce-none sent held kept none.1
 
-pub RestartOnce-lost : (sent : List (List ℕ)) (held : ℕ) (lost kept : List Forward) → RestartOnce sent held (lost ++ kept) → RestartOnce sent held kept
+pub RestartOnce-lost : (sent : List (List ℕ)) (held : ℕ) (lost kept : List Forward)
+    → RestartOnce sent held (lost ++ kept) → RestartOnce sent held kept
 RestartOnce-lost sent held [] kept once = once
-RestartOnce-lost sent held (Packet ack packet ∷ lost) kept once = RestartOnce-lost sent held lost kept once
-RestartOnce-lost sent held (Restart ∷ lost) kept once = RestartOnce-none sent held kept (Lacks-lost is_restart lost kept once.0)
+RestartOnce-lost sent held (Packet ack packet ∷ lost) kept once =
+    RestartOnce-lost sent held lost kept once
+RestartOnce-lost sent held (Restart ∷ lost) kept once =
+    RestartOnce-none sent held kept (Lacks-lost is_restart lost kept once.0)
 RestartOnce-lost sent held (Request ∷ lost) kept once = RestartOnce-lost sent held lost kept once
 RestartOnce-lost sent held (Other ∷ lost) kept once = RestartOnce-lost sent held lost kept once
 
 pub RestartOnce-append :
-    (sent : List (List ℕ)) (held : ℕ) (kept : List Forward) (e : Forward) → is_packet e ≡ false → is_restart e ≡ false → RestartOnce sent held kept
+    (sent : List (List ℕ)) (held : ℕ) (kept : List Forward) (e : Forward) → is_packet e ≡ false
+    → is_restart e ≡ false → RestartOnce sent held kept
     → RestartOnce sent held (kept ++ e ∷ [])
 RestartOnce-append sent held [] (Packet ack packet) is not once = tt
 RestartOnce-append sent held [] Restart is not once = absurd cc
 RestartOnce-append sent held [] Request is not once = tt
 RestartOnce-append sent held [] Other is not once = tt
-RestartOnce-append sent held (Packet ack packet ∷ kept) e is not once = RestartOnce-append sent held kept e is not once
-RestartOnce-append sent held (Restart ∷ kept) e is not once = (Lacks-append is_restart kept e once.0 not, PacketsInTurn-append sent held kept e is once.1)
-RestartOnce-append sent held (Request ∷ kept) e is not once = RestartOnce-append sent held kept e is not once
-RestartOnce-append sent held (Other ∷ kept) e is not once = RestartOnce-append sent held kept e is not once
+RestartOnce-append sent held (Packet ack packet ∷ kept) e is not once =
+    RestartOnce-append sent held kept e is not once
+RestartOnce-append sent held (Restart ∷ kept) e is not once =
+    (Lacks-append is_restart kept e once.0 not, PacketsInTurn-append sent held kept e is once.1)
+RestartOnce-append sent held (Request ∷ kept) e is not once =
+    RestartOnce-append sent held kept e is not once
+RestartOnce-append sent held (Other ∷ kept) e is not once =
+    RestartOnce-append sent held kept e is not once
 
 -- one more packet is sent
 pub RestartOnce-start :
-    (sent : List (List ℕ)) (held : ℕ) (kept : List Forward) (packet : List ℕ) → held ≤ length sent → RestartOnce sent held kept
+    (sent : List (List ℕ)) (held : ℕ) (kept : List Forward) (packet : List ℕ) → held ≤ length sent
+    → RestartOnce sent held kept
     → RestartOnce (sent ++ packet ∷ []) held (kept ++ Packet (length sent % 32) packet ∷ [])
 RestartOnce-start sent held [] packet below once = tt
-RestartOnce-start sent held (Packet ack other ∷ kept) packet below once = RestartOnce-start sent held kept packet below once
-RestartOnce-start sent held (Restart ∷ kept) packet below once = (Lacks-append is_restart kept (Packet (length sent % 32) packet) once.0 refl, PacketsInTurn-start sent held kept packet below once.1)
-RestartOnce-start sent held (Request ∷ kept) packet below once = RestartOnce-start sent held kept packet below once
-RestartOnce-start sent held (Other ∷ kept) packet below once = RestartOnce-start sent held kept packet below once
+RestartOnce-start sent held (Packet ack other ∷ kept) packet below once =
+    RestartOnce-start sent held kept packet below once
+RestartOnce-start sent held (Restart ∷ kept) packet below once = (
+  Lacks-append is_restart kept (Packet (length sent % 32) packet) once.0 refl,
+  PacketsInTurn-start sent held kept packet below once.1,
+)
+RestartOnce-start sent held (Request ∷ kept) packet below once =
+    RestartOnce-start sent held kept packet below once
+RestartOnce-start sent held (Other ∷ kept) packet below once =
+    RestartOnce-start sent held kept packet below once
 
 -- the first restart-from-retry is sent
-pub RestartOnce-restart : (sent : List (List ℕ)) (held : ℕ) (kept : List Forward) → Lacks is_restart kept → RestartOnce sent held (kept ++ Restart ∷ [])
+pub RestartOnce-restart : (sent : List (List ℕ)) (held : ℕ) (kept : List Forward)
+    → Lacks is_restart kept → RestartOnce sent held (kept ++ Restart ∷ [])
 RestartOnce-restart sent held [] none = (tt, tt)
-RestartOnce-restart sent held (Packet ack packet ∷ kept) none = RestartOnce-restart sent held kept none.1
+RestartOnce-restart sent held (Packet ack packet ∷ kept) none =
+    RestartOnce-restart sent held kept none.1
 RestartOnce-restart sent held (Restart ∷ kept) none = absurd cc
 RestartOnce-restart sent held (Request ∷ kept) none = RestartOnce-restart sent held kept none.1
 RestartOnce-restart sent held (Other ∷ kept) none = RestartOnce-restart sent held kept none.1
@@ -201,7 +281,8 @@ pub RequestLast-lost : (lost kept : List Forward) → RequestLast (lost ++ kept)
 RequestLast-lost [] kept last = last
 RequestLast-lost (Packet ack packet ∷ lost) kept last = RequestLast-lost lost kept last
 RequestLast-lost (Restart ∷ lost) kept last = RequestLast-lost lost kept last
-RequestLast-lost (Request ∷ lost) kept last = RequestLast-none kept (Lacks-lost is_forward lost kept last)
+RequestLast-lost (Request ∷ lost) kept last =
+    RequestLast-none kept (Lacks-lost is_forward lost kept last)
 RequestLast-lost (Other ∷ lost) kept last = RequestLast-lost lost kept last
 
 pub RequestLast-append : (kept : List Forward) → RequestLast kept → RequestLast (kept ++ Other ∷ [])
@@ -212,14 +293,16 @@ RequestLast-append (Request ∷ kept) last = Lacks-append is_forward kept Other 
 RequestLast-append (Other ∷ kept) last = RequestLast-append kept last
 
 -- the first link-request is sent
-pub RequestLast-request : (kept : List Forward) → Lacks is_request kept → RequestLast (kept ++ Request ∷ [])
+pub RequestLast-request : (kept : List Forward) → Lacks is_request kept
+    → RequestLast (kept ++ Request ∷ [])
 RequestLast-request [] none = tt
 RequestLast-request (Packet ack packet ∷ kept) none = RequestLast-request kept none.1
 RequestLast-request (Restart ∷ kept) none = RequestLast-request kept none.1
 RequestLast-request (Request ∷ kept) none = absurd cc
 RequestLast-request (Other ∷ kept) none = RequestLast-request kept none.1
 
-pub ResponseLast-none : (held : ℕ) (kept : List Backward) → Lacks is_response kept → ResponseLast held kept
+pub ResponseLast-none : (held : ℕ) (kept : List Backward) → Lacks is_response kept
+    → ResponseLast held kept
 ResponseLast-none held [] none = tt
 ResponseLast-none held (Accept ack ∷ kept) none = ResponseLast-none held kept none.1
 ResponseLast-none held (Retry ack ∷ kept) none = ResponseLast-none held kept none.1
@@ -233,22 +316,27 @@ Lacks-response (Retry ack ∷ kept) none = absurd cc
 Lacks-response (Response ack ∷ kept) none = absurd cc
 Lacks-response (Neutral ∷ kept) none = (refl, Lacks-response kept none.1)
 
-pub ResponseLast-lost : (held : ℕ) (lost kept : List Backward) → ResponseLast held (lost ++ kept) → ResponseLast held kept
+pub ResponseLast-lost : (held : ℕ) (lost kept : List Backward) → ResponseLast held (lost ++ kept)
+    → ResponseLast held kept
 ResponseLast-lost held [] kept last = last
 ResponseLast-lost held (Accept ack ∷ lost) kept last = ResponseLast-lost held lost kept last
 ResponseLast-lost held (Retry ack ∷ lost) kept last = ResponseLast-lost held lost kept last
-ResponseLast-lost held (Response ack ∷ lost) kept last = ResponseLast-none held kept (Lacks-response kept (Lacks-lost is_backward lost kept last.1))
+ResponseLast-lost held (Response ack ∷ lost) kept last =
+    ResponseLast-none held kept (Lacks-response kept (Lacks-lost is_backward lost kept last.1))
 ResponseLast-lost held (Neutral ∷ lost) kept last = ResponseLast-lost held lost kept last
 
-pub ResponseLast-append : (held : ℕ) (kept : List Backward) → ResponseLast held kept → ResponseLast held (kept ++ Neutral ∷ [])
+pub ResponseLast-append : (held : ℕ) (kept : List Backward) → ResponseLast held kept
+    → ResponseLast held (kept ++ Neutral ∷ [])
 ResponseLast-append held [] last = tt
 ResponseLast-append held (Accept ack ∷ kept) last = ResponseLast-append held kept last
 ResponseLast-append held (Retry ack ∷ kept) last = ResponseLast-append held kept last
-ResponseLast-append held (Response ack ∷ kept) last = (last.0, Lacks-append is_backward kept Neutral last.1 refl)
+ResponseLast-append held (Response ack ∷ kept) last =
+    (last.0, Lacks-append is_backward kept Neutral last.1 refl)
 ResponseLast-append held (Neutral ∷ kept) last = ResponseLast-append held kept last
 
 -- the first link-response is sent
-pub ResponseLast-response : (held : ℕ) (kept : List Backward) → Lacks is_response kept → ResponseLast held (kept ++ Response (held % 32) ∷ [])
+pub ResponseLast-response : (held : ℕ) (kept : List Backward) → Lacks is_response kept
+    → ResponseLast held (kept ++ Response (held % 32) ∷ [])
 ResponseLast-response held [] none = (refl, tt)
 ResponseLast-response held (Accept ack ∷ kept) none = ResponseLast-response held kept none.1
 ResponseLast-response held (Retry ack ∷ kept) none = ResponseLast-response held kept none.1

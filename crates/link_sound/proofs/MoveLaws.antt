@@ -7,33 +7,70 @@ use Rattle.link_sound.specs.Direction.{FitsSender, FitsReceiver, IsDirection}
 use Rattle.link_sound.proofs.KeptLaws.{Lacks-lost, Lacks-append, AcceptsInTurn-lost, AcceptsInTurn-append, PacketsInTurn-lost, PacketsInTurn-append, RetryOnce-lost, RetryOnce-append, RestartOnce-lost, RestartOnce-append, RequestLast-lost, RequestLast-append, ResponseLast-lost, ResponseLast-append}
 
 -- a number is told by its ackID among 32
-pub same_number : (low n m : ℕ) → n % 32 ≡ m % 32 → low ≤ n → low ≤ m → n < low + 32 → m < low + 32 → n ≡ m
+pub same_number : (low n m : ℕ) → n % 32 ≡ m % 32 → low ≤ n → low ≤ m → n < low + 32 → m < low + 32
+    → n ≡ m
 same_number low n m same a b c d = omega arith
 
 FitsSender-lost :
-    (s : Sender) (r : Receiver) (freed held : ℕ) (lost kept_ahead : List Forward) (gone kept_back : List Backward)
-    → FitsSender s r freed held (lost ++ kept_ahead) (gone ++ kept_back) → FitsSender s r freed held kept_ahead kept_back
-FitsSender-lost Sender.Ok r freed held lost kept_ahead gone kept_back (asks, answers, once, inl none) =
-    (Lacks-lost is_request lost kept_ahead asks, Lacks-lost is_response gone kept_back answers, RetryOnce-lost held gone kept_back once, inl (Lacks-lost is_retry gone kept_back none))
-FitsSender-lost Sender.Ok r freed held lost kept_ahead gone kept_back (asks, answers, once, inr (shut, none)) =
-    (Lacks-lost is_request lost kept_ahead asks, Lacks-lost is_response gone kept_back answers, RetryOnce-lost held gone kept_back once, inr (shut, Lacks-lost is_restart lost kept_ahead none))
-FitsSender-lost Sender.RetryStopped r freed held lost kept_ahead gone kept_back (same, shut, asks, starts, retries, answers) =
-    (same, shut, Lacks-lost is_request lost kept_ahead asks, Lacks-lost is_restart lost kept_ahead starts, Lacks-lost is_retry gone kept_back retries, Lacks-lost is_response gone kept_back answers)
-FitsSender-lost Sender.ErrorStopped r freed held lost kept_ahead gone kept_back (asks, answers) = (Lacks-lost is_request lost kept_ahead asks, Lacks-lost is_response gone kept_back answers)
-FitsSender-lost Sender.ErrorStoppedAsked r freed held lost kept_ahead gone kept_back (asks, answers, inl none) =
-    (RequestLast-lost lost kept_ahead asks, ResponseLast-lost held gone kept_back answers, inl (Lacks-lost is_response gone kept_back none))
-FitsSender-lost Sender.ErrorStoppedAsked r freed held lost kept_ahead gone kept_back (asks, answers, inr none) =
-    (RequestLast-lost lost kept_ahead asks, ResponseLast-lost held gone kept_back answers, inr (Lacks-lost is_forward lost kept_ahead none))
+    (s : Sender) (r : Receiver) (freed held : ℕ) (lost kept_ahead : List Forward)
+    (gone kept_back : List Backward)
+    → FitsSender s r freed held (lost ++ kept_ahead) (gone ++ kept_back)
+    → FitsSender s r freed held kept_ahead kept_back
+FitsSender-lost Sender.Ok r freed held lost kept_ahead gone kept_back
+    (asks, answers, once, inl none) = (
+      Lacks-lost is_request lost kept_ahead asks,
+      Lacks-lost is_response gone kept_back answers,
+      RetryOnce-lost held gone kept_back once,
+      inl (Lacks-lost is_retry gone kept_back none),
+    )
+FitsSender-lost Sender.Ok r freed held lost kept_ahead gone kept_back
+    (asks, answers, once, inr (shut, none)) = (
+      Lacks-lost is_request lost kept_ahead asks,
+      Lacks-lost is_response gone kept_back answers,
+      RetryOnce-lost held gone kept_back once,
+      inr (shut, Lacks-lost is_restart lost kept_ahead none),
+    )
+FitsSender-lost Sender.RetryStopped r freed held lost kept_ahead gone kept_back
+    (same, shut, asks, starts, retries, answers) = (
+      same,
+      shut,
+      Lacks-lost is_request lost kept_ahead asks,
+      Lacks-lost is_restart lost kept_ahead starts,
+      Lacks-lost is_retry gone kept_back retries,
+      Lacks-lost is_response gone kept_back answers,
+    )
+FitsSender-lost Sender.ErrorStopped r freed held lost kept_ahead gone kept_back (asks, answers) =
+    (Lacks-lost is_request lost kept_ahead asks, Lacks-lost is_response gone kept_back answers)
+FitsSender-lost Sender.ErrorStoppedAsked r freed held lost kept_ahead gone kept_back
+    (asks, answers, inl none) = (
+      RequestLast-lost lost kept_ahead asks,
+      ResponseLast-lost held gone kept_back answers,
+      inl (Lacks-lost is_response gone kept_back none),
+    )
+FitsSender-lost Sender.ErrorStoppedAsked r freed held lost kept_ahead gone kept_back
+    (asks, answers, inr none) = (
+      RequestLast-lost lost kept_ahead asks,
+      ResponseLast-lost held gone kept_back answers,
+      inr (Lacks-lost is_forward lost kept_ahead none),
+    )
 FitsSender-lost Sender.Failed r freed held lost kept_ahead gone kept_back never = never
 
-FitsReceiver-lost : (r : Receiver) (held : ℕ) (sent : List (List ℕ)) (lost kept_ahead : List Forward) → FitsReceiver r held sent (lost ++ kept_ahead) → FitsReceiver r held sent kept_ahead
-FitsReceiver-lost Receiver.Ok held sent lost kept_ahead (none, flight) = (Lacks-lost is_restart lost kept_ahead none, PacketsInTurn-lost sent held lost kept_ahead flight)
-FitsReceiver-lost Receiver.RetryStopped held sent lost kept_ahead once = RestartOnce-lost sent held lost kept_ahead once
+FitsReceiver-lost : (r : Receiver) (held : ℕ) (sent : List (List ℕ))
+    (lost kept_ahead : List Forward) → FitsReceiver r held sent (lost ++ kept_ahead)
+    → FitsReceiver r held sent kept_ahead
+FitsReceiver-lost Receiver.Ok held sent lost kept_ahead (none, flight) = (
+  Lacks-lost is_restart lost kept_ahead none,
+  PacketsInTurn-lost sent held lost kept_ahead flight,
+)
+FitsReceiver-lost Receiver.RetryStopped held sent lost kept_ahead once =
+    RestartOnce-lost sent held lost kept_ahead once
 FitsReceiver-lost Receiver.ErrorStopped held sent lost kept_ahead any = tt
 
 pub lost_front :
-    (s : Sender) (r : Receiver) (freed held : ℕ) (sent : List (List ℕ)) (lost kept_ahead : List Forward) (gone kept_back : List Backward)
-    → IsDirection s r freed held sent (lost ++ kept_ahead) (gone ++ kept_back) → IsDirection s r freed held sent kept_ahead kept_back
+    (s : Sender) (r : Receiver) (freed held : ℕ) (sent : List (List ℕ))
+    (lost kept_ahead : List Forward) (gone kept_back : List Backward)
+    → IsDirection s r freed held sent (lost ++ kept_ahead) (gone ++ kept_back)
+    → IsDirection s r freed held sent kept_ahead kept_back
 lost_front s r freed held sent lost kept_ahead gone kept_back d = record {
   held_first = d.held_first;
   sent_first = d.sent_first;
@@ -44,26 +81,56 @@ lost_front s r freed held sent lost kept_ahead gone kept_back d = record {
 }
 
 FitsSender-other :
-    (s : Sender) (r : Receiver) (freed held : ℕ) (kept_ahead : List Forward) (kept_back : List Backward)
-    → FitsSender s r freed held kept_ahead kept_back → FitsSender s r freed held (kept_ahead ++ Other ∷ []) kept_back
-FitsSender-other Sender.Ok r freed held kept_ahead kept_back (asks, answers, once, inl none) = (Lacks-append is_request kept_ahead Other asks refl, answers, once, inl none)
-FitsSender-other Sender.Ok r freed held kept_ahead kept_back (asks, answers, once, inr (shut, none)) =
-    (Lacks-append is_request kept_ahead Other asks refl, answers, once, inr (shut, Lacks-append is_restart kept_ahead Other none refl))
-FitsSender-other Sender.RetryStopped r freed held kept_ahead kept_back (same, shut, asks, starts, retries, answers) =
-    (same, shut, Lacks-append is_request kept_ahead Other asks refl, Lacks-append is_restart kept_ahead Other starts refl, retries, answers)
-FitsSender-other Sender.ErrorStopped r freed held kept_ahead kept_back (asks, answers) = (Lacks-append is_request kept_ahead Other asks refl, answers)
-FitsSender-other Sender.ErrorStoppedAsked r freed held kept_ahead kept_back (asks, answers, inl none) = (RequestLast-append kept_ahead asks, answers, inl none)
-FitsSender-other Sender.ErrorStoppedAsked r freed held kept_ahead kept_back (asks, answers, inr none) = (RequestLast-append kept_ahead asks, answers, inr (Lacks-append is_forward kept_ahead Other none refl))
+    (s : Sender) (r : Receiver) (freed held : ℕ) (kept_ahead : List Forward)
+    (kept_back : List Backward)
+    → FitsSender s r freed held kept_ahead kept_back
+    → FitsSender s r freed held (kept_ahead ++ Other ∷ []) kept_back
+FitsSender-other Sender.Ok r freed held kept_ahead kept_back (asks, answers, once, inl none) =
+    (Lacks-append is_request kept_ahead Other asks refl, answers, once, inl none)
+FitsSender-other Sender.Ok r freed held kept_ahead kept_back
+    (asks, answers, once, inr (shut, none)) = (
+      Lacks-append is_request kept_ahead Other asks refl,
+      answers,
+      once,
+      inr (shut, Lacks-append is_restart kept_ahead Other none refl),
+    )
+FitsSender-other Sender.RetryStopped r freed held kept_ahead kept_back
+    (same, shut, asks, starts, retries, answers) = (
+      same,
+      shut,
+      Lacks-append is_request kept_ahead Other asks refl,
+      Lacks-append is_restart kept_ahead Other starts refl,
+      retries,
+      answers,
+    )
+FitsSender-other Sender.ErrorStopped r freed held kept_ahead kept_back (asks, answers) =
+    (Lacks-append is_request kept_ahead Other asks refl, answers)
+FitsSender-other Sender.ErrorStoppedAsked r freed held kept_ahead kept_back
+    (asks, answers, inl none) =
+    (RequestLast-append kept_ahead asks, answers, inl none)
+FitsSender-other Sender.ErrorStoppedAsked r freed held kept_ahead kept_back
+    (asks, answers, inr none) = (
+      RequestLast-append kept_ahead asks,
+      answers,
+      inr (Lacks-append is_forward kept_ahead Other none refl),
+    )
 FitsSender-other Sender.Failed r freed held kept_ahead kept_back never = never
 
-FitsReceiver-other : (r : Receiver) (held : ℕ) (sent : List (List ℕ)) (kept_ahead : List Forward) → FitsReceiver r held sent kept_ahead → FitsReceiver r held sent (kept_ahead ++ Other ∷ [])
-FitsReceiver-other Receiver.Ok held sent kept_ahead (none, flight) = (Lacks-append is_restart kept_ahead Other none refl, PacketsInTurn-append sent held kept_ahead Other refl flight)
-FitsReceiver-other Receiver.RetryStopped held sent kept_ahead once = RestartOnce-append sent held kept_ahead Other refl refl once
+FitsReceiver-other : (r : Receiver) (held : ℕ) (sent : List (List ℕ)) (kept_ahead : List Forward)
+    → FitsReceiver r held sent kept_ahead → FitsReceiver r held sent (kept_ahead ++ Other ∷ [])
+FitsReceiver-other Receiver.Ok held sent kept_ahead (none, flight) = (
+  Lacks-append is_restart kept_ahead Other none refl,
+  PacketsInTurn-append sent held kept_ahead Other refl flight,
+)
+FitsReceiver-other Receiver.RetryStopped held sent kept_ahead once =
+    RestartOnce-append sent held kept_ahead Other refl refl once
 FitsReceiver-other Receiver.ErrorStopped held sent kept_ahead any = tt
 
 pub other_sent :
-    (s : Sender) (r : Receiver) (freed held : ℕ) (sent : List (List ℕ)) (kept_ahead : List Forward) (kept_back : List Backward)
-    → IsDirection s r freed held sent kept_ahead kept_back → IsDirection s r freed held sent (kept_ahead ++ Other ∷ []) kept_back
+    (s : Sender) (r : Receiver) (freed held : ℕ) (sent : List (List ℕ)) (kept_ahead : List Forward)
+    (kept_back : List Backward)
+    → IsDirection s r freed held sent kept_ahead kept_back
+    → IsDirection s r freed held sent (kept_ahead ++ Other ∷ []) kept_back
 other_sent s r freed held sent kept_ahead kept_back d = record {
   held_first = d.held_first;
   sent_first = d.sent_first;
@@ -74,22 +141,49 @@ other_sent s r freed held sent kept_ahead kept_back d = record {
 }
 
 FitsSender-neutral :
-    (s : Sender) (r : Receiver) (freed held : ℕ) (kept_ahead : List Forward) (kept_back : List Backward)
-    → FitsSender s r freed held kept_ahead kept_back → FitsSender s r freed held kept_ahead (kept_back ++ Neutral ∷ [])
-FitsSender-neutral Sender.Ok r freed held kept_ahead kept_back (asks, answers, once, inl none) =
-    (asks, Lacks-append is_response kept_back Neutral answers refl, RetryOnce-append held kept_back Neutral refl once, inl (Lacks-append is_retry kept_back Neutral none refl))
-FitsSender-neutral Sender.Ok r freed held kept_ahead kept_back (asks, answers, once, inr shut) =
-    (asks, Lacks-append is_response kept_back Neutral answers refl, RetryOnce-append held kept_back Neutral refl once, inr shut)
-FitsSender-neutral Sender.RetryStopped r freed held kept_ahead kept_back (same, shut, asks, starts, retries, answers) =
-    (same, shut, asks, starts, Lacks-append is_retry kept_back Neutral retries refl, Lacks-append is_response kept_back Neutral answers refl)
-FitsSender-neutral Sender.ErrorStopped r freed held kept_ahead kept_back (asks, answers) = (asks, Lacks-append is_response kept_back Neutral answers refl)
-FitsSender-neutral Sender.ErrorStoppedAsked r freed held kept_ahead kept_back (asks, answers, inl none) = (asks, ResponseLast-append held kept_back answers, inl (Lacks-append is_response kept_back Neutral none refl))
-FitsSender-neutral Sender.ErrorStoppedAsked r freed held kept_ahead kept_back (asks, answers, inr none) = (asks, ResponseLast-append held kept_back answers, inr none)
+    (s : Sender) (r : Receiver) (freed held : ℕ) (kept_ahead : List Forward)
+    (kept_back : List Backward)
+    → FitsSender s r freed held kept_ahead kept_back
+    → FitsSender s r freed held kept_ahead (kept_back ++ Neutral ∷ [])
+FitsSender-neutral Sender.Ok r freed held kept_ahead kept_back (asks, answers, once, inl none) = (
+  asks,
+  Lacks-append is_response kept_back Neutral answers refl,
+  RetryOnce-append held kept_back Neutral refl once,
+  inl (Lacks-append is_retry kept_back Neutral none refl),
+)
+FitsSender-neutral Sender.Ok r freed held kept_ahead kept_back (asks, answers, once, inr shut) = (
+  asks,
+  Lacks-append is_response kept_back Neutral answers refl,
+  RetryOnce-append held kept_back Neutral refl once,
+  inr shut,
+)
+FitsSender-neutral Sender.RetryStopped r freed held kept_ahead kept_back
+    (same, shut, asks, starts, retries, answers) = (
+      same,
+      shut,
+      asks,
+      starts,
+      Lacks-append is_retry kept_back Neutral retries refl,
+      Lacks-append is_response kept_back Neutral answers refl,
+    )
+FitsSender-neutral Sender.ErrorStopped r freed held kept_ahead kept_back (asks, answers) =
+    (asks, Lacks-append is_response kept_back Neutral answers refl)
+FitsSender-neutral Sender.ErrorStoppedAsked r freed held kept_ahead kept_back
+    (asks, answers, inl none) = (
+      asks,
+      ResponseLast-append held kept_back answers,
+      inl (Lacks-append is_response kept_back Neutral none refl),
+    )
+FitsSender-neutral Sender.ErrorStoppedAsked r freed held kept_ahead kept_back
+    (asks, answers, inr none) =
+    (asks, ResponseLast-append held kept_back answers, inr none)
 FitsSender-neutral Sender.Failed r freed held kept_ahead kept_back never = never
 
 pub neutral_sent :
-    (s : Sender) (r : Receiver) (freed held : ℕ) (sent : List (List ℕ)) (kept_ahead : List Forward) (kept_back : List Backward)
-    → IsDirection s r freed held sent kept_ahead kept_back → IsDirection s r freed held sent kept_ahead (kept_back ++ Neutral ∷ [])
+    (s : Sender) (r : Receiver) (freed held : ℕ) (sent : List (List ℕ)) (kept_ahead : List Forward)
+    (kept_back : List Backward)
+    → IsDirection s r freed held sent kept_ahead kept_back
+    → IsDirection s r freed held sent kept_ahead (kept_back ++ Neutral ∷ [])
 neutral_sent s r freed held sent kept_ahead kept_back d = record {
   held_first = d.held_first;
   sent_first = d.sent_first;

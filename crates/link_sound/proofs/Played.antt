@@ -57,16 +57,23 @@ after TakesTurn l = after_turn l
 after Hears l = heard l l.kept_b
 after Misses l = missed l l.kept_b
 after MeetsError l = after_event l (Bad BadPacket) l.kept_b
-after Empties l = record l { a = record l.a { received = record { lists = no_packets; buffers = 4 }; place = start } }
+after Empties l =
+    record l {
+      a =
+          record l.a { received = record { lists = no_packets; buffers = 4 }; place = start };
+    }
 
 stays : (l : Link) → IsStep l (still l)
 stays l = Loses l [] l.kept_a [] l.kept_b refl refl
 
-put_step : (l : Link) (room : Bool) → nat_lt (length (list_at l.a.queued 0)) 16 ≡ room → IsStep l (putting room l)
-put_step l true is = Puts l packet (omega arith) passes_packet (ltb-true (length (list_at l.a.queued 0)) 16 is)
+put_step : (l : Link) (room : Bool) → nat_lt (length (list_at l.a.queued 0)) 16 ≡ room
+    → IsStep l (putting room l)
+put_step l true is =
+    Puts l packet (omega arith) passes_packet (ltb-true (length (list_at l.a.queued 0)) 16 is)
 put_step l false is = stays l
 
-hearing_step : (l : Link) (e : Event) (rest : List Event) (does : Bool) → l.kept_b ≡ e ∷ rest → is_acted l.a e ≡ does → IsStep l (hearing does l e rest)
+hearing_step : (l : Link) (e : Event) (rest : List Event) (does : Bool) → l.kept_b ≡ e ∷ rest
+    → is_acted l.a e ≡ does → IsStep l (hearing does l e rest)
 hearing_step l e rest true first is = Acts l e rest first is
 hearing_step l e rest false first is = stays l
 
@@ -84,7 +91,9 @@ step TakesTurn l = Turns l
 step Hears l = heard_step l l.kept_b refl
 step Misses l = missed_step l l.kept_b refl
 step MeetsError l = Others l (Bad BadPacket) refl
-step Empties l = GoesOn l (record { lists = no_packets; buffers = 4 }) start (new_is_port 4 (omega arith, omega arith)).receives tt
+step Empties l =
+    GoesOn l (record { lists = no_packets; buffers = 4 }) start
+    (new_is_port 4 (omega arith, omega arith)).receives tt
 
 -- the link after the moves
 unfoldable pub played : List Move → Link → Link
@@ -96,4 +105,6 @@ pub is_history : (moves : List Move) (l : Link) → IsHistory l (played moves l)
 unfolding played
 is_history [] l = Rests l
 is_history (First d ∷ moves) l = AtFirst l (step d l) (is_history moves (after d l))
-is_history (Second d ∷ moves) l = AtSecond l (step d (turned_round l)) (is_history moves (turned_round (after d (turned_round l))))
+is_history (Second d ∷ moves) l =
+    AtSecond l (step d (turned_round l))
+    (is_history moves (turned_round (after d (turned_round l))))

@@ -35,7 +35,8 @@ use Rattle.link_sound.proofs.Plain.{held_is}
 use Rattle.link_sound.proofs.Steps.{is_expected}
 
 -- the expected ackID stays one of five bits
-expected_below : (what : Arrival) (input : Input) → expected_of input < 32 → expected_of (receives what input).state < 32
+pub expected_below : (what : Arrival) (input : Input) → expected_of input < 32
+    → expected_of (receives what input).state < 32
 expected_below ExpectedWithRoom (Input.Ok expected) below = omega arith
 expected_below ExpectedWithRoom (Input.RetryStopped expected) below = below
 expected_below ExpectedWithRoom (Input.ErrorStopped expected) below = below
@@ -59,46 +60,70 @@ expected_below OtherStype1 (Input.RetryStopped expected) below = below
 expected_below OtherStype1 (Input.ErrorStopped expected) below = below
 
 -- a list that has a packet is one of the lists
-list_within : (lists : List (List (List ℕ))) (prio : ℕ) (packet : List ℕ) → slice_get (list_at lists prio) 0 ≡ Some packet → prio < length lists
+list_within : (lists : List (List (List ℕ))) (prio : ℕ) (packet : List ℕ)
+    → slice_get (list_at lists prio) 0 ≡ Some packet → prio < length lists
 list_within lists prio packet is =
     let some = slice_get_within (list_at lists prio) 0 packet is in
     elim (cases_lt prio (length lists)) [
       | inl within ↦ within
-      | inr beyond ↦ let none = ap length (get_or-eq_default lists [] beyond) in absurd (omega arith)
+      | inr beyond ↦ let none =
+          ap length (get_or-eq_default lists [] beyond) in absurd (omega arith)
     ]
 
 -- a packet with room is put into the store
-roomy : (store : Buffered) (packet : List ℕ) → prio_of packet < 4 → Passes packet → room_for store (prio_of packet) ≡ true → IsInStore store → IsInStore (stored true store packet)
+roomy : (store : Buffered) (packet : List ℕ) → prio_of packet < 4 → Passes packet
+    → room_for store (prio_of packet) ≡ true → IsInStore store
+    → IsInStore (stored true store packet)
 roomy store packet few passes room is =
     let less = ltb-true (packet_count store.lists + (3 - prio_of packet)) store.buffers room in
     IsInStore-appended store.lists store.buffers packet is few passes (omega arith)
 
 expected_store :
-    (output : Output) (queued : List (List (List ℕ))) (store : Buffered) (ack : ℕ) (packet : List ℕ) (kept_ahead : List Forward) (kept_back : List Backward) (room : Bool)
-    → room_for store (prio_of packet) ≡ room → Covers (prios_of output) queued → IsOutStore queued → IsBetween output (Input.Ok ack) queued (Packet ack packet ∷ kept_ahead) kept_back → IsInStore store
+    (output : Output) (queued : List (List (List ℕ))) (store : Buffered) (ack : ℕ) (packet : List ℕ)
+    (kept_ahead : List Forward) (kept_back : List Backward) (room : Bool)
+    → room_for store (prio_of packet) ≡ room → Covers (prios_of output) queued → IsOutStore queued
+    → IsBetween output (Input.Ok ack) queued (Packet ack packet ∷ kept_ahead) kept_back
+    → IsInStore store
     → IsInStore (stored (receives (packet_arrival ack ack room) (Input.Ok ack)).held store packet)
 expected_store output queued store ack packet kept_ahead kept_back true room covers four b is =
     let first = (held_is output ack queued packet kept_ahead kept_back covers four b).first in
-    let long = length-lists_without (take (distance (oldest_of output) ack) (prios_of output)) queued in
+    let long =
+    length-lists_without (take (distance (oldest_of output) ack) (prios_of output)) queued in
     let inside = list_within (waiting_from output ack queued) (prio_of packet) packet first in
     let few : prio_of packet < 4 = omega (arith, four.four) in
     let acknowledged = take (distance (oldest_of output) ack) (prios_of output) in
-    let waits = IsOutStore-lists_without acknowledged queued (Covers-take (distance (oldest_of output) ack) (prios_of output) queued covers) four in
-    rw (eq-eqb ack ack refl) (roomy store packet few (Passes-at (waiting_from output ack queued) (prio_of packet) 0 packet waits.packets few first) room is)
-expected_store output queued store ack packet kept_ahead kept_back false room covers four b is = rw (eq-eqb ack ack refl) is
+    let waits =
+    IsOutStore-lists_without acknowledged queued
+    (Covers-take (distance (oldest_of output) ack) (prios_of output) queued covers) four in
+    rw (eq-eqb ack ack refl) (roomy store packet few
+    (Passes-at (waiting_from output ack queued) (prio_of packet) 0 packet waits.packets few first)
+    room is)
+expected_store output queued store ack packet kept_ahead kept_back false room covers four b is =
+    rw (eq-eqb ack ack refl) is
 
 packet_store :
-    (output : Output) (queued : List (List (List ℕ))) (store : Buffered) (input : Input) (ack : ℕ) (packet : List ℕ) (kept_ahead : List Forward) (kept_back : List Backward)
-    → input ≡ Input.Ok ack → Covers (prios_of output) queued → IsOutStore queued → IsBetween output input queued (Packet ack packet ∷ kept_ahead) kept_back → IsInStore store
-    → IsInStore (stored (receives (packet_arrival (expected_of input) ack (room_for store (prio_of packet))) input).held store packet)
+    (output : Output) (queued : List (List (List ℕ))) (store : Buffered) (input : Input) (ack : ℕ)
+    (packet : List ℕ) (kept_ahead : List Forward) (kept_back : List Backward)
+    → input ≡ Input.Ok ack → Covers (prios_of output) queued → IsOutStore queued
+    → IsBetween output input queued (Packet ack packet ∷ kept_ahead) kept_back → IsInStore store
+    → IsInStore (stored (receives
+    (packet_arrival (expected_of input) ack (room_for store (prio_of packet))) input).held store
+    packet)
 packet_store output queued store input ack packet kept_ahead kept_back same covers four b is =
-    subst (λ (i : Input). IsInStore (stored (receives (packet_arrival (expected_of i) ack (room_for store (prio_of packet))) i).held store packet)) (sym same)
-    (expected_store output queued store ack packet kept_ahead kept_back (room_for store (prio_of packet)) refl covers four
-    (subst (λ (i : Input). IsBetween output i queued (Packet ack packet ∷ kept_ahead) kept_back) same b) is)
+    subst (λ (i : Input). IsInStore (stored
+    (receives (packet_arrival (expected_of i) ack (room_for store (prio_of packet))) i).held store
+    packet)) (sym same)
+    (expected_store output queued store ack packet kept_ahead kept_back
+    (room_for store (prio_of packet)) refl covers four
+    (subst (λ (i : Input). IsBetween output i queued (Packet ack packet ∷ kept_ahead) kept_back)
+    same b) is)
 
 shut_store :
-    (same room : Bool) (store : Buffered) (input : Input) (packet : List ℕ) → IsShut (receiver_of input)
-    → stored (receives (if same then (if room then ExpectedWithRoom else ExpectedWithoutRoom) else UnexpectedAck) input).held store packet ≡ store
+    (same room : Bool) (store : Buffered) (input : Input) (packet : List ℕ)
+    → IsShut (receiver_of input)
+    → stored (receives
+    (if same then (if room then ExpectedWithRoom else ExpectedWithoutRoom) else UnexpectedAck)
+    input).held store packet ≡ store
 shut_store same room store (Input.Ok expected) packet shut = absurd shut
 shut_store true true store (Input.RetryStopped expected) packet shut = refl
 shut_store true false store (Input.RetryStopped expected) packet shut = refl
@@ -108,66 +133,120 @@ shut_store true false store (Input.ErrorStopped expected) packet shut = refl
 shut_store false room store (Input.ErrorStopped expected) packet shut = refl
 
 dropped_store :
-    (store : Buffered) (input : Input) (ack : ℕ) (packet : List ℕ) (room : Bool) → expects input ack ≡ false
-    → stored (receives (packet_arrival (expected_of input) ack room) input).held store packet ≡ store
+    (store : Buffered) (input : Input) (ack : ℕ) (packet : List ℕ) (room : Bool)
+    → expects input ack ≡ false
+    → stored (receives (packet_arrival (expected_of input) ack room) input).held store packet
+    ≡ store
 dropped_store store (Input.Ok expected) ack packet room other = rw other refl
-dropped_store store (Input.RetryStopped expected) ack packet room other = shut_store (ack == expected) room store (Input.RetryStopped expected) packet tt
-dropped_store store (Input.ErrorStopped expected) ack packet room other = shut_store (ack == expected) room store (Input.ErrorStopped expected) packet tt
+dropped_store store (Input.RetryStopped expected) ack packet room other =
+    shut_store (ack == expected) room store (Input.RetryStopped expected) packet tt
+dropped_store store (Input.ErrorStopped expected) ack packet room other =
+    shut_store (ack == expected) room store (Input.ErrorStopped expected) packet tt
 
 pub turn_port : (a : PortState) → IsPort a → IsPort (turns_to a)
 turn_port a is =
-    let sends = turn_sends a.output a.queued (record { window_is = is.outstanding; covered = is.covered }) in
-    record { outstanding = sends.window_is; covered = sends.covered; expected_ack = is.expected_ack; sends = is.sends; receives = is.receives; bounded = is.bounded }
+    let sends = turn_sends a.output a.queued (record {
+      window_is = is.outstanding;
+      covered = is.covered;
+    }) in
+    record {
+      outstanding = sends.window_is;
+      covered = sends.covered;
+      expected_ack = is.expected_ack;
+      sends = is.sends;
+      receives = is.receives;
+      bounded = is.bounded;
+    }
 
 pub time_out_port : (a : PortState) → IsPort a → IsPort (timed_out a)
 time_out_port a is =
-    let sends = time_out_sends a.output a.queued (record { window_is = is.outstanding; covered = is.covered }) in
-    record { outstanding = sends.window_is; covered = sends.covered; expected_ack = is.expected_ack; sends = is.sends; receives = is.receives; bounded = is.bounded }
+    let sends = time_out_sends a.output a.queued (record {
+      window_is = is.outstanding;
+      covered = is.covered;
+    }) in
+    record {
+      outstanding = sends.window_is;
+      covered = sends.covered;
+      expected_ack = is.expected_ack;
+      sends = is.sends;
+      receives = is.receives;
+      bounded = is.bounded;
+    }
 
 pub put_port :
-    (a : PortState) (packet : List ℕ) → prio_of packet < 4 → Passes packet → length (list_at a.queued (prio_of packet)) < 16 → IsPort a → IsPort (record a { queued = appended a.queued (prio_of packet) packet })
+    (a : PortState) (packet : List ℕ) → prio_of packet < 4 → Passes packet
+    → length (list_at a.queued (prio_of packet)) < 16 → IsPort a
+    → IsPort (record a { queued = appended a.queued (prio_of packet) packet })
 put_port a packet few passes room is = record {
   outstanding = is.outstanding;
-  covered = Covers-appended (prios_of a.output) a.queued (prio_of packet) packet is.covered (omega (arith, is.sends.four));
+  covered =
+      Covers-appended (prios_of a.output) a.queued (prio_of packet) packet is.covered
+      (omega (arith, is.sends.four));
   expected_ack = is.expected_ack;
   sends = IsOutStore-appended a.queued packet is.sends few passes room;
   receives = is.receives;
   bounded = is.bounded;
 }
 
-pub read_port : (a : PortState) (received : Buffered) (place : Place) → IsInStore received → IsBounded place.text → IsPort a → IsPort (record a { received = received; place = place })
-read_port a received place store bounded is = record { outstanding = is.outstanding; covered = is.covered; expected_ack = is.expected_ack; sends = is.sends; receives = store; bounded = bounded }
+pub read_port : (a : PortState) (received : Buffered) (place : Place) → IsInStore received
+    → IsBounded place.text → IsPort a → IsPort (record a { received = received; place = place })
+read_port a received place store bounded is = record {
+  outstanding = is.outstanding;
+  covered = is.covered;
+  expected_ack = is.expected_ack;
+  sends = is.sends;
+  receives = store;
+  bounded = bounded;
+}
 
 pub acted_port :
-    (a b : PortState) (kept_a kept_b : List Event) (e : Event) → IsPort a → IsPort b → is_acted a e ≡ true → IsSound a b kept_a (e ∷ kept_b) → IsPort (acts a e).port
+    (a b : PortState) (kept_a kept_b : List Event) (e : Event) → IsPort a → IsPort b
+    → is_acted a e ≡ true → IsSound a b kept_a (e ∷ kept_b) → IsPort (acts a e).port
 acted_port a b kept_a kept_b (Ctl symbol) is far acted s =
-    let sends = heard_sends (stype0 symbol.s0) symbol.p0 a.output b.input a.queued _ _ s.a_to_b (record { window_is = is.outstanding; covered = is.covered }) in
+    let sends =
+    heard_sends (stype0 symbol.s0) symbol.p0 a.output b.input a.queued _ _ s.a_to_b (record {
+      window_is = is.outstanding;
+      covered = is.covered;
+    }) in
     record {
       outstanding = sends.window_is;
       covered = sends.covered;
       expected_ack = expected_below (symbol_arrival symbol.s1 symbol.cmd) a.input is.expected_ack;
-      sends = IsOutStore-lists_without (take (heard a symbol).freed (prios_of a.output)) a.queued (Covers-take (heard a symbol).freed (prios_of a.output) a.queued is.covered) is.sends;
+      sends =
+          IsOutStore-lists_without (take (heard a symbol).freed (prios_of a.output)) a.queued
+          (Covers-take (heard a symbol).freed (prios_of a.output) a.queued is.covered) is.sends;
       receives = is.receives;
       bounded = is.bounded;
     }
 acted_port a b kept_a kept_b (Pkt ack packet) is far acted s = record {
   outstanding = is.outstanding;
   covered = is.covered;
-  expected_ack = expected_below (packet_arrival (expected_of a.input) ack (room_for a.received (prio_of packet))) a.input is.expected_ack;
+  expected_ack =
+      expected_below
+      (packet_arrival (expected_of a.input) ack (room_for a.received (prio_of packet))) a.input
+      is.expected_ack;
   sends = is.sends;
-  receives = packet_store b.output b.queued a.received a.input ack packet _ _ (is_expected a.input ack acted) far.covered far.sends s.b_to_a is.receives;
+  receives =
+      packet_store b.output b.queued a.received a.input ack packet _ _
+      (is_expected a.input ack acted) far.covered far.sends s.b_to_a is.receives;
   bounded = is.bounded;
 }
 acted_port a b kept_a kept_b (Bad cause) is far acted s = absurd cc
 
-pub other_port : (a : PortState) (e : Event) → IsPort a → is_acted a e ≡ false → IsPort (acts a e).port
+pub other_port : (a : PortState) (e : Event) → IsPort a → is_acted a e ≡ false
+    → IsPort (acts a e).port
 other_port a (Ctl symbol) is other = absurd cc
 other_port a (Pkt ack packet) is other = record {
   outstanding = is.outstanding;
   covered = is.covered;
-  expected_ack = expected_below (packet_arrival (expected_of a.input) ack (room_for a.received (prio_of packet))) a.input is.expected_ack;
+  expected_ack =
+      expected_below
+      (packet_arrival (expected_of a.input) ack (room_for a.received (prio_of packet))) a.input
+      is.expected_ack;
   sends = is.sends;
-  receives = subst (λ (store : Buffered). IsInStore store) (sym (dropped_store a.received a.input ack packet (room_for a.received (prio_of packet)) other)) is.receives;
+  receives =
+      subst (λ (store : Buffered). IsInStore store) (sym (dropped_store a.received a.input ack
+      packet (room_for a.received (prio_of packet)) other)) is.receives;
   bounded = is.bounded;
 }
 other_port a (Bad cause) is other = record {
@@ -208,6 +287,13 @@ new_is_port buffers is = record {
   covered = covers_none no_packets;
   expected_ack = omega arith;
   sends = record { four = refl; sorted = none_sorted; packets = none_there; within = none_within };
-  receives = record { four = refl; sorted = none_sorted; packets = none_there; within = omega (arith, is.0); least = is.0; most = is.1 };
+  receives = record {
+    four = refl;
+    sorted = none_sorted;
+    packets = none_there;
+    within = omega (arith, is.0);
+    least = is.0;
+    most = is.1;
+  };
   bounded = tt;
 }

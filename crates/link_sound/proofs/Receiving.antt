@@ -17,8 +17,10 @@ use Rattle.link_sound.specs.Between.{IsBetween}
 
 -- what the receiver acts on is taken away
 pub one_taken :
-    (output : Output) (input : Input) (queued : List (List (List ℕ))) (mark : Forward) (kept_ahead : List Forward) (kept_back : List Backward)
-    → IsBetween output input queued (mark ∷ kept_ahead) kept_back → IsBetween output input queued kept_ahead kept_back
+    (output : Output) (input : Input) (queued : List (List (List ℕ))) (mark : Forward)
+    (kept_ahead : List Forward) (kept_back : List Backward)
+    → IsBetween output input queued (mark ∷ kept_ahead) kept_back
+    → IsBetween output input queued kept_ahead kept_back
 one_taken output input queued mark kept_ahead kept_back b = record {
   sent = b.sent;
   freed = b.freed;
@@ -26,13 +28,18 @@ one_taken output input queued mark kept_ahead kept_back b = record {
   oldest = b.oldest;
   expected = b.expected;
   outstanding = b.outstanding;
-  is = lost_front (sender_of output) (receiver_of input) b.freed b.held b.sent (mark ∷ []) kept_ahead [] kept_back b.is;
+  is =
+      lost_front (sender_of output) (receiver_of input) b.freed b.held b.sent (mark ∷ []) kept_ahead
+      [] kept_back b.is;
 }
 
 -- the receiver meets an error, and says so
 error_keeps :
-    (output : Output) (input : Input) (queued : List (List (List ℕ))) (kept_ahead : List Forward) (kept_back : List Backward)
-    → IsBetween output input queued kept_ahead kept_back → IsBetween output (Input.ErrorStopped (expected_of input)) queued kept_ahead (kept_back ++ Neutral ∷ [])
+    (output : Output) (input : Input) (queued : List (List (List ℕ))) (kept_ahead : List Forward)
+    (kept_back : List Backward)
+    → IsBetween output input queued kept_ahead kept_back
+    → IsBetween output (Input.ErrorStopped (expected_of input)) queued kept_ahead
+    (kept_back ++ Neutral ∷ [])
 error_keeps output input queued kept_ahead kept_back b = record {
   sent = b.sent;
   freed = b.freed;
@@ -40,27 +47,37 @@ error_keeps output input queued kept_ahead kept_back b = record {
   oldest = b.oldest;
   expected = b.expected;
   outstanding = b.outstanding;
-  is = error_met (sender_of output) (receiver_of input) b.freed b.held b.sent kept_ahead kept_back b.is;
+  is =
+      error_met (sender_of output) (receiver_of input) b.freed b.held b.sent kept_ahead kept_back
+      b.is;
 }
 
 restart_keeps :
-    (output : Output) (input : Input) (queued : List (List (List ℕ))) (kept_ahead : List Forward) (kept_back : List Backward) → IsBetween output input queued (Restart ∷ kept_ahead) kept_back
-    → IsBetween output (receives RestartFromRetry input).state queued kept_ahead (kept_back ++ reply_backward (receives RestartFromRetry input).reply)
-restart_keeps output (Input.Ok expected) queued kept_ahead kept_back b = absurd (no_restart_at_ok (sender_of output) b.freed b.held b.sent kept_ahead kept_back b.is)
-restart_keeps output (Input.RetryStopped expected) queued kept_ahead kept_back b = rw append-nil (record {
-  sent = b.sent;
-  freed = b.freed;
-  held = b.held;
-  oldest = b.oldest;
-  expected = b.expected;
-  outstanding = b.outstanding;
-  is = restart_met (sender_of output) b.freed b.held b.sent kept_ahead kept_back b.is;
-})
-restart_keeps output (Input.ErrorStopped expected) queued kept_ahead kept_back b = rw append-nil (one_taken output (Input.ErrorStopped expected) queued Restart kept_ahead kept_back b)
+    (output : Output) (input : Input) (queued : List (List (List ℕ))) (kept_ahead : List Forward)
+    (kept_back : List Backward) → IsBetween output input queued (Restart ∷ kept_ahead) kept_back
+    → IsBetween output (receives RestartFromRetry input).state queued kept_ahead
+    (kept_back ++ reply_backward (receives RestartFromRetry input).reply)
+restart_keeps output (Input.Ok expected) queued kept_ahead kept_back b =
+    absurd (no_restart_at_ok (sender_of output) b.freed b.held b.sent kept_ahead kept_back b.is)
+restart_keeps output (Input.RetryStopped expected) queued kept_ahead kept_back b =
+    rw append-nil (record {
+      sent = b.sent;
+      freed = b.freed;
+      held = b.held;
+      oldest = b.oldest;
+      expected = b.expected;
+      outstanding = b.outstanding;
+      is = restart_met (sender_of output) b.freed b.held b.sent kept_ahead kept_back b.is;
+    })
+restart_keeps output (Input.ErrorStopped expected) queued kept_ahead kept_back b =
+    rw append-nil
+    (one_taken output (Input.ErrorStopped expected) queued Restart kept_ahead kept_back b)
 
 answered_keeps :
-    (output : Output) (input : Input) (queued : List (List (List ℕ))) (kept_ahead : List Forward) (kept_back : List Backward) → IsBetween output input queued (Request ∷ kept_ahead) kept_back
-    → IsBetween output (Input.Ok (expected_of input)) queued kept_ahead (kept_back ++ Response (expected_of input) ∷ [])
+    (output : Output) (input : Input) (queued : List (List (List ℕ))) (kept_ahead : List Forward)
+    (kept_back : List Backward) → IsBetween output input queued (Request ∷ kept_ahead) kept_back
+    → IsBetween output (Input.Ok (expected_of input)) queued kept_ahead
+    (kept_back ++ Response (expected_of input) ∷ [])
 answered_keeps output input queued kept_ahead kept_back b = record {
   sent = b.sent;
   freed = b.freed;
@@ -68,61 +85,92 @@ answered_keeps output input queued kept_ahead kept_back b = record {
   oldest = b.oldest;
   expected = b.expected;
   outstanding = b.outstanding;
-  is = subst (λ (ack : ℕ). IsDirection (sender_of output) Receiver.Ok b.freed b.held b.sent kept_ahead (kept_back ++ Response ack ∷ [])) (sym b.expected)
-      (request_met (sender_of output) (receiver_of input) b.freed b.held b.sent kept_ahead kept_back b.is);
+  is =
+      subst (λ (ack : ℕ). IsDirection (sender_of output) Receiver.Ok b.freed b.held b.sent
+      kept_ahead (kept_back ++ Response ack ∷ [])) (sym b.expected)
+      (request_met (sender_of output) (receiver_of input) b.freed b.held b.sent kept_ahead kept_back
+      b.is);
 }
 
 request_keeps :
-    (output : Output) (input : Input) (queued : List (List (List ℕ))) (kept_ahead : List Forward) (kept_back : List Backward) → IsBetween output input queued (Request ∷ kept_ahead) kept_back
-    → IsBetween output (receives LinkRequest input).state queued kept_ahead (kept_back ++ reply_backward (receives LinkRequest input).reply)
-request_keeps output (Input.Ok expected) queued kept_ahead kept_back b = answered_keeps output (Input.Ok expected) queued kept_ahead kept_back b
-request_keeps output (Input.RetryStopped expected) queued kept_ahead kept_back b = answered_keeps output (Input.RetryStopped expected) queued kept_ahead kept_back b
-request_keeps output (Input.ErrorStopped expected) queued kept_ahead kept_back b = answered_keeps output (Input.ErrorStopped expected) queued kept_ahead kept_back b
+    (output : Output) (input : Input) (queued : List (List (List ℕ))) (kept_ahead : List Forward)
+    (kept_back : List Backward) → IsBetween output input queued (Request ∷ kept_ahead) kept_back
+    → IsBetween output (receives LinkRequest input).state queued kept_ahead
+    (kept_back ++ reply_backward (receives LinkRequest input).reply)
+request_keeps output (Input.Ok expected) queued kept_ahead kept_back b =
+    answered_keeps output (Input.Ok expected) queued kept_ahead kept_back b
+request_keeps output (Input.RetryStopped expected) queued kept_ahead kept_back b =
+    answered_keeps output (Input.RetryStopped expected) queued kept_ahead kept_back b
+request_keeps output (Input.ErrorStopped expected) queued kept_ahead kept_back b =
+    answered_keeps output (Input.ErrorStopped expected) queued kept_ahead kept_back b
 
 other_keeps :
-    (output : Output) (input : Input) (queued : List (List (List ℕ))) (kept_ahead : List Forward) (kept_back : List Backward) → IsBetween output input queued kept_ahead kept_back
-    → IsBetween output (receives OtherStype1 input).state queued kept_ahead (kept_back ++ reply_backward (receives OtherStype1 input).reply)
+    (output : Output) (input : Input) (queued : List (List (List ℕ))) (kept_ahead : List Forward)
+    (kept_back : List Backward) → IsBetween output input queued kept_ahead kept_back
+    → IsBetween output (receives OtherStype1 input).state queued kept_ahead
+    (kept_back ++ reply_backward (receives OtherStype1 input).reply)
 other_keeps output (Input.Ok expected) queued kept_ahead kept_back b = rw append-nil b
 other_keeps output (Input.RetryStopped expected) queued kept_ahead kept_back b = rw append-nil b
 other_keeps output (Input.ErrorStopped expected) queued kept_ahead kept_back b = rw append-nil b
 
 -- the two tests of a symbol's stype1 and cmd
 abbrev pub arrival : Bool → Bool → Arrival
-arrival is_restart is_request = if is_restart then RestartFromRetry else (if is_request then LinkRequest else OtherStype1)
+arrival is_restart is_request =
+    if is_restart then RestartFromRetry else (if is_request then LinkRequest else OtherStype1)
 
 obeyed_keeps :
-    (is_restart is_request : Bool) (output : Output) (input : Input) (queued : List (List (List ℕ))) (kept_ahead : List Forward) (kept_back : List Backward)
+    (is_restart is_request : Bool) (output : Output) (input : Input) (queued : List (List (List ℕ)))
+    (kept_ahead : List Forward) (kept_back : List Backward)
     → IsBetween output input queued (asks (arrival is_restart is_request) ∷ kept_ahead) kept_back
-    → IsBetween output (receives (arrival is_restart is_request) input).state queued kept_ahead (kept_back ++ reply_backward (receives (arrival is_restart is_request) input).reply)
-obeyed_keeps true is_request output input queued kept_ahead kept_back b = restart_keeps output input queued kept_ahead kept_back b
-obeyed_keeps false true output input queued kept_ahead kept_back b = request_keeps output input queued kept_ahead kept_back b
-obeyed_keeps false false output input queued kept_ahead kept_back b = other_keeps output input queued kept_ahead kept_back (one_taken output input queued Other kept_ahead kept_back b)
+    → IsBetween output (receives (arrival is_restart is_request) input).state queued kept_ahead
+    (kept_back ++ reply_backward (receives (arrival is_restart is_request) input).reply)
+obeyed_keeps true is_request output input queued kept_ahead kept_back b =
+    restart_keeps output input queued kept_ahead kept_back b
+obeyed_keeps false true output input queued kept_ahead kept_back b =
+    request_keeps output input queued kept_ahead kept_back b
+obeyed_keeps false false output input queued kept_ahead kept_back b =
+    other_keeps output input queued kept_ahead kept_back
+    (one_taken output input queued Other kept_ahead kept_back b)
 
 -- a symbol comes
 pub symbol_keeps :
-    (s1 cmd : ℕ) (output : Output) (input : Input) (queued : List (List (List ℕ))) (kept_ahead : List Forward) (kept_back : List Backward)
+    (s1 cmd : ℕ) (output : Output) (input : Input) (queued : List (List (List ℕ)))
+    (kept_ahead : List Forward) (kept_back : List Backward)
     → IsBetween output input queued (asks (symbol_arrival s1 cmd) ∷ kept_ahead) kept_back
-    → IsBetween output (receives (symbol_arrival s1 cmd) input).state queued kept_ahead (kept_back ++ reply_backward (receives (symbol_arrival s1 cmd) input).reply)
-symbol_keeps s1 cmd output input queued kept_ahead kept_back b = obeyed_keeps (s1 == 3) ((s1 == 4) && (cmd == 4)) output input queued kept_ahead kept_back b
+    → IsBetween output (receives (symbol_arrival s1 cmd) input).state queued kept_ahead
+    (kept_back ++ reply_backward (receives (symbol_arrival s1 cmd) input).reply)
+symbol_keeps s1 cmd output input queued kept_ahead kept_back b =
+    obeyed_keeps (s1 == 3) ((s1 == 4) && (cmd == 4)) output input queued kept_ahead kept_back b
 
 -- what is no packet or symbol comes
 pub damaged_keeps :
-    (cause : ℕ) (output : Output) (input : Input) (queued : List (List (List ℕ))) (kept_ahead : List Forward) (kept_back : List Backward) → IsBetween output input queued kept_ahead kept_back
-    → IsBetween output (receives (Damaged cause) input).state queued kept_ahead (kept_back ++ reply_backward (receives (Damaged cause) input).reply)
-damaged_keeps cause output (Input.Ok expected) queued kept_ahead kept_back b = error_keeps output (Input.Ok expected) queued kept_ahead kept_back b
-damaged_keeps cause output (Input.RetryStopped expected) queued kept_ahead kept_back b = error_keeps output (Input.RetryStopped expected) queued kept_ahead kept_back b
-damaged_keeps cause output (Input.ErrorStopped expected) queued kept_ahead kept_back b = rw append-nil b
+    (cause : ℕ) (output : Output) (input : Input) (queued : List (List (List ℕ)))
+    (kept_ahead : List Forward) (kept_back : List Backward)
+    → IsBetween output input queued kept_ahead kept_back
+    → IsBetween output (receives (Damaged cause) input).state queued kept_ahead
+    (kept_back ++ reply_backward (receives (Damaged cause) input).reply)
+damaged_keeps cause output (Input.Ok expected) queued kept_ahead kept_back b =
+    error_keeps output (Input.Ok expected) queued kept_ahead kept_back b
+damaged_keeps cause output (Input.RetryStopped expected) queued kept_ahead kept_back b =
+    error_keeps output (Input.RetryStopped expected) queued kept_ahead kept_back b
+damaged_keeps cause output (Input.ErrorStopped expected) queued kept_ahead kept_back b =
+    rw append-nil b
 
 pub next_expected : (expected held : ℕ) → expected ≡ held % 32 → (expected + 1) % 32 ≡ suc held % 32
 next_expected expected held is = omega arith
 
 -- the packet that is expected comes
 pub expected_keeps :
-    (room : Bool) (ack : ℕ) (packet : List ℕ) (output : Output) (queued : List (List (List ℕ))) (kept_ahead : List Forward) (kept_back : List Backward)
+    (room : Bool) (ack : ℕ) (packet : List ℕ) (output : Output) (queued : List (List (List ℕ)))
+    (kept_ahead : List Forward) (kept_back : List Backward)
     → IsBetween output (Input.Ok ack) queued (Packet ack packet ∷ kept_ahead) kept_back
-    → IsBetween output (receives (packet_arrival ack ack room) (Input.Ok ack)).state queued kept_ahead (kept_back ++ reply_backward (receives (packet_arrival ack ack room) (Input.Ok ack)).reply)
+    → IsBetween output (receives (packet_arrival ack ack room) (Input.Ok ack)).state queued
+    kept_ahead
+    (kept_back ++ reply_backward (receives (packet_arrival ack ack room) (Input.Ok ack)).reply)
 expected_keeps true ack packet output queued kept_ahead kept_back b =
-    let does = packet_held (sender_of output) b.freed b.held ack b.sent packet kept_ahead kept_back b.expected b.is in
+    let does =
+    packet_held (sender_of output) b.freed b.held ack b.sent packet kept_ahead kept_back
+    b.expected b.is in
     rw (eq-eqb ack ack refl) (record {
       sent = b.sent;
       freed = b.freed;
@@ -140,34 +188,57 @@ expected_keeps false ack packet output queued kept_ahead kept_back b =
       oldest = b.oldest;
       expected = b.expected;
       outstanding = b.outstanding;
-      is = packet_refused (sender_of output) b.freed b.held ack b.sent packet kept_ahead kept_back b.expected b.is;
+      is =
+          packet_refused (sender_of output) b.freed b.held ack b.sent packet kept_ahead kept_back
+          b.expected b.is;
     })
 
 dropped :
-    (same room : Bool) (output : Output) (input : Input) (queued : List (List (List ℕ))) (kept_ahead : List Forward) (kept_back : List Backward)
+    (same room : Bool) (output : Output) (input : Input) (queued : List (List (List ℕ)))
+    (kept_ahead : List Forward) (kept_back : List Backward)
     → IsBetween output input queued kept_ahead kept_back → IsShut (receiver_of input)
-    → IsBetween output (receives (if same then (if room then ExpectedWithRoom else ExpectedWithoutRoom) else UnexpectedAck) input).state queued kept_ahead
-    (kept_back ++ reply_backward (receives (if same then (if room then ExpectedWithRoom else ExpectedWithoutRoom) else UnexpectedAck) input).reply)
+    → IsBetween output (receives
+    (if same then (if room then ExpectedWithRoom else ExpectedWithoutRoom) else UnexpectedAck)
+    input).state queued kept_ahead
+    (kept_back ++ reply_backward (receives
+    (if same then (if room then ExpectedWithRoom else ExpectedWithoutRoom) else UnexpectedAck)
+    input).reply)
 dropped same room output (Input.Ok expected) queued kept_ahead kept_back b shut = absurd shut
-dropped true true output (Input.RetryStopped expected) queued kept_ahead kept_back b shut = rw append-nil b
-dropped true false output (Input.RetryStopped expected) queued kept_ahead kept_back b shut = rw append-nil b
-dropped false room output (Input.RetryStopped expected) queued kept_ahead kept_back b shut = rw append-nil b
-dropped true true output (Input.ErrorStopped expected) queued kept_ahead kept_back b shut = rw append-nil b
-dropped true false output (Input.ErrorStopped expected) queued kept_ahead kept_back b shut = rw append-nil b
-dropped false room output (Input.ErrorStopped expected) queued kept_ahead kept_back b shut = rw append-nil b
+dropped true true output (Input.RetryStopped expected) queued kept_ahead kept_back b shut =
+    rw append-nil b
+dropped true false output (Input.RetryStopped expected) queued kept_ahead kept_back b shut =
+    rw append-nil b
+dropped false room output (Input.RetryStopped expected) queued kept_ahead kept_back b shut =
+    rw append-nil b
+dropped true true output (Input.ErrorStopped expected) queued kept_ahead kept_back b shut =
+    rw append-nil b
+dropped true false output (Input.ErrorStopped expected) queued kept_ahead kept_back b shut =
+    rw append-nil b
+dropped false room output (Input.ErrorStopped expected) queued kept_ahead kept_back b shut =
+    rw append-nil b
 
 -- a packet comes that is not expected, or while packets are dropped
 pub unexpected_keeps :
-    (room : Bool) (ack : ℕ) (output : Output) (input : Input) (queued : List (List (List ℕ))) (kept_ahead : List Forward) (kept_back : List Backward) → expects input ack ≡ false
+    (room : Bool) (ack : ℕ) (output : Output) (input : Input) (queued : List (List (List ℕ)))
+    (kept_ahead : List Forward) (kept_back : List Backward) → expects input ack ≡ false
     → IsBetween output input queued kept_ahead kept_back
-    → IsBetween output (receives (packet_arrival (expected_of input) ack room) input).state queued kept_ahead
-    (kept_back ++ reply_backward (receives (packet_arrival (expected_of input) ack room) input).reply)
-unexpected_keeps room ack output (Input.Ok expected) queued kept_ahead kept_back other b = rw other (error_keeps output (Input.Ok expected) queued kept_ahead kept_back b)
-unexpected_keeps room ack output (Input.RetryStopped expected) queued kept_ahead kept_back other b = dropped (ack == expected) room output (Input.RetryStopped expected) queued kept_ahead kept_back b tt
-unexpected_keeps room ack output (Input.ErrorStopped expected) queued kept_ahead kept_back other b = dropped (ack == expected) room output (Input.ErrorStopped expected) queued kept_ahead kept_back b tt
+    → IsBetween output (receives (packet_arrival (expected_of input) ack room) input).state queued
+    kept_ahead
+    (kept_back
+    ++ reply_backward (receives (packet_arrival (expected_of input) ack room) input).reply)
+unexpected_keeps room ack output (Input.Ok expected) queued kept_ahead kept_back other b =
+    rw other (error_keeps output (Input.Ok expected) queued kept_ahead kept_back b)
+unexpected_keeps room ack output (Input.RetryStopped expected) queued kept_ahead kept_back other b =
+    dropped (ack == expected) room output (Input.RetryStopped expected) queued kept_ahead kept_back
+    b tt
+unexpected_keeps room ack output (Input.ErrorStopped expected) queued kept_ahead kept_back other b =
+    dropped (ack == expected) room output (Input.ErrorStopped expected) queued kept_ahead kept_back
+    b tt
 
 -- a reply means nothing to the far receiver
-reply_is_other : (what : Arrival) (input : Input) → (reply_forward (receives what input).reply ≡ []) ⊎ (reply_forward (receives what input).reply ≡ Other ∷ [])
+reply_is_other : (what : Arrival) (input : Input)
+    → (reply_forward (receives what input).reply ≡ [])
+    ⊎ (reply_forward (receives what input).reply ≡ Other ∷ [])
 reply_is_other ExpectedWithRoom (Input.Ok expected) = inr refl
 reply_is_other ExpectedWithRoom (Input.RetryStopped expected) = inl refl
 reply_is_other ExpectedWithRoom (Input.ErrorStopped expected) = inl refl
@@ -192,8 +263,11 @@ reply_is_other OtherStype1 (Input.ErrorStopped expected) = inl refl
 
 -- the other direction, whose sender's port replies
 pub reply_keeps :
-    (what : Arrival) (half : Input) (output : Output) (input : Input) (queued : List (List (List ℕ))) (kept_ahead : List Forward) (kept_back : List Backward)
-    → IsBetween output input queued kept_ahead kept_back → IsBetween output input queued (kept_ahead ++ reply_forward (receives what half).reply) kept_back
+    (what : Arrival) (half : Input) (output : Output) (input : Input)
+    (queued : List (List (List ℕ))) (kept_ahead : List Forward) (kept_back : List Backward)
+    → IsBetween output input queued kept_ahead kept_back
+    → IsBetween output input queued (kept_ahead ++ reply_forward (receives what half).reply)
+    kept_back
 reply_keeps what half output input queued kept_ahead kept_back b =
     elim (reply_is_other what half) [
       | inl none ↦ rw none (rw append-nil b)
@@ -204,6 +278,8 @@ reply_keeps what half output input queued kept_ahead kept_back b =
         oldest = b.oldest;
         expected = b.expected;
         outstanding = b.outstanding;
-        is = other_sent (sender_of output) (receiver_of input) b.freed b.held b.sent kept_ahead kept_back b.is;
+        is =
+            other_sent (sender_of output) (receiver_of input) b.freed b.held b.sent kept_ahead
+            kept_back b.is;
       })
     ]

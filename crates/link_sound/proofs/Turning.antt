@@ -4,7 +4,8 @@ use Rattle.std.proofs.lemmas.Bool.{cases_lt}
 use Rattle.std.proofs.lemmas.List.{append-nil, drop-append-le}
 use Rattle.link_buffers.specs.Queues.{list_at}
 use Rattle.link_buffers.specs.Priorities.{packets_of, lists_without, highest, Covers}
-use Rattle.link_buffers.proofs.PriorityLaws.{length-packets_of, packets_of-next, slice_get-lists_without, highest_below-some}
+use Rattle.link_buffers.proofs.PriorityLists.{slice_get-lists_without}
+use Rattle.link_buffers.proofs.PriorityLaws.{length-packets_of, packets_of-next, highest_below-some}
 use Rattle.link_model.specs.Input.{Input}
 use Rattle.link_model.specs.Output.{Output, Sends, turns, started, startable}
 use Rattle.link_model.specs.Outstanding.{Outstanding, next_ack, with_next}
@@ -22,12 +23,14 @@ use Rattle.link_sound.specs.Meanings.{forward, backward, sender_of, receiver_of}
 use Rattle.link_sound.specs.Between.{IsBetween}
 
 -- the number of a next packet is that of those sent
-number_of_next : (oldest count freed total : ℕ) → oldest ≡ freed % 32 → total ≡ freed + count → (oldest + count) % 32 ≡ total % 32
+number_of_next : (oldest count freed total : ℕ) → oldest ≡ freed % 32 → total ≡ freed + count
+    → (oldest + count) % 32 ≡ total % 32
 number_of_next oldest count freed total is all = omega arith
 
 -- how many are outstanding
 pub count_is :
-    (prios : List ℕ) (queued : List (List (List ℕ))) (freed : ℕ) (sent : List (List ℕ)) → Covers prios queued → freed ≤ length sent
+    (prios : List ℕ) (queued : List (List (List ℕ))) (freed : ℕ) (sent : List (List ℕ))
+    → Covers prios queued → freed ≤ length sent
     → packets_of prios queued ≡ drop freed sent → length sent ≡ freed + length prios
 count_is prios queued freed sent covers below same =
     let long = length-packets_of prios queued covers in
@@ -37,59 +40,93 @@ count_is prios queued freed sent covers below same =
 
 -- of the three events of a start one means something
 start_sent :
-    (r : Receiver) (freed held : ℕ) (sent : List (List ℕ)) (packet : List ℕ) (kept_ahead : List Forward) (kept_back : List Backward)
+    (r : Receiver) (freed held : ℕ) (sent : List (List ℕ)) (packet : List ℕ)
+    (kept_ahead : List Forward) (kept_back : List Backward)
     → length sent < freed + window → IsDirection Sender.Ok r freed held sent kept_ahead kept_back
-    → IsDirection Sender.Ok r freed held (sent ++ packet ∷ []) (kept_ahead ++ Other ∷ Packet (length sent % 32) packet ∷ Other ∷ []) kept_back
+    → IsDirection Sender.Ok r freed held (sent ++ packet ∷ [])
+    (kept_ahead ++ Other ∷ Packet (length sent % 32) packet ∷ Other ∷ []) kept_back
 start_sent r freed held sent packet kept_ahead kept_back room d =
     let first = kept_ahead ++ Other ∷ [] in
     let second = first ++ Packet (length sent % 32) packet ∷ [] in
-    subst (λ (fs : List Forward). IsDirection Sender.Ok r freed held (sent ++ packet ∷ []) fs kept_back)
-    (append_assoc first (Packet (length sent % 32) packet ∷ []) (Other ∷ []) ∙ append_assoc kept_ahead (Other ∷ []) (Packet (length sent % 32) packet ∷ Other ∷ []))
+    subst
+    (λ (fs : List Forward). IsDirection Sender.Ok r freed held (sent ++ packet ∷ []) fs kept_back)
+    (append_assoc first (Packet (length sent % 32) packet ∷ []) (Other ∷ [])
+    ∙ append_assoc kept_ahead (Other ∷ []) (Packet (length sent % 32) packet ∷ Other ∷ []))
     (other_sent Sender.Ok r freed held (sent ++ packet ∷ []) second kept_back
-    (packet_started r freed held sent packet first kept_back room (other_sent Sender.Ok r freed held sent kept_ahead kept_back d)))
+    (packet_started r freed held sent packet first kept_back room
+    (other_sent Sender.Ok r freed held sent kept_ahead kept_back d)))
 
 -- the first of the packets of a list that is not empty
-first_there : (packets : List (List ℕ)) → 0 < length packets → (packet : List ℕ) × (slice_get packets 0 ≡ Some packet)
+first_there : (packets : List (List ℕ)) → 0 < length packets
+    → (packet : List ℕ) × (slice_get packets 0 ≡ Some packet)
 first_there [] some = absurd (omega arith)
 first_there (packet ∷ packets) some = (packet, refl)
 
 -- a packet starts
 turn_started :
-    (w : Outstanding) (input : Input) (queued : List (List (List ℕ))) (expected : ℕ) (kept_ahead : List Forward) (kept_back : List Backward) (prio : ℕ) → Covers w.prios queued
-    → length w.prios < window → highest (lists_without w.prios queued) ≡ Some prio → IsBetween (Output.Ok w) input queued kept_ahead kept_back
-    → IsBetween (Output.Ok (with_next w prio)) input queued (kept_ahead ++ map forward (packet_burst expected (next_ack w) (slice_get (list_at (lists_without w.prios queued) prio) 0)).sent) kept_back
+    (w : Outstanding) (input : Input) (queued : List (List (List ℕ))) (expected : ℕ)
+    (kept_ahead : List Forward) (kept_back : List Backward) (prio : ℕ) → Covers w.prios queued
+    → length w.prios < window → highest (lists_without w.prios queued) ≡ Some prio
+    → IsBetween (Output.Ok w) input queued kept_ahead kept_back
+    → IsBetween (Output.Ok (with_next w prio)) input queued (kept_ahead
+    ++ map forward (packet_burst expected (next_ack w)
+    (slice_get (list_at (lists_without w.prios queued) prio) 0)).sent) kept_back
 turn_started w input queued expected kept_ahead kept_back prio covers room waits b =
-    let there = first_there (list_at (lists_without w.prios queued) prio) (highest_below-some 4 prio (lists_without w.prios queued) waits).1 in
+    let there =
+    first_there (list_at (lists_without w.prios queued) prio)
+    (highest_below-some 4 prio (lists_without w.prios queued) waits).1 in
     let below : b.freed ≤ length b.sent = omega (arith, b.is.held_first, b.is.sent_first) in
     let total = count_is w.prios queued b.freed b.sent covers below b.outstanding in
-    let number : next_ack w ≡ length b.sent % 32 = number_of_next w.oldest (length w.prios) b.freed (length b.sent) b.oldest total in
-    let next = packets_of-next w.prios prio queued there.0 (sym (slice_get-lists_without w.prios queued prio) ∙ there.1) in
+    let number : next_ack w ≡ length b.sent % 32 =
+    number_of_next w.oldest (length w.prios) b.freed (length b.sent) b.oldest total in
+    let next =
+    packets_of-next w.prios prio queued there.0
+    (sym (slice_get-lists_without w.prios queued prio) ∙ there.1) in
     rw there.1 (record {
       sent = b.sent ++ there.0 ∷ [];
       freed = b.freed;
       held = b.held;
       oldest = b.oldest;
       expected = b.expected;
-      outstanding = next ∙ ap (λ xs. xs ++ there.0 ∷ []) b.outstanding ∙ sym (drop-append-le b.freed b.sent (there.0 ∷ []) below);
-      is = subst (λ (ack : ℕ). IsDirection Sender.Ok (receiver_of input) b.freed b.held (b.sent ++ there.0 ∷ []) (kept_ahead ++ Other ∷ Packet ack there.0 ∷ Other ∷ []) kept_back)
+      outstanding =
+          next
+          ∙ ap (λ xs. xs ++ there.0 ∷ []) b.outstanding
+          ∙ sym (drop-append-le b.freed b.sent (there.0 ∷ []) below);
+      is =
+          subst (λ (ack : ℕ). IsDirection Sender.Ok (receiver_of input) b.freed b.held
+          (b.sent ++ there.0 ∷ []) (kept_ahead ++ Other ∷ Packet ack there.0 ∷ Other ∷ [])
+          kept_back)
           (sym number)
-          (start_sent (receiver_of input) b.freed b.held b.sent there.0 kept_ahead kept_back (omega arith) b.is);
+          (start_sent (receiver_of input) b.freed b.held b.sent there.0 kept_ahead kept_back
+          (omega arith) b.is);
     })
 
 started_is :
-    (w : Outstanding) (input : Input) (queued : List (List (List ℕ))) (expected : ℕ) (kept_ahead : List Forward) (kept_back : List Backward) (waiting : Option ℕ) → Covers w.prios queued
-    → length w.prios < window → highest (lists_without w.prios queued) ≡ waiting → IsBetween (Output.Ok w) input queued kept_ahead kept_back
-    → IsBetween (started w waiting).state input queued (kept_ahead ++ map forward (burst_of (started w waiting).sends expected (lists_without w.prios queued)).sent) kept_back
+    (w : Outstanding) (input : Input) (queued : List (List (List ℕ))) (expected : ℕ)
+    (kept_ahead : List Forward) (kept_back : List Backward) (waiting : Option ℕ)
+    → Covers w.prios queued
+    → length w.prios < window → highest (lists_without w.prios queued) ≡ waiting
+    → IsBetween (Output.Ok w) input queued kept_ahead kept_back
+    → IsBetween (started w waiting).state input queued (kept_ahead
+    ++ map forward
+    (burst_of (started w waiting).sends expected (lists_without w.prios queued)).sent) kept_back
 started_is w input queued expected kept_ahead kept_back None covers room waits b = rw append-nil b
-started_is w input queued expected kept_ahead kept_back (Some prio) covers room waits b = turn_started w input queued expected kept_ahead kept_back prio covers room waits b
+started_is w input queued expected kept_ahead kept_back (Some prio) covers room waits b =
+    turn_started w input queued expected kept_ahead kept_back prio covers room waits b
 
 ok_is :
-    (w : Outstanding) (input : Input) (queued : List (List (List ℕ))) (expected : ℕ) (kept_ahead : List Forward) (kept_back : List Backward) (waiting : Option ℕ) → Covers w.prios queued
-    → highest (lists_without w.prios queued) ≡ waiting → IsBetween (Output.Ok w) input queued kept_ahead kept_back
-    → IsBetween (started w (startable w waiting)).state input queued (kept_ahead ++ map forward (burst_of (started w (startable w waiting)).sends expected (lists_without w.prios queued)).sent) kept_back
+    (w : Outstanding) (input : Input) (queued : List (List (List ℕ))) (expected : ℕ)
+    (kept_ahead : List Forward) (kept_back : List Backward) (waiting : Option ℕ)
+    → Covers w.prios queued
+    → highest (lists_without w.prios queued) ≡ waiting
+    → IsBetween (Output.Ok w) input queued kept_ahead kept_back
+    → IsBetween (started w (startable w waiting)).state input queued (kept_ahead
+    ++ map forward (burst_of (started w (startable w waiting)).sends expected
+    (lists_without w.prios queued)).sent) kept_back
 ok_is w input queued expected kept_ahead kept_back waiting covers waits b =
     elim (cases_lt (length w.prios) window) [
-      | inl few ↦ rw (startable-open w waiting few) (started_is w input queued expected kept_ahead kept_back waiting covers few waits b)
+      | inl few ↦ rw (startable-open w waiting few)
+          (started_is w input queued expected kept_ahead kept_back waiting covers few waits b)
       | inr full ↦ rw (startable-full w waiting full) (rw append-nil b)
     ]
 
@@ -100,11 +137,16 @@ drop_taken (suc count) (packet ∷ packets) = drop_taken count packets
 
 -- the direction of the port that takes its turn
 pub own_turn :
-    (output : Output) (input : Input) (queued : List (List (List ℕ))) (expected : ℕ) (kept_ahead : List Forward) (kept_back : List Backward) → Covers (prios_of output) queued
+    (output : Output) (input : Input) (queued : List (List (List ℕ))) (expected : ℕ)
+    (kept_ahead : List Forward) (kept_back : List Backward) → Covers (prios_of output) queued
     → IsBetween output input queued kept_ahead kept_back
     → IsBetween (turns output (highest (lists_without (prios_of output) queued))).state input queued
-    (kept_ahead ++ map forward (burst_of (turns output (highest (lists_without (prios_of output) queued))).sends expected (lists_without (prios_of output) queued)).sent) kept_back
-own_turn (Output.Ok w) input queued expected kept_ahead kept_back covers b = ok_is w input queued expected kept_ahead kept_back (highest (lists_without w.prios queued)) covers refl b
+    (kept_ahead ++ map forward (burst_of
+    (turns output (highest (lists_without (prios_of output) queued))).sends expected
+    (lists_without (prios_of output) queued)).sent) kept_back
+own_turn (Output.Ok w) input queued expected kept_ahead kept_back covers b =
+    ok_is w input queued expected kept_ahead kept_back (highest (lists_without w.prios queued))
+    covers refl b
 own_turn (Output.RetryStopped w) input queued expected kept_ahead kept_back covers b = record {
   sent = take b.freed b.sent;
   freed = b.freed;
@@ -114,22 +156,26 @@ own_turn (Output.RetryStopped w) input queued expected kept_ahead kept_back cove
   outstanding = sym (drop_taken b.freed b.sent);
   is = restarted (receiver_of input) b.freed b.held b.sent kept_ahead kept_back b.is;
 }
-own_turn (Output.ErrorStopped false w) input queued expected kept_ahead kept_back covers b = record {
-  sent = b.sent;
-  freed = b.freed;
-  held = b.held;
-  oldest = b.oldest;
-  expected = b.expected;
-  outstanding = b.outstanding;
-  is = requested (receiver_of input) b.freed b.held b.sent kept_ahead kept_back b.is;
-}
-own_turn (Output.ErrorStopped true w) input queued expected kept_ahead kept_back covers b = rw append-nil b
+own_turn (Output.ErrorStopped false w) input queued expected kept_ahead kept_back covers b =
+    record {
+      sent = b.sent;
+      freed = b.freed;
+      held = b.held;
+      oldest = b.oldest;
+      expected = b.expected;
+      outstanding = b.outstanding;
+      is = requested (receiver_of input) b.freed b.held b.sent kept_ahead kept_back b.is;
+    }
+own_turn (Output.ErrorStopped true w) input queued expected kept_ahead kept_back covers b =
+    rw append-nil b
 own_turn Output.Failed input queued expected kept_ahead kept_back covers b = rw append-nil b
 
 -- something that means nothing for the direction comes on the way back
 pub neutral_back :
-    (output : Output) (input : Input) (queued : List (List (List ℕ))) (kept_ahead : List Forward) (kept_back : List Backward)
-    → IsBetween output input queued kept_ahead kept_back → IsBetween output input queued kept_ahead (kept_back ++ Neutral ∷ [])
+    (output : Output) (input : Input) (queued : List (List (List ℕ))) (kept_ahead : List Forward)
+    (kept_back : List Backward)
+    → IsBetween output input queued kept_ahead kept_back
+    → IsBetween output input queued kept_ahead (kept_back ++ Neutral ∷ [])
 neutral_back output input queued kept_ahead kept_back b = record {
   sent = b.sent;
   freed = b.freed;
@@ -137,24 +183,39 @@ neutral_back output input queued kept_ahead kept_back b = record {
   oldest = b.oldest;
   expected = b.expected;
   outstanding = b.outstanding;
-  is = neutral_sent (sender_of output) (receiver_of input) b.freed b.held b.sent kept_ahead kept_back b.is;
+  is =
+      neutral_sent (sender_of output) (receiver_of input) b.freed b.held b.sent kept_ahead kept_back
+      b.is;
 }
 
 packet_back :
-    (output : Output) (input : Input) (queued : List (List (List ℕ))) (expected ack : ℕ) (packet : Option (List ℕ)) (kept_ahead : List Forward) (kept_back : List Backward)
-    → IsBetween output input queued kept_ahead kept_back → IsBetween output input queued kept_ahead (kept_back ++ map backward (packet_burst expected ack packet).sent)
+    (output : Output) (input : Input) (queued : List (List (List ℕ))) (expected ack : ℕ)
+    (packet : Option (List ℕ)) (kept_ahead : List Forward) (kept_back : List Backward)
+    → IsBetween output input queued kept_ahead kept_back
+    → IsBetween output input queued kept_ahead
+    (kept_back ++ map backward (packet_burst expected ack packet).sent)
 packet_back output input queued expected ack None kept_ahead kept_back b = rw append-nil b
 packet_back output input queued expected ack (Some packet) kept_ahead kept_back b =
     let one = kept_back ++ Neutral ∷ [] in
     let two = one ++ Neutral ∷ [] in
-    subst (λ (bs : List Backward). IsBetween output input queued kept_ahead bs) (append_assoc one (Neutral ∷ []) (Neutral ∷ []) ∙ append_assoc kept_back (Neutral ∷ []) (Neutral ∷ Neutral ∷ []))
-    (neutral_back output input queued kept_ahead two (neutral_back output input queued kept_ahead one (neutral_back output input queued kept_ahead kept_back b)))
+    subst (λ (bs : List Backward). IsBetween output input queued kept_ahead bs) (append_assoc one
+    (Neutral ∷ []) (Neutral ∷ []) ∙ append_assoc kept_back (Neutral ∷ []) (Neutral ∷ Neutral ∷ []))
+    (neutral_back output input queued kept_ahead two (neutral_back output input queued kept_ahead
+    one (neutral_back output input queued kept_ahead kept_back b)))
 
 -- the other direction, whose receiver's port takes its turn
 pub other_turn :
-    (output : Output) (input : Input) (queued : List (List (List ℕ))) (sends : Sends) (expected : ℕ) (waiting : List (List (List ℕ))) (kept_ahead : List Forward) (kept_back : List Backward)
-    → IsBetween output input queued kept_ahead kept_back → IsBetween output input queued kept_ahead (kept_back ++ map backward (burst_of sends expected waiting).sent)
-other_turn output input queued (Sends.Packet ack prio) expected waiting kept_ahead kept_back b = packet_back output input queued expected ack (slice_get (list_at waiting prio) 0) kept_ahead kept_back b
-other_turn output input queued Sends.Restart expected waiting kept_ahead kept_back b = neutral_back output input queued kept_ahead kept_back b
-other_turn output input queued Sends.Request expected waiting kept_ahead kept_back b = neutral_back output input queued kept_ahead kept_back b
-other_turn output input queued Sends.Nothing expected waiting kept_ahead kept_back b = rw append-nil b
+    (output : Output) (input : Input) (queued : List (List (List ℕ))) (sends : Sends) (expected : ℕ)
+    (waiting : List (List (List ℕ))) (kept_ahead : List Forward) (kept_back : List Backward)
+    → IsBetween output input queued kept_ahead kept_back
+    → IsBetween output input queued kept_ahead
+    (kept_back ++ map backward (burst_of sends expected waiting).sent)
+other_turn output input queued (Sends.Packet ack prio) expected waiting kept_ahead kept_back b =
+    packet_back output input queued expected ack (slice_get (list_at waiting prio) 0) kept_ahead
+    kept_back b
+other_turn output input queued Sends.Restart expected waiting kept_ahead kept_back b =
+    neutral_back output input queued kept_ahead kept_back b
+other_turn output input queued Sends.Request expected waiting kept_ahead kept_back b =
+    neutral_back output input queued kept_ahead kept_back b
+other_turn output input queued Sends.Nothing expected waiting kept_ahead kept_back b =
+    rw append-nil b

@@ -28,10 +28,22 @@ sent_one = record { oldest = 0; prios = 0 ∷ [] }
 
 -- the near port with the packet put, and with it sent
 abbrev near_put : PortState
-near_put = record { place = start; output = out.Output.Ok (from_ack 0); input = in_half.Input.Ok 0; queued = one; received = record { lists = no_packets; buffers = 4 } }
+near_put = record {
+  place = start;
+  output = out.Output.Ok (from_ack 0);
+  input = in_half.Input.Ok 0;
+  queued = one;
+  received = record { lists = no_packets; buffers = 4 };
+}
 
 abbrev near_sent : PortState
-near_sent = record { place = start; output = out.Output.Ok sent_one; input = in_half.Input.Ok 0; queued = one; received = record { lists = no_packets; buffers = 4 } }
+near_sent = record {
+  place = start;
+  output = out.Output.Ok sent_one;
+  input = in_half.Input.Ok 0;
+  queued = one;
+  received = record { lists = no_packets; buffers = 4 };
+}
 
 -- what is sent for it, and what comes back
 abbrev start_sent : Event
@@ -73,7 +85,14 @@ sent_link = record {
 }
 
 turned_is : after_turn put_one ≡ sent_link
-turned_is = λ i. record { a = turns i; b = new_port 4; kept_a = sends i; kept_b = []; of_a = record { put = packet ∷ []; held = []; freed = [] }; of_b = no_journeys }
+turned_is = λ i. record {
+  a = turns i;
+  b = new_port 4;
+  kept_a = sends i;
+  kept_b = [];
+  of_a = record { put = packet ∷ []; held = []; freed = [] };
+  of_b = no_journeys;
+}
 
 turn_step : IsStep put_one sent_link
 turn_step = subst (λ (l : Link). IsStep put_one l) turned_is (Turns put_one)
@@ -102,7 +121,8 @@ pub whole : IsHistory new_one freed_link
 whole =
     AtFirst new_one (Puts new_one packet (omega arith) passes_packet (omega arith))
     (AtFirst put_one turn_step
-    (AtSecond sent_link (Acts (turned_round sent_link) start_sent (packet_sent ∷ end_sent ∷ []) refl refl)
+    (AtSecond sent_link
+    (Acts (turned_round sent_link) start_sent (packet_sent ∷ end_sent ∷ []) refl refl)
     (AtSecond begun (Acts (turned_round begun) packet_sent (end_sent ∷ []) refl refl)
     (AtSecond held_link (Acts (turned_round held_link) end_sent [] refl refl)
     (AtFirst ended (Acts ended accepted [] refl refl) (Rests freed_link))))))

@@ -22,11 +22,14 @@ exchanges (suc n) = exchange ++ exchanges n
 
 -- the second packet finds no buffer
 abbrev until_retry : List Move
-until_retry = First PutsOne ∷ First TakesTurn ∷ reaches ++ First Hears ∷ First PutsOne ∷ First TakesTurn ∷ reaches ++ First Hears ∷ []
+until_retry =
+    First PutsOne ∷ First TakesTurn ∷ reaches ++ First Hears ∷ First PutsOne ∷ First TakesTurn
+    ∷ reaches ++ First Hears ∷ []
 
 -- a restart-from-retry, and the packet again, where there is a buffer now
 abbrev after_retry : List Move
-after_retry = First TakesTurn ∷ Second Hears ∷ Second Empties ∷ First TakesTurn ∷ reaches ++ First Hears ∷ []
+after_retry =
+    First TakesTurn ∷ Second Hears ∷ Second Empties ∷ First TakesTurn ∷ reaches ++ First Hears ∷ []
 
 abbrev pub stopped : Link
 stopped = played until_retry (new_link 4 4)
@@ -48,7 +51,8 @@ pub retried_arrive : retried.of_a ≡ arrivals 2
 unfolding highest_below window played
 retried_arrive = refl
 
--- 31 packets; of the next two, with ackIDs 31 and 0, the first is corrupted, and the far port is asked which it expects
+-- 31 packets; of the next two, with ackIDs 31 and 0, the first is corrupted, and the far port is
+-- asked which it expects
 abbrev until_asked : List Move
 until_asked =
     exchanges 31 ++ First PutsOne ∷ First PutsOne ∷ First TakesTurn ∷ First TakesTurn
@@ -73,7 +77,10 @@ recovery_comes = is_history until_asked (new_link 4 4)
 pub recovery_ends : IsHistory asked recovered
 recovery_ends = is_history after_asking asked
 
-pub is_asked : asked.a.output ≡ out.Output.ErrorStopped true (record { oldest = 31; prios = 0 ∷ 0 ∷ [] })
+pub is_asked : asked.a.output ≡ out.Output.ErrorStopped true (record {
+  oldest = 31;
+  prios = 0 ∷ 0 ∷ [];
+})
 unfolding highest_below window played
 is_asked = refl
 

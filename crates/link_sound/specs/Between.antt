@@ -8,8 +8,9 @@ use Rattle.link_sound.specs.Direction.{IsDirection}
 use Rattle.link_port.specs.States.{prios_of, expected_of}
 use Rattle.link_sound.specs.Meanings.{sender_of, receiver_of, oldest_of}
 
--- The packets that were sent for good, how many of them the sender has freed, and how many the receiver has held. The
--- outstanding packets in the sender's store are those from the first on that is not freed.
+-- The packets that were sent for good, how many of them the sender has freed, and how many the
+-- receiver has held. The outstanding packets in the sender's store are those from the first on that
+-- is not freed.
 pub record IsBetween (output : Output) (input : Input) (queued : List (List (List ℕ)))
     (kept_ahead : List Forward) (kept_back : List Backward) : Type 0 where
   pub sent : List (List ℕ)

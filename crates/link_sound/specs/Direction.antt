@@ -1,4 +1,5 @@
--- One direction of a link, from a sender to a receiver: the sentence that each step of either port keeps.
+-- One direction of a link, from a sender to a receiver: the sentence that each step of either port
+-- keeps.
 use Rattle.std.specs.Prelude.{◌≡◌, ◌⊎◌, ℕ, ◌+◌, ◌≤◌, List, length}
 use Rattle.link_model.specs.Window.{window}
 use Rattle.link_sound.specs.Marks.{Forward, is_restart, is_request, is_forward, Backward, is_retry, is_response}
@@ -6,7 +7,8 @@ use Rattle.link_sound.specs.Sender.{Sender}
 use Rattle.link_sound.specs.Receiver.{Receiver, IsShut}
 use Rattle.link_sound.specs.Kept.{Lacks, AcceptsInTurn, PacketsInTurn, RetryOnce, RestartOnce, RequestLast, ResponseLast}
 
--- what is on its way, by the state of the sender, where it has freed so many packets and the receiver has held so many
+-- what is on its way, by the state of the sender, where it has freed so many packets and the
+-- receiver has held so many
 abbrev pub FitsSender : Sender → Receiver → (freed held : ℕ) → List Forward → List Backward → Type 0
 FitsSender Sender.Ok r freed held kept_ahead kept_back =
     Lacks is_request kept_ahead × Lacks is_response kept_back × RetryOnce held kept_back
@@ -28,9 +30,9 @@ FitsReceiver Receiver.Ok held sent kept_ahead =
 FitsReceiver Receiver.RetryStopped held sent kept_ahead = RestartOnce sent held kept_ahead
 FitsReceiver Receiver.ErrorStopped held sent kept_ahead = Unit {0}
 
--- The sender has freed the first `freed` of the packets `sent`, the receiver has held the first `held`, and the rest
--- from `freed` on is outstanding. What went to be sent again is not in `sent`. `kept_ahead` is on its way to the receiver,
--- `kept_back` to the sender.
+-- The sender has freed the first `freed` of the packets `sent`, the receiver has held the first
+-- `held`, and the rest from `freed` on is outstanding. What went to be sent again is not in `sent`.
+-- `kept_ahead` is on its way to the receiver, `kept_back` to the sender.
 pub record IsDirection (s : Sender) (r : Receiver) (freed held : ℕ) (sent : List (List ℕ))
     (kept_ahead : List Forward) (kept_back : List Backward) : Type 0 where
   pub held_first : freed ≤ held

@@ -11,8 +11,8 @@ use Rattle.link_port.specs.Turns.{turns_to, turn_sends, timed_out}
 use Rattle.link_sound.specs.Lent.{lent, waiting}
 use Rattle.link_sound.specs.Sound.{reply_sent}
 
--- the packets of one direction, each list in the order in which it happened: put at the port to be sent, held by the far
--- port, and freed by the port
+-- the packets of one direction, each list in the order in which it happened: put at the port to be
+-- sent, held by the far port, and freed by the port
 pub record Journeys : Type 0 where
   pub put : List (List ℕ)
   pub held : List (List ℕ)
@@ -93,7 +93,8 @@ pub data IsStep : Link → Link → Type 0 where
   -- what was sent first is lost, both ways
   Loses : (l : Link) (lost_a kept_a lost_b kept_b : List Event) → l.kept_a ≡ lost_a ++ kept_a
       → l.kept_b ≡ lost_b ++ kept_b → IsStep l (record l { kept_a = kept_a; kept_b = kept_b })
-  -- the store of packets received becomes any other, as where some are taken away, and the framer reads on
+  -- the store of packets received becomes any other, as where some are taken away, and the framer
+  -- reads on
   GoesOn : (l : Link) (received : Buffered) (place : Place) → IsInStore received
       → IsBounded place.text
       → IsStep l (record l { a = record l.a { received = received; place = place } })
@@ -105,8 +106,8 @@ pub data IsHistory : Link → Link → Type 0 where
   AtSecond : {next end : Link} (l : Link) → IsStep (turned_round l) next
       → IsHistory (turned_round next) end → IsHistory l end
 
--- Of each priority, what was put at the port p is what the far port q has held, in order, and then what still waits; and
--- what was held is what p has freed, in order, and then what is lent.
+-- Of each priority, what was put at the port p is what the far port q has held, in order, and then
+-- what still waits; and what was held is what p has freed, in order, and then what is lent.
 pub record AreCarried (j : Journeys) (p q : PortState) : Type 0 where
   pub in_order : (prio : ℕ) → of_prio prio j.put ≡ of_prio prio j.held ++ list_at (waiting p q) prio
   pub freed_after_held : j.held ≡ j.freed ++ lent p q

@@ -1,6 +1,6 @@
--- What is said of the events that are on their way, in the order in which they were sent. An ackID is a number of a
--- packet modulo 32; packets are numbered from 0 on, in the order in which they were sent, and
--- those that are sent again are numbered anew.
+-- What is said of the events that are on their way, in the order in which they were sent. An ackID
+-- is a number of a packet modulo 32; packets are numbered from 0 on, in the order in which they
+-- were sent, and those that are sent again are numbered anew.
 use Rattle.std.specs.Prelude.{◌≡◌, ℕ, suc, ◌%◌, ◌<◌, ◌≤◌, Bool, false, List, [], ◌∷◌, Some, slice_get}
 use Rattle.link_sound.specs.Marks.{Forward, Packet, Restart, Request, Other, is_restart, is_forward, Backward, Accept, Retry, Response, Neutral, is_retry, is_backward}
 
@@ -9,7 +9,8 @@ abbrev pub Lacks : {X : Type 0} → (X → Bool) → List X → Type 0
 Lacks kind [] = Unit {0}
 Lacks kind (e ∷ kept) = (kind e ≡ false) × Lacks kind kept
 
--- the acceptances are of packets that are held, the first at least of `least`, each of a later one than those before it
+-- the acceptances are of packets that are held, the first at least of `least`, each of a later one
+-- than those before it
 abbrev pub AcceptsInTurn : (least held : ℕ) → List Backward → Type 0
 AcceptsInTurn least held [] = Unit {0}
 AcceptsInTurn least held (Accept ack ∷ kept) =
@@ -18,7 +19,8 @@ AcceptsInTurn least held (Retry ack ∷ kept) = AcceptsInTurn least held kept
 AcceptsInTurn least held (Response ack ∷ kept) = AcceptsInTurn least held kept
 AcceptsInTurn least held (Neutral ∷ kept) = AcceptsInTurn least held kept
 
--- the packets are among those sent, the first at least at `least`, each a later one than those before it
+-- the packets are among those sent, the first at least at `least`, each a later one than those
+-- before it
 abbrev pub PacketsInTurn : List (List ℕ) → (least : ℕ) → List Forward → Type 0
 PacketsInTurn sent least [] = Unit {0}
 PacketsInTurn sent least (Packet ack packet ∷ kept) =
@@ -52,7 +54,8 @@ RequestLast (Restart ∷ kept) = RequestLast kept
 RequestLast (Request ∷ kept) = Lacks is_forward kept
 RequestLast (Other ∷ kept) = RequestLast kept
 
--- at most one link-response, with the packet that is expected, and nothing that means anything behind it
+-- at most one link-response, with the packet that is expected, and nothing that means anything
+-- behind it
 abbrev pub ResponseLast : (held : ℕ) → List Backward → Type 0
 ResponseLast held [] = Unit {0}
 ResponseLast held (Accept ack ∷ kept) = ResponseLast held kept

@@ -1,5 +1,5 @@
--- A port's packets to be sent as plain first-in first-out queues: those that the far port holds and this one has not
--- freed, and those that still wait.
+-- A port's packets to be sent as plain first-in first-out queues: those that the far port holds and
+-- this one has not freed, and those that still wait.
 use Rattle.std.specs.Prelude.{◌≡◌, ℕ, ◌∷◌, ◌++◌, [], List, Option, Some, None, slice_get, take, true}
 use Rattle.rio_packets.specs.Fields.{prio_of}
 use Rattle.link_buffers.specs.Queues.{Buffered, list_at, popped, appended, room_for}
@@ -27,8 +27,9 @@ lent p q = lent_until p.output (expected_of q.input) p.queued
 abbrev pub waiting : PortState → PortState → List (List (List ℕ))
 waiting p q = waiting_from p.output (expected_of q.input) p.queued
 
--- What a receiver that holds a packet does to its direction: the packet is the first of its priority that waits, and has
--- room. Where it holds none, nothing of the direction moves. The stores and the expected ackID are those before and after.
+-- What a receiver that holds a packet does to its direction: the packet is the first of its
+-- priority that waits, and has room. Where it holds none, nothing of the direction moves. The
+-- stores and the expected ackID are those before and after.
 abbrev pub HoldsAt : Output → List (List (List ℕ)) → (before after : Buffered) → (expected next : ℕ)
     → Option (List ℕ) → Type 0
 HoldsAt output queued before after expected next None =
@@ -48,6 +49,7 @@ Holds p q next held =
     HoldsAt p.output p.queued q.received next.received (expected_of q.input)
     (expected_of next.input) held
 
--- The port p, and then next, frees packets: they are the first of those that q holds for it, and nothing else moves.
+-- The port p, and then next, frees packets: they are the first of those that q holds for it, and
+-- nothing else moves.
 abbrev pub Frees : (p next q : PortState) → List (List ℕ) → Type 0
 Frees p next q freed = (lent p q ≡ freed ++ lent next q) × (waiting next q ≡ waiting p q)

@@ -1,5 +1,5 @@
--- What events mean for one direction of a link, from the sender at its one end to the receiver at the other. The
--- sender's events go forward, those of the port of the receiver come back.
+-- What events mean for one direction of a link, from the sender at its one end to the receiver at
+-- the other. The sender's events go forward, those of the port of the receiver come back.
 use Rattle.std.specs.Prelude.{ℕ, Bool, true, false, List}
 
 -- an event on its way from the sender to the receiver
@@ -21,7 +21,8 @@ pub data Backward : Type 0 where
   Retry : ℕ → Backward
   -- link-response
   Response : ℕ → Backward
-  -- it means nothing for this direction, or is a packet-not-accepted, which asks nothing of what is on its way
+  -- it means nothing for this direction, or is a packet-not-accepted, which asks nothing of what is
+  -- on its way
   Neutral : Backward
 
 abbrev pub is_restart : Forward → Bool

@@ -1,5 +1,6 @@
--- What events and the states of a port mean for a direction (RapidIO Interconnect Specification 1.3, Part 6, control
--- symbols): packets and stype1 of a symbol go to the receiver, stype0 goes back to the sender.
+-- What events and the states of a port mean for a direction (RapidIO Interconnect Specification
+-- 1.3, Part 6, control symbols): packets and stype1 of a symbol go to the receiver, stype0 goes
+-- back to the sender.
 use Rattle.std.specs.Prelude.{ℕ, true, false, Option, Some, None, List, [], ◌∷◌}
 use Rattle.rio_symbols.specs.Fields.{Fields}
 use Rattle.link_model.specs.declared.event.Event.{Event}

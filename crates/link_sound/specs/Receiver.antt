@@ -1,4 +1,5 @@
--- The states of a receiver, as the input half of a port has them, without the ackID that it expects.
+-- The states of a receiver, as the input half of a port has them, without the ackID that it
+-- expects.
 pub data Receiver : Type 0 where
   -- input OK
   Ok : Receiver

@@ -1,4 +1,5 @@
--- The states of a sender, as the output half of a port has them, without the packets that are outstanding.
+-- The states of a sender, as the output half of a port has them, without the packets that are
+-- outstanding.
 
 pub data Sender : Type 0 where
   -- output OK

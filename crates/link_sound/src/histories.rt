@@ -8,12 +8,12 @@ ghost use Rattle.link_sound.specs.Histories.{Link, AreBuffers, new_link, IsHisto
 ghost use Rattle.link_sound.specs.Sound.{IsSound};
 ghost use Rattle.link_sound.specs.Worked.{arrived, arrivals};
 
-/// After every history from two new ports, of any number of turns, events, losses, time-outs and packets put and taken, where each
-/// event that is acted on is one that the far port has sent: both are as every port is, they are sound, and no sender has
-/// failed. Of each priority the packets put at one port are those that
-/// the other has held, in order and each once, and then those that still wait; and those held are the packets that the
-/// first has freed, in order, and then those lent. So no packet is held twice, none is lost, and none is freed before it
-/// is held.
+/// After every history from two new ports, of any number of turns, events, losses, time-outs and
+/// packets put and taken, where each event that is acted on is one that the far port has sent: both
+/// are as every port is, they are sound, and no sender has failed. Of each priority the packets put
+/// at one port are those that the other has held, in order and each once, and then those that still
+/// wait; and those held are the packets that the first has freed, in order, and then those lent. So
+/// no packet is held twice, none is lost, and none is freed before it is held.
 pub fn every_history_carries_packets()
     ensures carried { (m n : ℕ) (l : Link) → AreBuffers m → AreBuffers n
         → IsHistory (new_link m n) l
@@ -26,8 +26,8 @@ pub fn every_history_carries_packets()
         → (l.a.output ≢ out.Output.Failed) × (l.b.output ≢ out.Output.Failed) }
 {}
 
-/// A history of two new ports, so that the law above is not empty: a packet is put at the one, sent between its two
-/// symbols, held by the other and accepted, and freed.
+/// A history of two new ports, so that the law above is not empty: a packet is put at the one, sent
+/// between its two symbols, held by the other and accepted, and freed.
 pub fn worked_history()
     ensures { (end : Link) × IsHistory (new_link 4 4) end × (end.of_a ≡ arrived) }
 {}
@@ -41,8 +41,8 @@ pub fn worked_retry()
 {}
 
 /// A history with a recovery past ackID 31. Of two packets with ackIDs 31 and 0 the first is
-/// corrupted: after a link-request and its link-response both are sent again, held and freed, as the
-/// 31 packets before them.
+/// corrupted: after a link-request and its link-response both are sent again, held and freed, as
+/// the 31 packets before them.
 pub fn worked_recovery()
     ensures { (asked end : Link) × IsHistory (new_link 4 4) asked
         × (asked.a.output

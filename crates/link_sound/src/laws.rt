@@ -23,9 +23,9 @@ pub fn links_begin_sound()
         → IsSound b a kept_b kept_a }
 {}
 
-/// The steps of a port: a turn; an event that the far port sent and that is acted on; what comes and is not acted on,
-/// whoever sent it; and a time-out, after which nothing that was sent before arrives. A reply goes to what the port has
-/// sent.
+/// The steps of a port: a turn; an event that the far port sent and that is acted on; what comes
+/// and is not acted on, whoever sent it; and a time-out, after which nothing that was sent before
+/// arrives. A reply goes to what the port has sent.
 pub fn steps_keep_it()
     ensures turn { (a b : PortState) (kept_a kept_b : List Event)
         → Covers (prios_of a.output) a.queued
@@ -48,8 +48,8 @@ pub fn events_may_be_lost()
         → IsSound a b (lost_a ++ kept_a) (lost_b ++ kept_b) → IsSound a b kept_a kept_b }
 {}
 
-/// The layer above puts a packet to be sent, and takes packets that were received. What the framer has read is not
-/// spoken of either.
+/// The layer above puts a packet to be sent, and takes packets that were received. What the framer
+/// has read is not spoken of either.
 pub fn the_layer_above_keeps_it()
     ensures put { (a b : PortState) (kept_a kept_b : List Event) (prio : ℕ) (packet : List ℕ)
         → Covers (prios_of a.output) a.queued → prio < length a.queued
@@ -61,8 +61,9 @@ pub fn the_layer_above_keeps_it()
         → IsSound (record a { received = received; place = place }) b kept_a kept_b }
 {}
 
-/// No sender has failed. The far port expects the oldest packet that is not acknowledged, or a later one, at most the next
-/// to be sent; where the sender has still to send a restart-from-retry, it expects the oldest.
+/// No sender has failed. The far port expects the oldest packet that is not acknowledged, or a
+/// later one, at most the next to be sent; where the sender has still to send a restart-from-retry,
+/// it expects the oldest.
 pub fn no_sender_fails()
     ensures failed { (a b : PortState) (kept_a kept_b : List Event) → IsSound a b kept_a kept_b
         → a.output ≢ out.Output.Failed }
@@ -75,8 +76,9 @@ pub fn no_sender_fails()
         → IsSound a b kept_a kept_b → distance w.oldest (expected_of b.input) ≡ 0 }
 {}
 
-/// Not everything is sound: between two new ports there is no acceptance on its way, no link-response that nothing asked
-/// for, and no packet that the sender does not know of, each with ackID 0.
+/// Not everything is sound: between two new ports there is no acceptance on its way, no
+/// link-response that nothing asked for, and no packet that the sender does not know of, each with
+/// ackID 0.
 pub fn what_is_not_sound()
     ensures acceptance { (m n : ℕ)
         → IsSound (new_port m) (new_port n) [] (Ctl (packet_accepted 0) ∷ []) → ⊥ }

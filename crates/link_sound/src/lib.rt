@@ -1,20 +1,23 @@
-//! Two ports at the ends of a link, and the events that each has sent and the other has not acted on: what holds of them
-//! whatever is lost between them.
+//! Two ports at the ends of a link, and the events that each has sent and the other has not acted
+//! on: what holds of them whatever is lost between them.
 //!
 //! The crate has no running code. `specs` has the definitions:
 //!
 //! - `Marks` and `Meanings`: what events and the states of a port mean for one direction of a link;
-//! - `Kept` and `Direction`: what is said of a sender, a receiver and what is on its way between them;
+//! - `Kept` and `Direction`: what is said of a sender, a receiver and what is on its way between
+//!   them;
 //! - `Between`: the direction from one port's output half to the other's input half;
 //! - `Sound`: `IsSound`, which is both directions;
-//! - `Lent`: which of the packets to be sent the far port holds, and what becomes of them where one is held or freed;
+//! - `Lent`: which of the packets to be sent the far port holds, and what becomes of them where one
+//!   is held or freed;
 //! - `Histories`: what may happen at either port, one thing after another, and what became of the
 //!   packets; `Worked` has what became of those of three histories.
 //!
-//! The functions state, as contracts of empty bodies, that each step of a port by the tables keeps `IsSound`, that each
-//! packet held and freed is a step of plain first-in first-out queues, what every history does to the packets, and that
-//! no sender fails. An event that is acted on is one that the far port has sent; what it sent before may be lost. An event
-//! that no port sent is spoken of only where it is not acted on.
+//! The functions state, as contracts of empty bodies, that each step of a port by the tables keeps
+//! `IsSound`, that each packet held and freed is a step of plain first-in first-out queues, what
+//! every history does to the packets, and that no sender fails. An event that is acted on is one
+//! that the far port has sent; what it sent before may be lost. An event that no port sent is
+//! spoken of only where it is not acted on.
 //!
 //! Left out: wires and the characters on them, which events are lost, and when a time-out fires.
 #![tactic(auto)]

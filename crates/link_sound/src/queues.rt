@@ -1,5 +1,5 @@
-//! What ports hold and free, as steps of plain first-in first-out queues: the packets that the far port holds and this one
-//! has not freed, and those that still wait.
+//! What ports hold and free, as steps of plain first-in first-out queues: the packets that the far
+//! port holds and this one has not freed, and those that still wait.
 
 ghost use Rattle.std.specs.Prelude.{◌≡◌, true, false, List, ◌∷◌};
 ghost use Rattle.link_buffers.specs.Queues.{IsOutStore};
@@ -12,8 +12,8 @@ ghost use Rattle.link_port.specs.States.{prios_of};
 ghost use Rattle.link_sound.specs.Lent.{lent, waiting, Holds, Frees};
 ghost use Rattle.link_sound.specs.Sound.{IsSound};
 
-/// A packet that is held is the first of its priority that waits at the far port, and has room; it is lent from then on.
-/// Where none is held, nothing moves.
+/// A packet that is held is the first of its priority that waits at the far port, and has room; it
+/// is lent from then on. Where none is held, nothing moves.
 pub fn packets_are_held_in_order()
     ensures acted { (a b : PortState) (kept_a kept_b : List Event) (e : Event)
         → Covers (prios_of b.output) b.queued → IsOutStore b.queued → is_acted a e ≡ true

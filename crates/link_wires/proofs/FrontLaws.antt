@@ -2,7 +2,8 @@
 use Rattle.std.proofs.Common.{◌≡◌, ℕ, zero, suc, ◌-◌, ◌++◌, min, List, [], ◌∷◌, length, take, refl, ap, ◌∙◌, arith}
 use Rattle.rio_chars.specs.declared.chars.Char.{Char}
 
-pub front_is : (first second : List Char) (n m : ℕ) → m ≡ min (length first) n → take m first ++ take (n - m) second ≡ take n (first ++ second)
+pub front_is : (first second : List Char) (n m : ℕ) → m ≡ min (length first) n
+    → take m first ++ take (n - m) second ≡ take n (first ++ second)
 front_is [] second n m is =
     let none : m ≡ 0 = omega arith in
     let all : n - 0 ≡ n = omega arith in

@@ -23,24 +23,28 @@ packet_sent expected ack [] some none = omega arith
 packet_sent expected ack (p ∷ packets) some none = cc
 
 -- the priority that may start is the highest that waits
-startable_is : (room : Bool) (waiting : Option ℕ) (prio : ℕ) → (if room then waiting else None) ≡ Some prio → waiting ≡ Some prio
+startable_is : (room : Bool) (waiting : Option ℕ) (prio : ℕ)
+    → (if room then waiting else None) ≡ Some prio → waiting ≡ Some prio
 startable_is true waiting prio is = is
 startable_is false waiting prio is = absurd cc
 
 start_quiet : (w : Outstanding) (waiting : List (List (List ℕ))) (expected : ℕ) (first : Option ℕ)
     → ((prio : ℕ) → first ≡ Some prio → highest waiting ≡ Some prio)
     → (burst_of (started w first).sends expected waiting).sent ≡ []
-    → ((started w first).state ≡ Ok w) × (burst_of (started w first).sends expected waiting ≡ no_burst)
+    → ((started w first).state ≡ Ok w)
+    × (burst_of (started w first).sends expected waiting ≡ no_burst)
 start_quiet w waiting expected None is none = (refl, refl)
 start_quiet w waiting expected (Some prio) is none =
-    absurd (packet_sent expected _ (list_at waiting prio) (highest_below-some 4 prio waiting (is prio refl)).1 none)
+    absurd (packet_sent expected _ (list_at waiting prio)
+    (highest_below-some 4 prio waiting (is prio refl)).1 none)
 
 entry_quiet : (o : Output) (waiting : List (List (List ℕ))) (expected : ℕ)
     → (burst_of (turns o (highest waiting)).sends expected waiting).sent ≡ []
     → ((turns o (highest waiting)).state ≡ o)
     × (burst_of (turns o (highest waiting)).sends expected waiting ≡ no_burst)
 entry_quiet (Ok w) waiting expected none =
-    start_quiet w waiting expected (startable w (highest waiting)) (λ prio. startable_is _ (highest waiting) prio) none
+    start_quiet w waiting expected (startable w (highest waiting))
+    (λ prio. startable_is _ (highest waiting) prio) none
 entry_quiet (RetryStopped w) waiting expected none = absurd cc
 entry_quiet (ErrorStopped false w) waiting expected none = absurd cc
 entry_quiet (ErrorStopped true w) waiting expected none = (refl, refl)

@@ -19,7 +19,8 @@ use rio_symbols::Symbol;
 use std::alloc::Global;
 use std::collections::VecDeque;
 
-/// The packets that the last event freed. A list with room for so many is dear to make, so it is made with the first event.
+/// The packets that the last event freed. A list with room for so many is dear to make, so it is
+/// made with the first event.
 type Freed = Option<ArrayVec<Packet, 31>>;
 
 /// What came of characters that a port took.

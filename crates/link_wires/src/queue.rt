@@ -5,8 +5,8 @@ use rio_chars::{Char, NoMemory};
 use std::alloc::Global;
 use std::marker::Model;
 
-/// Characters, first in first out. Those before `head` were taken; they go once they are more than the half, so that
-/// taking costs what is taken, and putting costs what is put.
+/// Characters, first in first out. Those before `head` were taken; they go once they are more than
+/// the half, so that taking costs what is taken, and putting costs what is put.
 #[derive(Drop)]
 pub(crate) struct CharQueue {
     chars: Vec<Char>,
@@ -89,7 +89,8 @@ impl CharQueue {
         self.chars.drain(place..end);
     }
 
-    /// A character comes in before the one at a place, or at the end. If memory is not given, nothing changes.
+    /// A character comes in before the one at a place, or at the end. If memory is not given,
+    /// nothing changes.
     pub(crate) fn insert(&mut self, place: usize, ch: Char) -> Result<(), NoMemory>
         requires { place ≤ length self.old }
         ensures put { OnOk result (self.new ≡ take place self.old ++ ch ∷ drop place self.old) }

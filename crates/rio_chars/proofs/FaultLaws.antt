@@ -12,9 +12,11 @@ pub Rose-after : (a b c : ℕ) → Rose a b → b ≤ c → Rose a c
 Rose-after a b c (inl more) later = inl (omega arith)
 Rose-after a b c (inr most) later = inr (omega arith)
 
-pub FailedBy-trans : (f : Bool) (a : ℕ) (g : Bool) (b : ℕ) (h : Bool) (c : ℕ) → FailedBy f a g b → FailedBy g b h c → a ≤ b → b ≤ c → FailedBy f a h c
+pub FailedBy-trans : (f : Bool) (a : ℕ) (g : Bool) (b : ℕ) (h : Bool) (c : ℕ) → FailedBy f a g b
+    → FailedBy g b h c → a ≤ b → b ≤ c → FailedBy f a h c
 FailedBy-trans f a g b h c first second le le2 is =
     elim (second is) as (λ _. (f ≡ true) ⊎ Rose a c) [
-      | inl failed ↦ elim (first failed) as (λ _. (f ≡ true) ⊎ Rose a c) [ inl early ↦ inl early | inr rose ↦ inr (Rose-after a b c rose le2) ]
+      | inl failed ↦ elim (first failed) as (λ _. (f ≡ true) ⊎ Rose a c)
+          [ inl early ↦ inl early | inr rose ↦ inr (Rose-after a b c rose le2) ]
       | inr rose ↦ inr (Rose-before a b c le rose)
     ]

@@ -27,8 +27,10 @@ hex_of-injective (x ∷ a) (y ∷ b) e =
     cc
 
 -- two digits more
-pub hex_of-step : (room bytes : List ℕ) (i : ℕ) → i < length bytes → length room ≡ 2 * length bytes → take (2 * i) room ≡ hex_of (take i bytes)
-    → take (2 * (i + 1)) (set (set room (2 * i) (hex_digit (get_or bytes i 0 / 16))) (2 * i + 1) (hex_digit (get_or bytes i 0 % 16))) ≡ hex_of (take (i + 1) bytes)
+pub hex_of-step : (room bytes : List ℕ) (i : ℕ) → i < length bytes → length room ≡ 2 * length bytes
+    → take (2 * i) room ≡ hex_of (take i bytes)
+    → take (2 * (i + 1)) (set (set room (2 * i) (hex_digit (get_or bytes i 0 / 16))) (2 * i + 1)
+    (hex_digit (get_or bytes i 0 % 16))) ≡ hex_of (take (i + 1) bytes)
 hex_of-step room bytes i below fits e =
     let a = hex_digit (get_or bytes i 0 / 16) in
     let b = hex_digit (get_or bytes i 0 % 16) in
@@ -42,4 +44,5 @@ hex_of-step room bytes i below fits e =
     ∙ ap (λ l. l ++ b ∷ []) (take_more_set room (2 * i) a first)
     ∙ append_assoc (take (2 * i) room) (a ∷ []) (b ∷ [])
     ∙ ap (λ l. l ++ a ∷ b ∷ []) e
-    ∙ sym (ap hex_of (take_more bytes i 0 below) ∙ hex_of-append (take i bytes) (get_or bytes i 0 ∷ []))
+    ∙ sym
+    (ap hex_of (take_more bytes i 0 below) ∙ hex_of-append (take i bytes) (get_or bytes i 0 ∷ []))

@@ -18,7 +18,9 @@ table_is : HEX_VALUES ≡ map value_of (range_with_len 0 256)
 table_is = refl
 
 value_at : (byte : ℕ) → byte < 256 → get_or HEX_VALUES byte 0 ≡ value_of byte
-value_at byte below = ap (λ table. get_or table byte 0) table_is ∙ get_or-map-range_with_len value_of 0 256 byte byte 0 below (omega arith)
+value_at byte below =
+    ap (λ table. get_or table byte 0) table_is
+    ∙ get_or-map-range_with_len value_of 0 256 byte byte 0 below (omega arith)
 
 value_digit : (byte : ℕ) → value_of byte < 16 → byte ≡ hex_digit (value_of byte)
 value_digit byte few = grind (arith, nat_tests)
@@ -27,14 +29,16 @@ value_none : (byte number : ℕ) → 16 ≤ value_of byte → number < 16 → by
 value_none byte number many below = grind (arith, nat_tests)
 
 -- what the table has is the number of the digit
-pub entry_digit : (byte : ℕ) → byte < 256 → get_or HEX_VALUES byte 0 < 16 → byte ≡ hex_digit (get_or HEX_VALUES byte 0)
+pub entry_digit : (byte : ℕ) → byte < 256 → get_or HEX_VALUES byte 0 < 16
+    → byte ≡ hex_digit (get_or HEX_VALUES byte 0)
 entry_digit byte below few =
     let is = value_at byte below in
     let few_here : value_of byte < 16 = subst (λ n. n < 16) is few in
     value_digit byte few_here ∙ ap hex_digit (sym is)
 
 -- where it has more than 15 there is no digit
-pub entry_none : (byte : ℕ) → byte < 256 → 16 ≤ get_or HEX_VALUES byte 0 → (number : ℕ) → number < 16 → byte ≢ hex_digit number
+pub entry_none : (byte : ℕ) → byte < 256 → 16 ≤ get_or HEX_VALUES byte 0 → (number : ℕ)
+    → number < 16 → byte ≢ hex_digit number
 entry_none byte below many number small =
     let is = value_at byte below in
     let many_here : 16 ≤ value_of byte = subst (λ n. 16 ≤ n) is many in

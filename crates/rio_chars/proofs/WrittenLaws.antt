@@ -12,25 +12,39 @@ use Rattle.rio_chars.specs.declared.outbox.Outbox.{Outbox}
 -- ---- what was told
 
 -- where no write failed and nothing waits, all the text was written
-pub Told-end : (start written : Option (List ℕ)) (waiting : List ℕ) (failed : Bool) (text : List ℕ) → Told start written waiting failed text
+pub Told-end : (start written : Option (List ℕ)) (waiting : List ℕ) (failed : Bool) (text : List ℕ)
+    → Told start written waiting failed text
     → failed ≡ false → waiting ≡ [] → Appends start written text
 Told-end start written waiting failed text told fine none =
-    subst (Appends start written) (sym (told.whole ∙ ap (λ l. told.front ++ l) (told.waits fine ∙ none) ∙ append-nil told.front)) told.told
+    subst (Appends start written)
+    (sym (told.whole ∙ ap (λ l. told.front ++ l) (told.waits fine ∙ none) ∙ append-nil told.front))
+    told.told
 
 -- whatever failed, a front of the text was written
-pub Told-front : (start written : Option (List ℕ)) (waiting : List ℕ) (failed : Bool) (text : List ℕ) → Told start written waiting failed text → AppendsFront start written text
-Told-front start written waiting failed text told = record { front = told.front; rest = told.rest; whole = told.whole; told = told.told }
+pub Told-front : (start written : Option (List ℕ)) (waiting : List ℕ) (failed : Bool)
+    (text : List ℕ) → Told start written waiting failed text → AppendsFront start written text
+Told-front start written waiting failed text told = record {
+  front = told.front;
+  rest = told.rest;
+  whole = told.whole;
+  told = told.told;
+}
 
 -- where no write failed, the text is what was written and what waits behind it
-pub Told-appends : (start written : Option (List ℕ)) (waiting : List ℕ) (failed : Bool) (text : List ℕ) → Told start written waiting failed text → failed ≡ false
+pub Told-appends : (start written : Option (List ℕ)) (waiting : List ℕ) (failed : Bool)
+    (text : List ℕ) → Told start written waiting failed text → failed ≡ false
     → Appends start (append_known written waiting) text
 Told-appends None written waiting failed text told fine = tt
 Told-appends (Some x) None waiting failed text told fine = absurd told.told
 Told-appends (Some x) (Some y) waiting failed text told fine =
-    ap (λ l. y ++ l) (sym (told.waits fine)) ∙ ap (λ l. l ++ told.rest) told.told ∙ append_assoc x told.front told.rest ∙ ap (λ l. x ++ l) (sym told.whole)
+    ap (λ l. y ++ l) (sym (told.waits fine))
+    ∙ ap (λ l. l ++ told.rest) told.told
+    ∙ append_assoc x told.front told.rest
+    ∙ ap (λ l. x ++ l) (sym told.whole)
 
 -- bytes wait behind those that wait
-Tells-kept : (written : Option (List ℕ)) (waiting : List ℕ) (failed : Bool) (bytes : List ℕ) → Tells written waiting failed written (waiting ++ bytes) failed bytes
+Tells-kept : (written : Option (List ℕ)) (waiting : List ℕ) (failed : Bool) (bytes : List ℕ)
+    → Tells written waiting failed written (waiting ++ bytes) failed bytes
 Tells-kept written waiting failed bytes start text told = record {
   front = told.front;
   rest = told.rest ++ bytes;
@@ -40,7 +54,8 @@ Tells-kept written waiting failed bytes start text told = record {
 }
 
 -- what waited was written, and more bytes behind it, and nothing waits any more
-Tells-wrote : (a : Option (List ℕ)) (i : ℕ) (waiting : List ℕ) (failed : Bool) (b : Option (List ℕ)) (j : ℕ) (failed_after : Bool) (bytes all : List ℕ) → waiting ++ bytes ≡ all
+Tells-wrote : (a : Option (List ℕ)) (i : ℕ) (waiting : List ℕ) (failed : Bool) (b : Option (List ℕ))
+    (j : ℕ) (failed_after : Bool) (bytes all : List ℕ) → waiting ++ bytes ≡ all
     → WritesUnless failed a i failed_after b j all → Tells a waiting failed b [] failed_after bytes
 Tells-wrote a i waiting true b j true bytes all e wrote start text told = record {
   front = told.front;
@@ -54,7 +69,8 @@ Tells-wrote a i waiting false b j true bytes all e wrote start text told = recor
   front = told.front ++ wrote.0.front;
   rest = wrote.0.rest;
   whole = ap (λ l. l ++ bytes) told.whole ∙ append_assoc told.front told.rest bytes
-      ∙ ap (λ l. told.front ++ l) (ap (λ l. l ++ bytes) (told.waits refl) ∙ e ∙ wrote.0.whole) ∙ sym (append_assoc told.front wrote.0.front wrote.0.rest);
+      ∙ ap (λ l. told.front ++ l) (ap (λ l. l ++ bytes) (told.waits refl) ∙ e ∙ wrote.0.whole)
+      ∙ sym (append_assoc told.front wrote.0.front wrote.0.rest);
   told = Appends-trans start a b told.front wrote.0.front told.told wrote.0.told;
   waits = λ fine. cc;
 }
@@ -62,31 +78,39 @@ Tells-wrote a i waiting false b j false bytes all e wrote start text told = reco
   front = told.front ++ all;
   rest = [];
   whole = ap (λ l. l ++ bytes) told.whole ∙ append_assoc told.front told.rest bytes
-      ∙ ap (λ l. told.front ++ l) (ap (λ l. l ++ bytes) (told.waits refl) ∙ e) ∙ sym (append-nil (told.front ++ all));
+      ∙ ap (λ l. told.front ++ l) (ap (λ l. l ++ bytes) (told.waits refl) ∙ e)
+      ∙ sym (append-nil (told.front ++ all));
   told = Appends-trans start a b told.front all told.told wrote.0;
   waits = λ fine. refl;
 }
 
 -- ---- what the flags and the counts say
 
-cause_of : (failed : Bool) (a : Option (List ℕ)) (i : ℕ) (failed_after : Bool) (b : Option (List ℕ)) (j : ℕ) (all : List ℕ) → WritesUnless failed a i failed_after b j all → FailedBy failed i failed_after j
+cause_of : (failed : Bool) (a : Option (List ℕ)) (i : ℕ) (failed_after : Bool) (b : Option (List ℕ))
+    (j : ℕ) (all : List ℕ) → WritesUnless failed a i failed_after b j all
+    → FailedBy failed i failed_after j
 cause_of true a i failed_after b j all wrote is = inl refl
 cause_of false a i true b j all wrote is = inr wrote.1
 cause_of false a i false b j all wrote is = cc
 
-counts_of : (failed : Bool) (a : Option (List ℕ)) (i : ℕ) (failed_after : Bool) (b : Option (List ℕ)) (j : ℕ) (all : List ℕ) → WritesUnless failed a i failed_after b j all → failed_after ≡ false → j ≡ i
+counts_of : (failed : Bool) (a : Option (List ℕ)) (i : ℕ) (failed_after : Bool)
+    (b : Option (List ℕ)) (j : ℕ) (all : List ℕ) → WritesUnless failed a i failed_after b j all
+    → failed_after ≡ false → j ≡ i
 counts_of true a i true b j all wrote is = wrote.1
 counts_of true a i false b j all wrote is = absurd wrote
 counts_of false a i true b j all wrote is = cc
 counts_of false a i false b j all wrote is = wrote.1
 
-stays_of : (failed : Bool) (a : Option (List ℕ)) (i : ℕ) (failed_after : Bool) (b : Option (List ℕ)) (j : ℕ) (all : List ℕ) → WritesUnless failed a i failed_after b j all
+stays_of : (failed : Bool) (a : Option (List ℕ)) (i : ℕ) (failed_after : Bool) (b : Option (List ℕ))
+    (j : ℕ) (all : List ℕ) → WritesUnless failed a i failed_after b j all
     → failed ≡ true → (failed_after ≡ true) × Keeps a b × (j ≡ i)
 stays_of true a i true b j all wrote is = (refl, wrote.0, wrote.1)
 stays_of true a i false b j all wrote is = absurd wrote
 stays_of false a i failed_after b j all wrote is = cc
 
-never_falls_of : (failed : Bool) (a : Option (List ℕ)) (i : ℕ) (failed_after : Bool) (b : Option (List ℕ)) (j : ℕ) (all : List ℕ) → WritesUnless failed a i failed_after b j all → i ≤ j
+never_falls_of : (failed : Bool) (a : Option (List ℕ)) (i : ℕ) (failed_after : Bool)
+    (b : Option (List ℕ)) (j : ℕ) (all : List ℕ) → WritesUnless failed a i failed_after b j all
+    → i ≤ j
 never_falls_of true a i true b j all wrote = omega (arith, wrote.1)
 never_falls_of true a i false b j all wrote = absurd wrote
 never_falls_of false a i true b j all wrote = wrote.2
@@ -97,7 +121,8 @@ never_true true is = cc
 never_true false is = λ other. cc
 
 -- a flag that never goes down again is down before if it is after
-down_before : (before after : Bool) → (before ≡ true → after ≡ true) → after ≡ false → before ≡ false
+down_before : (before after : Bool) → (before ≡ true → after ≡ true) → after ≡ false
+    → before ≡ false
 down_before true after up down = cc (up refl)
 down_before false after up down = refl
 
@@ -108,7 +133,9 @@ module _ {K : Type 0} (written : K → Option (List ℕ)) (faults : K → ℕ) w
   pub Writes-nil : (out : Outbox K) → Writes written faults out out []
   Writes-nil out = record {
     same = refl;
-    told = λ start text told. subst (Told start (written out.sink.now) out.buffer.now out.failed) (sym (append-nil text)) told;
+    told =
+        λ start text told. subst (Told start (written out.sink.now) out.buffer.now out.failed)
+        (sym (append-nil text)) told;
     cause = λ failed. inl failed;
     counts = λ fine. refl;
     never_falls = omega arith;
@@ -116,31 +143,53 @@ module _ {K : Type 0} (written : K → Option (List ℕ)) (faults : K → ℕ) w
   }
 
   -- bytes wait behind those that wait
-  pub Writes-kept : (old new : Outbox K) (bytes : List ℕ) → new.sink ≡ old.sink → new.buffer.now ≡ old.buffer.now ++ bytes → new.failed ≡ old.failed → Writes written faults old new bytes
+  pub Writes-kept : (old new : Outbox K) (bytes : List ℕ) → new.sink ≡ old.sink
+      → new.buffer.now ≡ old.buffer.now ++ bytes → new.failed ≡ old.failed
+      → Writes written faults old new bytes
   Writes-kept old new bytes sink buffer failed = record {
     same = ap (λ s. s.ghost_name) sink;
-    told = λ start text told. rw (sink, buffer, failed) (Tells-kept (written old.sink.now) old.buffer.now old.failed bytes start text told);
+    told =
+        λ start text told. rw (sink, buffer, failed)
+        (Tells-kept (written old.sink.now) old.buffer.now old.failed bytes start text told);
     cause = λ is. inl (sym failed ∙ is);
     counts = λ fine. ap (λ s. faults s.now) sink;
     never_falls = rw sink (omega arith);
-    stays = λ is. (failed ∙ is, rw sink (Keeps-refl (written old.sink.now)), ap (λ s. faults s.now) sink);
+    stays =
+        λ is.
+        (failed ∙ is, rw sink (Keeps-refl (written old.sink.now)), ap (λ s. faults s.now) sink);
   }
 
   -- what waited was written, and more bytes behind it, and nothing waits any more
-  pub Writes-wrote : (old new : Outbox K) (bytes all : List ℕ) → new.sink.ghost_name ≡ old.sink.ghost_name → new.buffer.now ≡ [] → old.buffer.now ++ bytes ≡ all
-      → WritesUnless old.failed (written old.sink.now) (faults old.sink.now) new.failed (written new.sink.now) (faults new.sink.now) all → Writes written faults old new bytes
+  pub Writes-wrote : (old new : Outbox K) (bytes all : List ℕ)
+      → new.sink.ghost_name ≡ old.sink.ghost_name → new.buffer.now ≡ []
+      → old.buffer.now ++ bytes ≡ all
+      → WritesUnless old.failed (written old.sink.now) (faults old.sink.now) new.failed
+      (written new.sink.now) (faults new.sink.now) all → Writes written faults old new bytes
   Writes-wrote old new bytes all same none e wrote = record {
     same = same;
-    told = λ start text told. subst (λ l. Told start (written new.sink.now) l new.failed (text ++ bytes)) (sym none)
-        (Tells-wrote (written old.sink.now) (faults old.sink.now) old.buffer.now old.failed (written new.sink.now) (faults new.sink.now) new.failed bytes all e wrote start text told);
-    cause = cause_of old.failed (written old.sink.now) (faults old.sink.now) new.failed (written new.sink.now) (faults new.sink.now) all wrote;
-    counts = counts_of old.failed (written old.sink.now) (faults old.sink.now) new.failed (written new.sink.now) (faults new.sink.now) all wrote;
-    never_falls = never_falls_of old.failed (written old.sink.now) (faults old.sink.now) new.failed (written new.sink.now) (faults new.sink.now) all wrote;
-    stays = stays_of old.failed (written old.sink.now) (faults old.sink.now) new.failed (written new.sink.now) (faults new.sink.now) all wrote;
+    told =
+        λ start text told. subst
+        (λ l. Told start (written new.sink.now) l new.failed (text ++ bytes)) (sym none)
+        (Tells-wrote (written old.sink.now) (faults old.sink.now) old.buffer.now old.failed
+        (written new.sink.now) (faults new.sink.now) new.failed bytes all e wrote start text told);
+    cause =
+        cause_of old.failed (written old.sink.now) (faults old.sink.now) new.failed
+        (written new.sink.now) (faults new.sink.now) all wrote;
+    counts =
+        counts_of old.failed (written old.sink.now) (faults old.sink.now) new.failed
+        (written new.sink.now) (faults new.sink.now) all wrote;
+    never_falls =
+        never_falls_of old.failed (written old.sink.now) (faults old.sink.now) new.failed
+        (written new.sink.now) (faults new.sink.now) all wrote;
+    stays =
+        stays_of old.failed (written old.sink.now) (faults old.sink.now) new.failed
+        (written new.sink.now) (faults new.sink.now) all wrote;
   }
 
   -- a new outbox has been told nothing
-  Writes-begun : (start out : Outbox K) (text : List ℕ) → start.buffer.now ≡ [] → Writes written faults start out text → Told (written start.sink.now) (written out.sink.now) out.buffer.now out.failed text
+  Writes-begun : (start out : Outbox K) (text : List ℕ) → start.buffer.now ≡ []
+      → Writes written faults start out text
+      → Told (written start.sink.now) (written out.sink.now) out.buffer.now out.failed text
   Writes-begun start out text empty told = told.told (written start.sink.now) [] (record {
     front = [];
     rest = [];
@@ -150,33 +199,56 @@ module _ {K : Type 0} (written : K → Option (List ℕ)) (faults : K → ℕ) w
   })
 
   -- where no write failed and nothing waits, all was written that a new outbox was told
-  pub Writes-whole : (start out : Outbox K) (text : List ℕ) → start.buffer.now ≡ [] → Writes written faults start out text → out.failed ≡ false → out.buffer.now ≡ []
+  pub Writes-whole : (start out : Outbox K) (text : List ℕ) → start.buffer.now ≡ []
+      → Writes written faults start out text → out.failed ≡ false → out.buffer.now ≡ []
       → Appends (written start.sink.now) (written out.sink.now) text
   Writes-whole start out text empty told fine none =
-      Told-end (written start.sink.now) (written out.sink.now) out.buffer.now out.failed text (Writes-begun start out text empty told) fine none
+      Told-end (written start.sink.now) (written out.sink.now) out.buffer.now out.failed text
+      (Writes-begun start out text empty told) fine none
 
   -- whatever failed, a front of it was written
-  pub Writes-front : (start out : Outbox K) (text : List ℕ) → start.buffer.now ≡ [] → Writes written faults start out text → AppendsFront (written start.sink.now) (written out.sink.now) text
+  pub Writes-front : (start out : Outbox K) (text : List ℕ) → start.buffer.now ≡ []
+      → Writes written faults start out text
+      → AppendsFront (written start.sink.now) (written out.sink.now) text
   Writes-front start out text empty told =
-      Told-front (written start.sink.now) (written out.sink.now) out.buffer.now out.failed text (Writes-begun start out text empty told)
+      Told-front (written start.sink.now) (written out.sink.now) out.buffer.now out.failed text
+      (Writes-begun start out text empty told)
 
   -- a write failed only where the count of faults rose
-  pub Writes-rose : (start out : Outbox K) (text : List ℕ) → start.failed ≡ false → Writes written faults start out text → out.failed ≡ true → Rose (faults start.sink.now) (faults out.sink.now)
-  Writes-rose start out text fine told failed = elim (told.cause failed) as (λ _. Rose (faults start.sink.now) (faults out.sink.now)) [ inl early ↦ absurd (never_true start.failed fine early) | inr rose ↦ rose ]
+  pub Writes-rose : (start out : Outbox K) (text : List ℕ) → start.failed ≡ false
+      → Writes written faults start out text → out.failed ≡ true
+      → Rose (faults start.sink.now) (faults out.sink.now)
+  Writes-rose start out text fine told failed =
+      elim (told.cause failed) as (λ _. Rose (faults start.sink.now) (faults out.sink.now))
+      [ inl early ↦ absurd (never_true start.failed fine early) | inr rose ↦ rose ]
 
 -- two calls, one after the other
-pub Writes-then : {K : Type 0} {written : K → Option (List ℕ)} {faults : K → ℕ} {old mid new : Outbox K} (bytes more : List ℕ)
-    → Writes written faults old mid bytes → Writes written faults mid new more → Writes written faults old new (bytes ++ more)
+pub Writes-then : {K : Type 0} {written : K → Option (List ℕ)} {faults : K → ℕ}
+    {old mid new : Outbox K} (bytes more : List ℕ)
+    → Writes written faults old mid bytes → Writes written faults mid new more
+    → Writes written faults old new (bytes ++ more)
 Writes-then {K} {written} {faults} {old} {mid} {new} bytes more first second =
-    let fine_before : new.failed ≡ false → mid.failed ≡ false = down_before mid.failed new.failed (λ is. (second.stays is).0) in
+    let fine_before : new.failed ≡ false → mid.failed ≡ false =
+    down_before mid.failed new.failed (λ is. (second.stays is).0) in
     record {
       same = second.same ∙ first.same;
-      told = λ start text told. subst (Told start (written new.sink.now) new.buffer.now new.failed) (append_assoc text bytes more) (second.told start (text ++ bytes) (first.told start text told));
-      cause = FailedBy-trans old.failed (faults old.sink.now) mid.failed (faults mid.sink.now) new.failed (faults new.sink.now) first.cause second.cause first.never_falls second.never_falls;
+      told =
+          λ start text told. subst (Told start (written new.sink.now) new.buffer.now new.failed)
+          (append_assoc text bytes more)
+          (second.told start (text ++ bytes) (first.told start text told));
+      cause =
+          FailedBy-trans old.failed (faults old.sink.now) mid.failed (faults mid.sink.now)
+          new.failed (faults new.sink.now) first.cause second.cause first.never_falls
+          second.never_falls;
       counts = λ fine. second.counts fine ∙ first.counts (fine_before fine);
       never_falls = omega (arith, first.never_falls, second.never_falls);
       stays = λ failed.
           let once = first.stays failed in
-          let twice = second.stays once.0 in
-          (twice.0, Keeps-trans (written old.sink.now) (written mid.sink.now) (written new.sink.now) once.1 twice.1, twice.2 ∙ once.2);
+          let twice = second.stays once.0 in (
+            twice.0,
+            Keeps-trans (written old.sink.now) (written mid.sink.now) (written new.sink.now)
+                once.1 twice.1,
+            twice.2
+                ∙ once.2,
+          );
     }

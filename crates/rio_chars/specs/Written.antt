@@ -4,7 +4,8 @@ use Rattle.std.specs.Io.KnownBytes.{Appends, Keeps}
 use Rattle.rio_chars.specs.Faults.{FailedBy}
 use Rattle.rio_chars.specs.declared.outbox.Outbox.{Outbox}
 
--- From `start` on, this text was told: a front of it was written, and unless a write failed the rest waits.
+-- From `start` on, this text was told: a front of it was written, and unless a write failed the
+-- rest waits.
 pub record Told (start written : Option (List ℕ)) (waiting : List ℕ) (failed : Bool) (text : List ℕ)
     : Type 0 where
   pub front : List ℕ
@@ -20,8 +21,9 @@ Tells written waiting failed written_after waiting_after failed_after bytes =
     (start : Option (List ℕ)) (text : List ℕ) → Told start written waiting failed text
     → Told start written_after waiting_after failed_after (text ++ bytes)
 
--- All that a call says that tells these bytes to an outbox. `written` and `faults` are what the sink tells of itself: a
--- write fails only if the count rose, and the count rises in no other way; after a failed write nothing more is written.
+-- All that a call says that tells these bytes to an outbox. `written` and `faults` are what the
+-- sink tells of itself: a write fails only if the count rose, and the count rises in no other way;
+-- after a failed write nothing more is written.
 pub record Writes {K : Type 0} (written : K → Option (List ℕ)) (faults : K → ℕ) (old new : Outbox K)
     (bytes : List ℕ) : Type 0 where
   pub same : new.sink.ghost_name ≡ old.sink.ghost_name

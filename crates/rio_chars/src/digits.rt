@@ -46,7 +46,8 @@ pub(crate) fn write_hex(room: &mut [u8], bytes: &[u8])
     }
 }
 
-/// Writes the decimal digits of a number, with no zero in front, at the end of the room, and answers where they begin.
+/// Writes the decimal digits of a number, with no zero in front, at the end of the room, and
+/// answers where they begin.
 pub fn write_decimal(number: u32, digits: &mut [u8; 10]) -> usize
     ensures begin { result ≤ 10 }
     ensures text { drop result digits.new ≡ decimal number }
@@ -70,7 +71,8 @@ fn hex_value(digit: u8) -> u8
     HEX_VALUES[usize::from(digit)]
 }
 
-/// The byte of two lower-case hexadecimal digits, the high one first, or None if one of them is no digit.
+/// The byte of two lower-case hexadecimal digits, the high one first, or None if one of them is no
+/// digit.
 pub fn read_hex_byte(high: u8, low: u8) -> Option<u8>
     ensures below { IfSome result (λ byte. byte < 256) }
     ensures text { IfSome result (λ byte. (high ∷ low ∷ []) ≡ hex_of (byte ∷ [])) }
@@ -86,8 +88,8 @@ pub fn read_hex_byte(high: u8, low: u8) -> Option<u8>
     }
 }
 
-/// The bytes that these digits spell, two lower-case hexadecimal digits a byte, the high one first; or None if they
-/// spell none. No digits spell no bytes.
+/// The bytes that these digits spell, two lower-case hexadecimal digits a byte, the high one first;
+/// or None if they spell none. No digits spell no bytes.
 pub fn read_hex(alloc: Global, digits: &[u8]) -> Result<Option<Vec<u8>>, AllocError>
     ensures { IfOk result (λ read. MatchOption read
         ((bytes : List ℕ) → All (λ byte. byte < 256) bytes → digits.now ≢ hex_of bytes)

@@ -1,16 +1,23 @@
-//! The characters of a serial link, and the edge of the program: where bytes come from and where they go.
+//! The characters of a serial link, and the edge of the program: where bytes come from and where
+//! they go.
 //!
-//! It promises that input is read whole or its fault told, that text is written whole and in order up to the first
-//! write that fails, and that a count of faults rises in the calls that tell a fault and in no others. It leaves out
-//! 8b/10b code groups, and it knows of a standard stream's bytes only what std tells of them: nothing.
+//! It promises that input is read whole or its fault told, that text is written whole and in order
+//! up to the first write that fails, and that a count of faults rises in the calls that tell a
+//! fault and in no others. It leaves out 8b/10b code groups, and it knows of a standard stream's
+//! bytes only what std tells of them: nothing.
 //!
-//! - `Char` and `Chars`: a character after 8b/10b decoding, and a list of them; `char_text`, `read_char`.
-//! - `read_hex` and `read_hex_byte`: bytes from hexadecimal digits; `write_decimal`: a number's digits.
-//! - `Source` and `Sink`: what reads and writes may do; `Failed` and `NoMemory`, why a call gives up.
-//! - `read_all`, with `ReadEnd`, and `write_all`: a whole input, a whole text; `write_unless`: if no write has failed.
-//! - `Outbox`, over a `TextBuffer`: text on its way to a sink in pieces of kilobytes, with no branch at each word.
-//! - `MemSource` and `MemSink`: in memory, failing in listed calls; `PlainSource` and `PlainSink`: never failing;
-//!   `StdSource` and `StdSink`: over readers and writers of the standard library.
+//! - `Char` and `Chars`: a character after 8b/10b decoding, and a list of them; `char_text`,
+//!   `read_char`.
+//! - `read_hex` and `read_hex_byte`: bytes from hexadecimal digits; `write_decimal`: a number's
+//!   digits.
+//! - `Source` and `Sink`: what reads and writes may do; `Failed` and `NoMemory`, why a call gives
+//!   up.
+//! - `read_all`, with `ReadEnd`, and `write_all`: a whole input, a whole text; `write_unless`: if
+//!   no write has failed.
+//! - `Outbox`, over a `TextBuffer`: text on its way to a sink in pieces of kilobytes, with no
+//!   branch at each word.
+//! - `MemSource` and `MemSink`: in memory, failing in listed calls; `PlainSource` and `PlainSink`:
+//!   never failing; `StdSource` and `StdSink`: over readers and writers of the standard library.
 #![tactic(auto)]
 
 mod chars;

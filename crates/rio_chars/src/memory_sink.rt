@@ -12,8 +12,8 @@ use crate::{Failed, NoMemory, Sink};
 use std::alloc::Global;
 use std::marker::Model;
 
-/// A sink that keeps its bytes in memory, takes at most `step` of them in a call, and fails in the calls that are
-/// listed and where no room is left.
+/// A sink that keeps its bytes in memory, takes at most `step` of them in a call, and fails in the
+/// calls that are listed and where no room is left.
 #[derive(Drop)]
 pub struct MemSink {
     buffer: Vec<u8>,
@@ -42,8 +42,8 @@ impl Model for MemSink {
 }
 
 impl MemSink {
-    /// A sink with room for this many bytes, all of it taken here. `fails` has the numbers of the calls that fail,
-    /// counted from 0.
+    /// A sink with room for this many bytes, all of it taken here. `fails` has the numbers of the
+    /// calls that fail, counted from 0.
     pub fn new(
         alloc: Global,
         room: usize,

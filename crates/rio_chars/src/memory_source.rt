@@ -10,7 +10,8 @@ use crate::plan::Plan;
 use crate::{Failed, Source};
 use std::marker::Model;
 
-/// A source of bytes in memory, which gives at most `step` of them in a call, and fails in the calls that are listed.
+/// A source of bytes in memory, which gives at most `step` of them in a call, and fails in the
+/// calls that are listed.
 #[derive(Drop)]
 pub struct MemSource {
     bytes: Vec<u8>,

@@ -14,9 +14,9 @@ use crate::{Char, Sink, TextBuffer, write_all};
 /// The most bytes whose digits have room in an empty buffer.
 const HEX_PART: usize = 32768;
 
-/// Text on its way to a sink, which is handed over in pieces of kilobytes. After a write that fails nothing more is
-/// written, and what is told from then on is dropped: so the text of one event can be told to its end without a branch
-/// at each word, and `failed` be asked then.
+/// Text on its way to a sink, which is handed over in pieces of kilobytes. After a write that fails
+/// nothing more is written, and what is told from then on is dropped: so the text of one event can
+/// be told to its end without a branch at each word, and `failed` be asked then.
 #[derive(Drop)]
 pub struct Outbox<'a, K> {
     sink: &'a mut K,
@@ -58,7 +58,8 @@ impl<'a, K: Sink> Outbox<'a, K> {
         }
     }
 
-    /// Tells the first bytes of a short text: faster than `write`, since a copy of eight bytes is one step.
+    /// Tells the first bytes of a short text: faster than `write`, since a copy of eight bytes is
+    /// one step.
     #[inline(always)]
     pub fn write_short(&mut self, text: &[u8; 8], count: usize)
         requires { count ≤ 8 }

@@ -43,9 +43,10 @@ impl From<AllocError> for ReadEnd {
 /// A piece is a multiple of the pages that systems hand over, and small enough for a near cache.
 const PIECE: usize = 65536;
 
-/// Reads all bytes up to the end of input, at most `limit` of them. TooLong comes if there is one more, which is the last
-/// that it reads; Fault if a read failed, and then the count of faults rose, as at no other answer; NoMemory if memory was
-/// not given, for the piece that it reads into or for the bytes. At each of them the bytes that it has read are lost.
+/// Reads all bytes up to the end of input, at most `limit` of them. TooLong comes if there is one
+/// more, which is the last that it reads; Fault if a read failed, and then the count of faults
+/// rose, as at no other answer; NoMemory if memory was not given, for the piece that it reads into
+/// or for the bytes. At each of them the bytes that it has read are lost.
 pub fn read_all<S: Source>(alloc: Global, source: &mut S, limit: usize) -> Result<Vec<u8>, ReadEnd>
     ensures whole { IfOk result
         (λ bytes. Consumes (S.left source.old) (S.left source.new) bytes.items) }

@@ -13,8 +13,9 @@ pub trait Sink {
     /// How many writes have failed. A count stands still at its greatest value, 2^64 - 1.
     ghost faults: { Self → ℕ };
 
-    /// Writes some of the first bytes of the piece and answers how many: at least one of a piece that is not empty.
-    /// Failed comes only if the count of faults rose, and then nothing was written. The count rises in no other call.
+    /// Writes some of the first bytes of the piece and answers how many: at least one of a piece
+    /// that is not empty. Failed comes only if the count of faults rose, and then nothing was
+    /// written. The count rises in no other call.
     fn write(&mut self, piece: &[u8]) -> Result<usize, Failed>
         ensures count { IfOk result (λ n. n ≤ length piece.now) }
         ensures progress { IfOk result (λ n. 0 < length piece.now → 0 < n) }

@@ -13,9 +13,9 @@ pub trait Source {
     /// How many reads have failed. A count stands still at its greatest value, 2^64 - 1.
     ghost faults: { Self → ℕ };
 
-    /// Puts the next bytes at the front of the piece and answers how many. Zero for a piece that is not empty is
-    /// the end of input. Failed comes only if the count of faults rose, and takes nothing from what is left. The
-    /// count rises in no other call.
+    /// Puts the next bytes at the front of the piece and answers how many. Zero for a piece that is
+    /// not empty is the end of input. Failed comes only if the count of faults rose, and takes
+    /// nothing from what is left. The count rises in no other call.
     fn read(&mut self, piece: &mut [u8]) -> Result<usize, Failed>
         ensures count { IfOk result (λ n. n ≤ length piece.old) }
         ensures bytes { ReadConsumes (left self.old) (left self.new) result piece.new }

@@ -7,8 +7,9 @@ ghost use Rattle.rio_chars.specs.Memory.{counted};
 use crate::{Failed, Sink, Source};
 use std::io::{ErrorKind, Read, Write};
 
-/// A source over a reader of the standard library, as standard input: `StdSource::new(rt.reader())`. It tells of the
-/// bytes that are left what the reader tells of itself: those of a slice, and nothing of standard input.
+/// A source over a reader of the standard library, as standard input:
+/// `StdSource::new(rt.reader())`. It tells of the bytes that are left what the reader tells of
+/// itself: those of a slice, and nothing of standard input.
 #[derive(Drop)]
 pub struct StdSource<R> {
     reader: R,
@@ -69,10 +70,11 @@ fn read_once<R: Read>(reader: &mut R, piece: &mut [u8]) -> Option<usize>
     None
 }
 
-/// A sink over a writer of the standard library, as standard output: `StdSink::new(io::writer(&rt))`. It wants a writer
-/// that keeps nothing back, as this one is, and does not flush it: a flush that failed after bytes were taken could not
-/// be answered. It tells of the bytes that were written what the writer tells of itself: those in a `Vec`, and nothing
-/// of standard output.
+/// A sink over a writer of the standard library, as standard output:
+/// `StdSink::new(io::writer(&rt))`. It wants a writer that keeps nothing back, as this one is, and
+/// does not flush it: a flush that failed after bytes were taken could not be answered. It tells of
+/// the bytes that were written what the writer tells of itself: those in a `Vec`, and nothing of
+/// standard output.
 #[derive(Drop)]
 pub struct StdSink<W> {
     writer: W,
@@ -114,7 +116,8 @@ impl<W: Write> Sink for StdSink<W> {
     }
 }
 
-/// One write, tried again if a signal interrupts it. A writer that takes nothing of some bytes has failed.
+/// One write, tried again if a signal interrupts it. A writer that takes nothing of some bytes has
+/// failed.
 fn write_once<W: Write>(writer: &mut W, piece: &[u8]) -> Option<usize>
     ensures count { IfSome result (λ n. n ≤ length piece.now) }
     ensures progress { IfSome result (λ n. 0 < length piece.now → 0 < n) }

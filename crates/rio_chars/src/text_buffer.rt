@@ -10,7 +10,8 @@ use crate::{Char, NoMemory};
 use std::alloc::Global;
 use std::marker::Model;
 
-/// The most bytes that wait. It is a multiple of the pages that systems hand over, and small enough for a near cache.
+/// The most bytes that wait. It is a multiple of the pages that systems hand over, and small enough
+/// for a near cache.
 pub(crate) const ROOM: usize = 65536;
 
 /// The memory of an outbox: text that waits to be written, of at most 65,536 bytes.

@@ -6,7 +6,8 @@ ghost use Rattle.rio_chars.specs.Fronts.{AppendsFront};
 
 use crate::{Failed, Sink};
 
-/// Writes all bytes. At Failed a front of them was written, and the count of faults rose. It takes no memory.
+/// Writes all bytes. At Failed a front of them was written, and the count of faults rose. It takes
+/// no memory.
 pub fn write_all<K: Sink>(sink: &mut K, bytes: &[u8]) -> Result<(), Failed>
     ensures whole { OnOk result (Appends (K.written sink.old) (K.written sink.new) bytes.now) }
     ensures front { OnErr result

@@ -21,20 +21,27 @@ use Rattle.rio_cli.specs.Outputs.{SpellsBuilt, RefusesScript, IsAccepted, IsRefu
 use Rattle.rio_cli.specs.Answers.{Answers, SaysOfBytes, SaysOfInput, Refuses, RefusesInput, RefusesBytes}
 
 -- a source that told its bytes gave just these
-gave_all : (bytes given : List ℕ) (left after : Option (List ℕ)) → left ≡ Some bytes → Gave left after given → given ≡ bytes
-gave_all bytes given left after e gave = from after (subst (λ l. Consumes l after given) e gave.told) gave.end
+gave_all : (bytes given : List ℕ) (left after : Option (List ℕ)) → left ≡ Some bytes
+    → Gave left after given → given ≡ bytes
+gave_all bytes given left after e gave =
+    from after (subst (λ l. Consumes l after given) e gave.told) gave.end
   where
-    from : (after : Option (List ℕ)) → Consumes (Some bytes) after given → IsAtEnd after → given ≡ bytes
+    from : (after : Option (List ℕ)) → Consumes (Some bytes) after given → IsAtEnd after
+        → given ≡ bytes
     from None told end = absurd told
     from (Some rest) told end = sym (told ∙ ap (λ xs. given ++ xs) end ∙ append-nil given)
 
 -- more bytes than the limit were there
-took_more : (bytes : List ℕ) (left after : Option (List ℕ)) → left ≡ Some bytes → ConsumesJust left after (most_input + 1) → most_input < length bytes
-took_more bytes left after e took = from after (subst (λ l. Consumes l after took.taken) e took.told)
+took_more : (bytes : List ℕ) (left after : Option (List ℕ)) → left ≡ Some bytes
+    → ConsumesJust left after (most_input + 1) → most_input < length bytes
+took_more bytes left after e took =
+    from after (subst (λ l. Consumes l after took.taken) e took.told)
   where
-    from : (after : Option (List ℕ)) → Consumes (Some bytes) after took.taken → most_input < length bytes
+    from : (after : Option (List ℕ)) → Consumes (Some bytes) after took.taken
+        → most_input < length bytes
     from None told = absurd told
-    from (Some rest) told = let just = took.just in omega (arith, ap length told, length-append took.taken rest)
+    from (Some rest) told =
+        let just = took.just in omega (arith, ap length told, length-append took.taken rest)
 
 -- where nothing was read
 pub took_none : (left : Option (List ℕ)) → ConsumesUpTo left left (most_input + 1)
@@ -44,40 +51,56 @@ took_none left = record { taken = []; told = from left; within = omega arith }
     from None = tt
     from (Some bytes) = refl
 
-module _ (command : Command) (l l2 : Option (List ℕ)) (r r' : ℕ) (w : Option (List ℕ)) (f : ℕ) (w' : Option (List ℕ)) (f2 : ℕ) where
-  pub says_at : (answer status : Status) → SaysOfInput command answer l l2 r r' w f w' f2 → answer ≡ status → SaysOfInput command status l l2 r r' w f w' f2
+module _ (command : Command) (l l2 : Option (List ℕ)) (r r' : ℕ) (w : Option (List ℕ)) (f : ℕ)
+    (w' : Option (List ℕ)) (f2 : ℕ) where
+  pub says_at : (answer status : Status) → SaysOfInput command answer l l2 r r' w f w' f2
+      → answer ≡ status → SaysOfInput command status l l2 r r' w f w' f2
   says_at answer status h e = subst (λ s. SaysOfInput command s l l2 r r' w f w' f2) e h
 
   -- an input that is not to be refused
-  pub accepts : (answer : Status) → SaysOfInput command answer l l2 r r' w f w' f2 → (bytes : List ℕ) → l ≡ Some bytes → length bytes ≤ most_input → (Declines command bytes w w' → ⊥)
+  pub accepts : (answer : Status) → SaysOfInput command answer l l2 r r' w f w' f2
+      → (bytes : List ℕ) → l ≡ Some bytes → length bytes ≤ most_input
+      → (Declines command bytes w w' → ⊥)
       → ¬ Rose r r' → ¬ Rose f f2 → (answer ≡ Done) ⊎ (answer ≡ NoMemory)
   accepts Done h bytes e fits never calm calm2 = inl refl
   accepts Words h bytes e fits never calm calm2 = absurd h
-  accepts Script h bytes e fits never calm calm2 = absurd (never (subst (λ b. Declines command b w w') (gave_all bytes h.bytes l l2 e h.gave) h.holds))
+  accepts Script h bytes e fits never calm calm2 =
+      absurd
+      (never (subst (λ b. Declines command b w w') (gave_all bytes h.bytes l l2 e h.gave) h.holds))
   accepts ReadFault h bytes e fits never calm calm2 = absurd (calm h.0)
   accepts WriteFault h bytes e fits never calm calm2 = absurd (calm2 h.0)
   accepts NoMemory h bytes e fits never calm calm2 = inr refl
   accepts Undetected h bytes e fits never calm calm2 = absurd h
-  accepts TooLong h bytes e fits never calm calm2 = let more = took_more bytes l l2 e h.0 in absurd (omega arith)
+  accepts TooLong h bytes e fits never calm calm2 =
+      let more = took_more bytes l l2 e h.0 in absurd (omega arith)
   accepts Locked h bytes e fits never calm calm2 = absurd h
 
   -- an input that is not to be carried out
-  pub refuses : (answer : Status) → SaysOfInput command answer l l2 r r' w f w' f2 → (bytes : List ℕ) → l ≡ Some bytes → length bytes ≤ most_input → (Completes command bytes w w' → ⊥)
+  pub refuses : (answer : Status) → SaysOfInput command answer l l2 r r' w f w' f2
+      → (bytes : List ℕ) → l ≡ Some bytes → length bytes ≤ most_input
+      → (Completes command bytes w w' → ⊥)
       → ¬ Rose r r' → ¬ Rose f f2 → (answer ≡ Script) ⊎ (answer ≡ NoMemory)
-  refuses Done h bytes e fits never calm calm2 = absurd (never (subst (λ b. Completes command b w w') (gave_all bytes h.bytes l l2 e h.gave) h.holds))
+  refuses Done h bytes e fits never calm calm2 =
+      absurd
+      (never (subst (λ b. Completes command b w w') (gave_all bytes h.bytes l l2 e h.gave) h.holds))
   refuses Words h bytes e fits never calm calm2 = absurd h
   refuses Script h bytes e fits never calm calm2 = inl refl
   refuses ReadFault h bytes e fits never calm calm2 = absurd (calm h.0)
   refuses WriteFault h bytes e fits never calm calm2 = absurd (calm2 h.0)
   refuses NoMemory h bytes e fits never calm calm2 = inr refl
   refuses Undetected h bytes e fits never calm calm2 = absurd h
-  refuses TooLong h bytes e fits never calm calm2 = let more = took_more bytes l l2 e h.0 in absurd (omega arith)
+  refuses TooLong h bytes e fits never calm calm2 =
+      let more = took_more bytes l l2 e h.0 in absurd (omega arith)
   refuses Locked h bytes e fits never calm calm2 = absurd h
 
-  is_too_long : (bytes given : List ℕ) → l ≡ Some bytes → most_input < length bytes → Gave l l2 given → ⊥
-  is_too_long bytes given e long gave = let within = gave.within in let same = ap length (gave_all bytes given l l2 e gave) in omega arith
+  is_too_long : (bytes given : List ℕ) → l ≡ Some bytes → most_input < length bytes
+      → Gave l l2 given → ⊥
+  is_too_long bytes given e long gave =
+      let within = gave.within in let same = ap length (gave_all bytes given l l2 e gave) in
+      omega arith
 
-  pub lengthy : (answer : Status) → SaysOfInput command answer l l2 r r' w f w' f2 → (bytes : List ℕ) → l ≡ Some bytes → most_input < length bytes
+  pub lengthy : (answer : Status) → SaysOfInput command answer l l2 r r' w f w' f2
+      → (bytes : List ℕ) → l ≡ Some bytes → most_input < length bytes
       → ¬ Rose r r' → ¬ Rose f f2 → (answer ≡ TooLong) ⊎ (answer ≡ NoMemory)
   lengthy Done h bytes e long calm calm2 = absurd (is_too_long bytes h.bytes e long h.gave)
   lengthy Words h bytes e long calm calm2 = absurd h
@@ -92,44 +115,68 @@ module _ (command : Command) (l l2 : Option (List ℕ)) (r r' : ℕ) (w : Option
 -- ---- the commands
 
 -- a script has one first line that is not built, or none
-same_unbuilt : (bytes : List ℕ) (names names2 : List (List ℕ)) (script script2 : List Numbered) → IsScript bytes names script → IsScript bytes names2 script2 → unbuilt_in script ≡ unbuilt_in script2
-same_unbuilt bytes names names2 script script2 h k = ap unbuilt_in (script_once bytes names names2 script script2 h k).1
+same_unbuilt : (bytes : List ℕ) (names names2 : List (List ℕ)) (script script2 : List Numbered)
+    → IsScript bytes names script → IsScript bytes names2 script2
+    → unbuilt_in script ≡ unbuilt_in script2
+same_unbuilt bytes names names2 script script2 h k =
+    ap unbuilt_in (script_once bytes names names2 script script2 h k).1
 
-built_not_refused : (bytes : List ℕ) (line reason : ℕ) → SpellsBuilt bytes → RefusesScript bytes line reason → ⊥
-built_not_refused bytes line reason is (inl refused) = not_refused bytes is.0 is.1 line reason is.2 refused
-built_not_refused bytes line reason is (inr h) = none-some line (sym is.3 ∙ same_unbuilt bytes is.0 h.0.0 is.1 h.0.1 is.2 h.0.2 ∙ h.0.3)
+built_not_refused : (bytes : List ℕ) (line reason : ℕ) → SpellsBuilt bytes
+    → RefusesScript bytes line reason → ⊥
+built_not_refused bytes line reason is (inl refused) =
+    not_refused bytes is.0 is.1 line reason is.2 refused
+built_not_refused bytes line reason is (inr h) =
+    none-some line (sym is.3 ∙ same_unbuilt bytes is.0 h.0.0 is.1 h.0.1 is.2 h.0.2 ∙ h.0.3)
 
-script_refused_once : (bytes : List ℕ) (line reason line2 reason2 : ℕ) → RefusesScript bytes line reason → RefusesScript bytes line2 reason2 → (line ≡ line2) × (reason ≡ reason2)
-script_refused_once bytes line reason line2 reason2 (inl h) (inl k) = refused_once bytes line reason line2 reason2 h k
-script_refused_once bytes line reason line2 reason2 (inl h) (inr k) = absurd (not_refused bytes k.0.0 k.0.1 line reason k.0.2 h)
-script_refused_once bytes line reason line2 reason2 (inr h) (inl k) = absurd (not_refused bytes h.0.0 h.0.1 line2 reason2 h.0.2 k)
-script_refused_once bytes line reason line2 reason2 (inr h) (inr k) =
-    (same_Some _ _ (sym h.0.3 ∙ same_unbuilt bytes h.0.0 k.0.0 h.0.1 k.0.1 h.0.2 k.0.2 ∙ k.0.3), h.1 ∙ sym k.1)
+script_refused_once : (bytes : List ℕ) (line reason line2 reason2 : ℕ)
+    → RefusesScript bytes line reason → RefusesScript bytes line2 reason2
+    → (line ≡ line2) × (reason ≡ reason2)
+script_refused_once bytes line reason line2 reason2 (inl h) (inl k) =
+    refused_once bytes line reason line2 reason2 h k
+script_refused_once bytes line reason line2 reason2 (inl h) (inr k) =
+    absurd (not_refused bytes k.0.0 k.0.1 line reason k.0.2 h)
+script_refused_once bytes line reason line2 reason2 (inr h) (inl k) =
+    absurd (not_refused bytes h.0.0 h.0.1 line2 reason2 h.0.2 k)
+script_refused_once bytes line reason line2 reason2 (inr h) (inr k) = (
+  same_Some _ _ (sym h.0.3 ∙ same_unbuilt bytes h.0.0 k.0.0 h.0.1 k.0.1 h.0.2 k.0.2 ∙ k.0.3),
+  h.1
+      ∙ sym k.1,
+)
 
 -- what is carried out is not refused: a row for each command
-pub not_refused_too : (command : Command) (bytes : List ℕ) (line reason : ℕ) → IsAccepted command bytes → IsRefused command bytes line reason → ⊥
+pub not_refused_too : (command : Command) (bytes : List ℕ) (line reason : ℕ)
+    → IsAccepted command bytes → IsRefused command bytes line reason → ⊥
 not_refused_too Replay bytes line reason is refused = built_not_refused bytes line reason is refused
 not_refused_too Decode bytes line reason is refused = no_bad_word bytes is.0 line is.1 refused.0
 
 -- a refused input has one line and one reason: a row for each command
-pub refused_once_too : (command : Command) (bytes : List ℕ) (line reason line2 reason2 : ℕ) → IsRefused command bytes line reason → IsRefused command bytes line2 reason2 → (line ≡ line2) × (reason ≡ reason2)
-refused_once_too Replay bytes line reason line2 reason2 h k = script_refused_once bytes line reason line2 reason2 h k
-refused_once_too Decode bytes line reason line2 reason2 h k = (bad_word_once bytes line line2 h.0 k.0, h.1 ∙ sym k.1)
+pub refused_once_too : (command : Command) (bytes : List ℕ) (line reason line2 reason2 : ℕ)
+    → IsRefused command bytes line reason → IsRefused command bytes line2 reason2
+    → (line ≡ line2) × (reason ≡ reason2)
+refused_once_too Replay bytes line reason line2 reason2 h k =
+    script_refused_once bytes line reason line2 reason2 h k
+refused_once_too Decode bytes line reason line2 reason2 h k =
+    (bad_word_once bytes line line2 h.0 k.0, h.1 ∙ sym k.1)
 
 -- what an input is of which the whole output was written
-completed : (command : Command) (bytes : List ℕ) (w w' : Option (List ℕ)) → Completes command bytes w w' → IsAccepted command bytes
+completed : (command : Command) (bytes : List ℕ) (w w' : Option (List ℕ))
+    → Completes command bytes w w' → IsAccepted command bytes
 completed Replay bytes w w' h = (h.names, h.script, h.spells, h.built)
 completed Decode bytes w w' h = (h.decoded.chars, h.decoded.spells)
 
-pub accepted_stays : (command : Command) (bytes : List ℕ) (w w' : Option (List ℕ)) → IsAccepted command bytes → Declines command bytes w w' → ⊥
+pub accepted_stays : (command : Command) (bytes : List ℕ) (w w' : Option (List ℕ))
+    → IsAccepted command bytes → Declines command bytes w w' → ⊥
 accepted_stays command bytes w w' is h = not_refused_too command bytes h.line h.reason is h.refused
 
-pub refused_stays : (command : Command) (bytes : List ℕ) (line reason : ℕ) (w w' : Option (List ℕ)) → IsRefused command bytes line reason → Completes command bytes w w' → ⊥
-refused_stays command bytes line reason w w' is h = not_refused_too command bytes line reason (completed command bytes w w' h) is
+pub refused_stays : (command : Command) (bytes : List ℕ) (line reason : ℕ) (w w' : Option (List ℕ))
+    → IsRefused command bytes line reason → Completes command bytes w w' → ⊥
+refused_stays command bytes line reason w w' is h =
+    not_refused_too command bytes line reason (completed command bytes w w' h) is
 
 -- no words ask for two commands
 apart : (words : List (List ℕ)) → Asks Replay words → Asks Decode words → ⊥
-apart words h k = let first = ap (λ (ws : List (List ℕ)). get_or (get_or ws 0 []) 0 0) (sym h ∙ k) in omega arith
+apart words h k =
+    let first = ap (λ (ws : List (List ℕ)). get_or (get_or ws 0 []) 0 0) (sym h ∙ k) in omega arith
 
 pub same_command : (a b : Command) (words : List (List ℕ)) → Asks a words → Asks b words → a ≡ b
 same_command Replay Replay words h k = refl
@@ -144,64 +191,110 @@ unknown words replay decode Decode is = decode is
 -- ---- the line that is refused
 
 -- the command of the refusal is the one that the words ask for
-pub Refuses-input : (command : Command) (words : List (List ℕ)) (status : Status) (refusal : Option Refusal) (l l2 w w' : Option (List ℕ)) → Asks command words
-    → RefusesInput command (record { status = status; refusal = refusal }) l l2 w w' → Refuses words (record { status = status; refusal = refusal }) l l2 w w'
+pub Refuses-input : (command : Command) (words : List (List ℕ)) (status : Status)
+    (refusal : Option Refusal) (l l2 w w' : Option (List ℕ)) → Asks command words
+    → RefusesInput command (record { status = status; refusal = refusal }) l l2 w w'
+    → Refuses words (record { status = status; refusal = refusal }) l l2 w w'
 Refuses-input command words status None l l2 w w' known h = h
 Refuses-input command words status (Some r) l l2 w w' known h =
-    let Of : Command → Type 0 = λ k. Asks k words × OfInput l l2 (λ bytes. IsRefused k bytes r.line r.reason × Appends w w' (refusal_text r.line r.reason)) in
+    let Of : Command → Type 0 =
+    λ k. Asks k words × OfInput l l2 (λ bytes. IsRefused k bytes r.line r.reason
+    × Appends w w' (refusal_text r.line r.reason)) in
     let here = subst Of (sym h.1) (known, h.2) in
     (h.0, here.0, here.1)
 
 -- what is refused of the bytes is refused of the input
-pub RefusesInput-of : (command : Command) (status : Status) (refusal : Option Refusal) (bytes : List ℕ) (l l2 w w' : Option (List ℕ)) → Gave l l2 bytes
-    → RefusesBytes command (record { status = status; refusal = refusal }) bytes w w' → RefusesInput command (record { status = status; refusal = refusal }) l l2 w w'
+pub RefusesInput-of : (command : Command) (status : Status) (refusal : Option Refusal)
+    (bytes : List ℕ) (l l2 w w' : Option (List ℕ)) → Gave l l2 bytes
+    → RefusesBytes command (record { status = status; refusal = refusal }) bytes w w'
+    → RefusesInput command (record { status = status; refusal = refusal }) l l2 w w'
 RefusesInput-of command status None bytes l l2 w w' gave h = h
-RefusesInput-of command status (Some r) bytes l l2 w w' gave h = (h.0, h.1, record { bytes = bytes; gave = gave; holds = (h.2, h.3) })
+RefusesInput-of command status (Some r) bytes l l2 w w' gave h = (
+  h.0,
+  h.1,
+  record {
+    bytes = bytes;
+    gave = gave;
+    holds = (h.2, h.3);
+  },
+)
 
 -- the line of a refusal was written
-pub RefusesBytes-line : (command : Command) (bytes : List ℕ) (status : Status) (refusal : Option Refusal) (line reason : ℕ) (w w' : Option (List ℕ)) → IsRefused command bytes line reason
-    → MatchOption refusal (status ≢ Script) (λ r. (status ≡ Script) × (r ≡ record { command = command; line = line; reason = reason }) × Appends w w' (refusal_text line reason))
+pub RefusesBytes-line : (command : Command) (bytes : List ℕ) (status : Status)
+    (refusal : Option Refusal) (line reason : ℕ) (w w' : Option (List ℕ))
+    → IsRefused command bytes line reason
+    → MatchOption refusal (status ≢ Script) (λ r. (status ≡ Script)
+    × (r ≡ record { command = command; line = line; reason = reason })
+    × Appends w w' (refusal_text line reason))
     → RefusesBytes command (record { status = status; refusal = refusal }) bytes w w'
 RefusesBytes-line command bytes status None line reason w w' is h = h
 RefusesBytes-line command bytes status (Some r) line reason w w' is h =
-    let Of : Refusal → Type 0 = λ s. (s.command ≡ command) × IsRefused command bytes s.line s.reason × Appends w w' (refusal_text s.line s.reason) in
+    let Of : Refusal → Type 0 =
+    λ s. (s.command ≡ command) × IsRefused command bytes s.line s.reason
+    × Appends w w' (refusal_text s.line s.reason) in
     let here = subst Of (sym h.1) (refl, is, h.2) in
     (h.0, here.0, here.1, here.2)
 
 -- and its status says so
-pub says_line : (command : Command) (bytes : List ℕ) (status : Status) (line reason : ℕ) (w : Option (List ℕ)) (f : ℕ) (w' : Option (List ℕ)) (f2 : ℕ) → IsRefused command bytes line reason
-    → Answers status Script (refusal_text line reason) w f w' f2 ⊎ ((status ≡ NoMemory) × Keeps w w') → SaysOfBytes command status bytes w f w' f2
+pub says_line : (command : Command) (bytes : List ℕ) (status : Status) (line reason : ℕ)
+    (w : Option (List ℕ)) (f : ℕ) (w' : Option (List ℕ)) (f2 : ℕ)
+    → IsRefused command bytes line reason
+    → Answers status Script (refusal_text line reason) w f w' f2
+    ⊎ ((status ≡ NoMemory) × Keeps w w') → SaysOfBytes command status bytes w f w' f2
 says_line command bytes status line reason w f w' f2 is (inl (inl told)) =
-    subst (λ s. SaysOfBytes command s bytes w f w' f2) (sym told.0) (record { line = line; reason = reason; refused = is; told = told.1 })
+    subst (λ s. SaysOfBytes command s bytes w f w' f2) (sym told.0) (record {
+      line = line;
+      reason = reason;
+      refused = is;
+      told = told.1;
+    })
 says_line command bytes status line reason w f w' f2 is (inl (inr failed)) =
-    subst (λ s. SaysOfBytes command s bytes w f w' f2) (sym failed.0) (failed.1, inr (record { line = line; reason = reason; refused = is; told = failed.2 }))
-says_line command bytes status line reason w f w' f2 is (inr none) = subst (λ s. SaysOfBytes command s bytes w f w' f2) (sym none.0) none.1
+    subst (λ s. SaysOfBytes command s bytes w f w' f2) (sym failed.0) (
+      failed.1,
+      inr (record {
+        line = line;
+        reason = reason;
+        refused = is;
+        told = failed.2;
+      }),
+    )
+says_line command bytes status line reason w f w' f2 is (inr none) =
+    subst (λ s. SaysOfBytes command s bytes w f w' f2) (sym none.0) none.1
 
 -- ---- a refusal answers its own status or WriteFault
 
-module _ (answer status : Status) (text : List ℕ) (w : Option (List ℕ)) (f : ℕ) (w' : Option (List ℕ)) (f2 : ℕ) where
-  pub no_other : (other : Status) → other ≢ status → other ≢ WriteFault → Answers answer status text w f w' f2 → answer ≡ other → ⊥
+module _ (answer status : Status) (text : List ℕ) (w : Option (List ℕ)) (f : ℕ)
+    (w' : Option (List ℕ)) (f2 : ℕ) where
+  pub no_other : (other : Status) → other ≢ status → other ≢ WriteFault
+      → Answers answer status text w f w' f2 → answer ≡ other → ⊥
   no_other other not_own not_fault (inl a) e = not_own (sym e ∙ a.0)
   no_other other not_own not_fault (inr a) e = not_fault (sym e ∙ a.0)
 
-  pub refusal_told : status ≢ WriteFault → Answers answer status text w f w' f2 → answer ≡ status → Appends w w' text
+  pub refusal_told : status ≢ WriteFault → Answers answer status text w f w' f2 → answer ≡ status
+      → Appends w w' text
   refusal_told not_fault (inl a) e = a.1
   refusal_told not_fault (inr a) e = absurd (not_fault (sym e ∙ a.0))
 
-  pub refusal_failed : status ≢ WriteFault → Answers answer status text w f w' f2 → answer ≡ WriteFault → Rose f f2 × AppendsFront w w' text
+  pub refusal_failed : status ≢ WriteFault → Answers answer status text w f w' f2
+      → answer ≡ WriteFault → Rose f f2 × AppendsFront w w' text
   refusal_failed not_fault (inl a) e = absurd (not_fault (sym a.0 ∙ e))
   refusal_failed not_fault (inr a) e = (a.1, a.2)
 
-  pub refusal_either : Answers answer status text w f w' f2 → (answer ≡ status) ⊎ ((answer ≡ WriteFault) × AppendsFront w w' text)
+  pub refusal_either : Answers answer status text w f w' f2
+      → (answer ≡ status) ⊎ ((answer ≡ WriteFault) × AppendsFront w w' text)
   refusal_either (inl a) = inl a.0
   refusal_either (inr a) = inr (a.0, a.2)
 
 -- ---- the words
 
 -- the test of the one word is the test of all words
-pub one_text : {A : Type 0} (text : A → List ℕ) (xs : List A) (x : A) (wanted read : List ℕ) (b : Bool) → length xs ≡ 1 → x ≡ get_or xs 0 x → read ≡ text x → Decides b (read ≡ wanted) → Decides b (map text xs ≡ wanted ∷ [])
+pub one_text : {A : Type 0} (text : A → List ℕ) (xs : List A) (x : A) (wanted read : List ℕ)
+    (b : Bool) → length xs ≡ 1 → x ≡ get_or xs 0 x → read ≡ text x → Decides b (read ≡ wanted)
+    → Decides b (map text xs ≡ wanted ∷ [])
 one_text text [] x wanted read b one at is d = absurd (omega arith)
 one_text text (y ∷ z ∷ xs) x wanted read b one at is d = absurd (omega arith)
 one_text text (y ∷ []) x wanted read b one at is d =
-    let same : read ≡ text y = is ∙ ap text at in
-    ((λ t. ap (λ bytes. bytes ∷ []) (sym same ∙ d.0 t)), (λ e. let own : text y ≡ wanted = cc in d.1 (same ∙ own)))
+    let same : read ≡ text y = is ∙ ap text at in (
+      (λ t. ap (λ bytes. bytes ∷ []) (sym same ∙ d.0 t)),
+      (λ e. let own : text y ≡ wanted = cc in d.1 (same ∙ own)),
+    )

@@ -28,41 +28,66 @@ use Rattle.rio_cli.proofs.WordLaws.{AreTexts-once}
 abbrev pub whole_text : List Char → List ℕ
 whole_text chars = decode_text (run start 0 chars) (at_rest (place_after start chars))
 
--- how far a loop has come: the lines of the characters before these were told, and the framer stands before these
-pub record Going {K : Type 0} (written : K → Option (List ℕ)) (faults : K → ℕ) (begun out : Outbox K) (chars : List Char) (n : ℕ) (left : List Char) (framer : Place) : Type 0 where
-  pub counted : n + length left ≡ length chars
-  pub found : List (ℕ × Event)
-  pub events : found ++ run framer n left ≡ run start 0 chars
-  pub stands : place_after framer left ≡ place_after start chars
-  pub told : Writes written faults begun out (flat_map event_text found)
+-- how far a loop has come: the lines of the characters before these were told, and the framer
+-- stands before these
+pub record Going {K : Type 0} (written : K → Option (List ℕ)) (faults : K → ℕ)
+    (begun out : Outbox K) (chars : List Char) (n : ℕ) (left : List Char) (framer : Place) : Type 0
+  where
+    pub counted : n + length left ≡ length chars
+    pub found : List (ℕ × Event)
+    pub events : found ++ run framer n left ≡ run start 0 chars
+    pub stands : place_after framer left ≡ place_after start chars
+    pub told : Writes written faults begun out (flat_map event_text found)
 
 -- behind a run of characters
-behind_stands : (from : Place) (left : List Char) → place_after (telling_front from left).step.place (drop (telling_front from left).count left) ≡ place_after from left
+behind_stands : (from : Place) (left : List Char)
+    → place_after (telling_front from left).step.place (drop (telling_front from left).count left)
+    ≡ place_after from left
 behind_stands from left =
-    ap (λ place. place_after place (drop (telling_front from left).count left)) (front-place from left)
-    ∙ sym (place_after-append from (take (telling_front from left).count left) (drop (telling_front from left).count left))
+    ap (λ place. place_after place (drop (telling_front from left).count left))
+    (front-place from left)
+    ∙ sym (place_after-append from (take (telling_front from left).count left)
+    (drop (telling_front from left).count left))
     ∙ ap (place_after from) (take-append-drop (telling_front from left).count left)
 
 -- what a run of characters gives is what it tells, with the packet that ended
-given_lines : (from : Place) (left : List Char) (place : ℕ) (told : Told) (new : Framing) → told ≡ told_of (telling_front from left).step.gives → new ≡ framing_after (telling_front from left).step
-    → flat_map event_text (placed place (listed (events_by told new.ended).first (events_by told new.ended).second)) ≡ flat_map event_text (placed place (telling_front from left).step.gives)
+given_lines : (from : Place) (left : List Char) (place : ℕ) (told : Told) (new : Framing)
+    → told ≡ told_of (telling_front from left).step.gives
+    → new ≡ framing_after (telling_front from left).step
+    → flat_map event_text
+    (placed place (listed (events_by told new.ended).first (events_by told new.ended).second))
+    ≡ flat_map event_text (placed place (telling_front from left).step.gives)
 given_lines from left place told new told_is new_is =
-    ap (λ t. flat_map event_text (placed place (listed (events_by t new.ended).first (events_by t new.ended).second))) told_is
-    ∙ ap (λ (f : Framing). flat_map event_text (placed place (listed (events_by (told_of (telling_front from left).step.gives) f.ended).first (events_by (told_of (telling_front from left).step.gives) f.ended).second))) new_is
-    ∙ ap (λ (e : Events). flat_map event_text (placed place (listed e.first e.second))) (events_by-front from left)
+    ap (λ t. flat_map event_text
+    (placed place (listed (events_by t new.ended).first (events_by t new.ended).second))) told_is
+    ∙ ap (λ (f : Framing). flat_map event_text (placed place (listed
+    (events_by (told_of (telling_front from left).step.gives) f.ended).first
+    (events_by (told_of (telling_front from left).step.gives) f.ended).second))) new_is
+    ∙ ap (λ (e : Events). flat_map event_text (placed place (listed e.first e.second)))
+    (events_by-front from left)
     ∙ ap (λ es. flat_map event_text (placed place es)) (listed-front from left)
 
-module _ {K : Type 0} (written : K → Option (List ℕ)) (faults : K → ℕ) (begun : Outbox K) (chars : List Char) where
+module _ {K : Type 0} (written : K → Option (List ℕ)) (faults : K → ℕ) (begun : Outbox K)
+    (chars : List Char) where
   abbrev Gone : Outbox K → ℕ → List Char → Place → Type 0
   Gone out n left framer = Going written faults begun out chars n left framer
 
   pub Going-begin : (framer : Place) → framer ≡ start → Gone begun 0 chars framer
-  Going-begin framer new = rw new (record { counted = omega arith; found = []; events = refl; stands = refl; told = Writes-nil written faults begun })
+  Going-begin framer new = rw new (record {
+    counted = omega arith;
+    found = [];
+    events = refl;
+    stands = refl;
+    told = Writes-nil written faults begun;
+  })
 
   -- a run of characters, of which the last has the place m
-  pub Going-more : (n m : ℕ) (left : List Char) (framer : Place) {out out2 : Outbox K} → n + (telling_front framer left).count ≡ suc m → Gone out n left framer
-      → Writes written faults out out2 (flat_map event_text (placed m (telling_front framer left).step.gives))
-      → Gone out2 (suc m) (drop (telling_front framer left).count left) (telling_front framer left).step.place
+  pub Going-more : (n m : ℕ) (left : List Char) (framer : Place) {out out2 : Outbox K}
+      → n + (telling_front framer left).count ≡ suc m → Gone out n left framer
+      → Writes written faults out out2
+      (flat_map event_text (placed m (telling_front framer left).step.gives))
+      → Gone out2 (suc m) (drop (telling_front framer left).count left)
+      (telling_front framer left).step.place
   Going-more n m left framer {out} {out2} here h more =
       let front = telling_front framer left in
       let fits = front-count framer left in
@@ -70,54 +95,86 @@ module _ {K : Type 0} (written : K → Option (List ℕ)) (faults : K → ℕ) (
       record {
         counted = omega (arith, length-drop front.count left);
         found = h.found ++ placed m front.step.gives;
-        events = append_assoc h.found (placed m front.step.gives) (run front.step.place (suc m) (drop front.count left))
+        events =
+            append_assoc h.found (placed m front.step.gives)
+            (run front.step.place (suc m) (drop front.count left))
             ∙ ap (λ es. h.found ++ es) (sym (run-telling_front framer n m left here)) ∙ h.events;
         stands = behind_stands framer left ∙ h.stands;
-        told = subst (Writes written faults begun out2) (sym (flat_map-append event_text h.found (placed m front.step.gives)))
-            (Writes-then (flat_map event_text h.found) (flat_map event_text (placed m front.step.gives)) h.told more);
+        told =
+            subst (Writes written faults begun out2)
+            (sym (flat_map-append event_text h.found (placed m front.step.gives)))
+            (Writes-then (flat_map event_text h.found)
+            (flat_map event_text (placed m front.step.gives)) h.told more);
       }
 
   -- the same, as the framer reads the run and its lines are told
-  pub Going-read : (n : ℕ) (left left2 : List Char) (from : Place) (count : ℕ) (told : Told) (new : Framing) {out out2 : Outbox K} → count ≡ (telling_front from left).count
-      → told ≡ told_of (telling_front from left).step.gives → new ≡ framing_after (telling_front from left).step → left2 ≡ drop count left → 0 < count → Gone out n left from
-      → Writes written faults out out2 (flat_map event_text (placed (n + count - 1) (listed (events_by told new.ended).first (events_by told new.ended).second)))
+  pub Going-read : (n : ℕ) (left left2 : List Char) (from : Place) (count : ℕ) (told : Told)
+      (new : Framing) {out out2 : Outbox K} → count ≡ (telling_front from left).count
+      → told ≡ told_of (telling_front from left).step.gives
+      → new ≡ framing_after (telling_front from left).step → left2 ≡ drop count left → 0 < count
+      → Gone out n left from
+      → Writes written faults out out2 (flat_map event_text (placed (n + count - 1)
+      (listed (events_by told new.ended).first (events_by told new.ended).second)))
       → Gone out2 (n + count) left2 new.place
-  Going-read n left left2 from count told new {out} {out2} count_is told_is new_is left_is some h more =
+  Going-read n left left2 from count told new {out} {out2} count_is told_is new_is left_is some h
+      more =
       let front = telling_front from left in
       let m : ℕ = n + count - 1 in
       let here : n + front.count ≡ suc m = omega (arith, count_is) in
       let whole : n + count ≡ suc m = omega arith in
-      let lines = subst (Writes written faults out out2) (given_lines from left m told new told_is new_is) more in
-      let done : Gone out2 (suc m) (drop front.count left) front.step.place = Going-more n m left from here h lines in
+      let lines =
+      subst (Writes written faults out out2) (given_lines from left m told new told_is new_is)
+      more in
+      let done : Gone out2 (suc m) (drop front.count left) front.step.place =
+      Going-more n m left from here h lines in
       subst (λ k. Gone out2 k left2 new.place) (sym whole)
       (subst (λ cs. Gone out2 (suc m) cs new.place) (sym (left_is ∙ ap (λ k. drop k left) count_is))
-      (subst (λ p. Gone out2 (suc m) (drop front.count left) p) (sym (ap (λ (f : Framing). f.place) new_is)) done))
+      (subst (λ p. Gone out2 (suc m) (drop front.count left) p)
+      (sym (ap (λ (f : Framing). f.place) new_is)) done))
 
   -- the text so far is a front of the whole text
-  pub Going-front : {out : Outbox K} (n : ℕ) (left : List Char) {framer : Place} → begun.buffer.now ≡ [] → Gone out n left framer → AppendsFront (written begun.sink.now) (written out.sink.now) (whole_text chars)
+  pub Going-front : {out : Outbox K} (n : ℕ) (left : List Char) {framer : Place}
+      → begun.buffer.now ≡ [] → Gone out n left framer
+      → AppendsFront (written begun.sink.now) (written out.sink.now) (whole_text chars)
   Going-front {out} n left {framer} empty h =
-      let rest = flat_map event_text (run framer n left) ++ end_text (at_rest (place_after start chars)) in
+      let rest =
+      flat_map event_text (run framer n left) ++ end_text (at_rest (place_after start chars)) in
       let all : whole_text chars ≡ flat_map event_text h.found ++ rest =
-      ap (λ es. flat_map event_text es ++ end_text (at_rest (place_after start chars))) (sym h.events)
-      ∙ ap (λ text. text ++ end_text (at_rest (place_after start chars))) (flat_map-append event_text h.found (run framer n left))
-      ∙ append_assoc (flat_map event_text h.found) (flat_map event_text (run framer n left)) (end_text (at_rest (place_after start chars))) in
-      subst (AppendsFront (written begun.sink.now) (written out.sink.now)) (sym all) (AppendsFront-longer (written begun.sink.now) (written out.sink.now) (flat_map event_text h.found) rest
+      ap (λ es. flat_map event_text es ++ end_text (at_rest (place_after start chars)))
+      (sym h.events)
+      ∙ ap (λ text. text ++ end_text (at_rest (place_after start chars)))
+      (flat_map-append event_text h.found (run framer n left))
+      ∙ append_assoc (flat_map event_text h.found) (flat_map event_text (run framer n left))
+      (end_text (at_rest (place_after start chars))) in
+      subst (AppendsFront (written begun.sink.now) (written out.sink.now)) (sym all)
+      (AppendsFront-longer (written begun.sink.now) (written out.sink.now)
+      (flat_map event_text h.found) rest
       (Writes-front written faults begun out (flat_map event_text h.found) empty h.told))
 
   -- the last line was told behind all others
-  pub Going-end : (n : ℕ) (left : List Char) (rest : Bool) {out out2 out3 : Outbox K} {framer : Place} → left ≡ []
-      → Gone out n left framer → rest ≡ at_rest framer → Writes written faults out out2 (end_text rest) → Writes written faults out2 out3 [] → Writes written faults begun out3 (whole_text chars)
+  pub Going-end : (n : ℕ) (left : List Char) (rest : Bool) {out out2 out3 : Outbox K}
+      {framer : Place} → left ≡ []
+      → Gone out n left framer → rest ≡ at_rest framer
+      → Writes written faults out out2 (end_text rest) → Writes written faults out2 out3 []
+      → Writes written faults begun out3 (whole_text chars)
   Going-end n left rest {out} {out2} {out3} {framer} none h is last flush =
-      let events : h.found ≡ run start 0 chars = sym (ap (λ cs. h.found ++ run framer n cs) none ∙ ap (λ es. h.found ++ es) (run-none framer n) ∙ append-nil h.found) ∙ h.events in
-      let stands : framer ≡ place_after start chars = sym (ap (place_after framer) none ∙ place_after-none framer) ∙ h.stands in
+      let events : h.found ≡ run start 0 chars =
+      sym (ap (λ cs. h.found ++ run framer n cs) none
+      ∙ ap (λ es. h.found ++ es) (run-none framer n) ∙ append-nil h.found)
+      ∙ h.events in
+      let stands : framer ≡ place_after start chars =
+      sym (ap (place_after framer) none ∙ place_after-none framer) ∙ h.stands in
       let text : flat_map event_text h.found ++ end_text rest ++ [] ≡ whole_text chars =
       append-nil (flat_map event_text h.found ++ end_text rest)
       ∙ ap (λ es. flat_map event_text es ++ end_text rest) events
       ∙ ap (λ b. flat_map event_text (run start 0 chars) ++ end_text b) (is ∙ ap at_rest stands) in
-      subst (Writes written faults begun out3) text (Writes-then (flat_map event_text h.found ++ end_text rest) [] (Writes-then (flat_map event_text h.found) (end_text rest) h.told last) flush)
+      subst (Writes written faults begun out3) text (Writes-then
+      (flat_map event_text h.found ++ end_text rest) []
+      (Writes-then (flat_map event_text h.found) (end_text rest) h.told last) flush)
 
 -- what is spelled has the one reading that the steps tell
-abbrev pub decoded_by : (bytes : List ℕ) (chars : List Char) → SpellsChars bytes chars → Decoded bytes
+abbrev pub decoded_by : (bytes : List ℕ) (chars : List Char) → SpellsChars bytes chars
+    → Decoded bytes
 decoded_by bytes chars spelled = record {
   chars = chars;
   events = run start 0 chars;
@@ -129,8 +186,17 @@ decoded_by bytes chars spelled = record {
   cut = reading_cut chars;
 }
 
-pub decodes : (bytes : List ℕ) (chars slice : List Char) {w w' : Option (List ℕ)} → SpellsChars bytes chars → slice ≡ chars → Appends w w' (whole_text slice) → Decodes bytes w w'
-decodes bytes chars slice {w} {w'} spelled same told = record { decoded = decoded_by bytes chars spelled; told = subst (λ cs. Appends w w' (whole_text cs)) same told }
+pub decodes : (bytes : List ℕ) (chars slice : List Char) {w w' : Option (List ℕ)}
+    → SpellsChars bytes chars → slice ≡ chars → Appends w w' (whole_text slice) → Decodes bytes w w'
+decodes bytes chars slice {w} {w'} spelled same told = record {
+  decoded = decoded_by bytes chars spelled;
+  told = subst (λ cs. Appends w w' (whole_text cs)) same told;
+}
 
-pub decodes_front : (bytes : List ℕ) (chars slice : List Char) {w w' : Option (List ℕ)} → SpellsChars bytes chars → slice ≡ chars → AppendsFront w w' (whole_text slice) → DecodesFront bytes w w'
-decodes_front bytes chars slice {w} {w'} spelled same told = record { decoded = decoded_by bytes chars spelled; told = subst (λ cs. AppendsFront w w' (whole_text cs)) same told }
+pub decodes_front : (bytes : List ℕ) (chars slice : List Char) {w w' : Option (List ℕ)}
+    → SpellsChars bytes chars → slice ≡ chars → AppendsFront w w' (whole_text slice)
+    → DecodesFront bytes w w'
+decodes_front bytes chars slice {w} {w'} spelled same told = record {
+  decoded = decoded_by bytes chars spelled;
+  told = subst (λ cs. AppendsFront w w' (whole_text cs)) same told;
+}

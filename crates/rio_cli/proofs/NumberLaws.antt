@@ -10,16 +10,22 @@ one_digit n few =
     ap (λ k. 32 ∷ (48 + k) ∷ []) same ∙ sym (ap (λ l. 32 ∷ l) (decimal_digit n few))
 
 two : (n : ℕ) → 10 ≤ n → n < 100 → decimal n ≡ (48 + n / 10) ∷ (48 + n % 10) ∷ []
-two n many few = decimal_step n many (omega arith) ∙ ap (λ l. l ++ (48 + n % 10) ∷ []) (decimal_digit (n / 10) (omega arith))
+two n many few =
+    decimal_step n many (omega arith)
+    ∙ ap (λ l. l ++ (48 + n % 10) ∷ []) (decimal_digit (n / 10) (omega arith))
 
-pub two_digits : (n : ℕ) → 10 ≤ n → n < 100 → (32 ∷ (48 + n / 10 % 10) ∷ (48 + n % 10) ∷ []) ≡ spaced n
+pub two_digits : (n : ℕ) → 10 ≤ n → n < 100
+    → (32 ∷ (48 + n / 10 % 10) ∷ (48 + n % 10) ∷ []) ≡ spaced n
 two_digits n many few =
     let same : n / 10 % 10 ≡ n / 10 = omega arith in
     ap (λ k. 32 ∷ (48 + k) ∷ (48 + n % 10) ∷ []) same ∙ sym (ap (λ l. 32 ∷ l) (two n many few))
 
-pub three_digits : (n : ℕ) → 100 ≤ n → n < 256 → (32 ∷ (48 + n / 100) ∷ (48 + n / 10 % 10) ∷ (48 + n % 10) ∷ []) ≡ spaced n
+pub three_digits : (n : ℕ) → 100 ≤ n → n < 256
+    → (32 ∷ (48 + n / 100) ∷ (48 + n / 10 % 10) ∷ (48 + n % 10) ∷ []) ≡ spaced n
 three_digits n many few =
     let same : n / 10 / 10 ≡ n / 100 = omega arith in
     let here : decimal n ≡ (48 + n / 10 / 10) ∷ (48 + n / 10 % 10) ∷ (48 + n % 10) ∷ [] =
-    decimal_step n (omega arith) (omega arith) ∙ ap (λ l. l ++ (48 + n % 10) ∷ []) (two (n / 10) (omega arith) (omega arith)) in
-    ap (λ k. 32 ∷ (48 + k) ∷ (48 + n / 10 % 10) ∷ (48 + n % 10) ∷ []) (sym same) ∙ sym (ap (λ l. 32 ∷ l) here)
+    decimal_step n (omega arith) (omega arith)
+    ∙ ap (λ l. l ++ (48 + n % 10) ∷ []) (two (n / 10) (omega arith) (omega arith)) in
+    ap (λ k. 32 ∷ (48 + k) ∷ (48 + n / 10 % 10) ∷ (48 + n % 10) ∷ []) (sym same)
+    ∙ sym (ap (λ l. 32 ∷ l) here)

@@ -21,23 +21,29 @@ use Rattle.rio_chars.specs.declared.chars.Char.{Char}
 use Rattle.rio_chars.specs.Lines.{lines_of}
 use Rattle.rio_cli.specs.Decoding.{is_word, word_in, words_in, words_of, AreTexts, AreSpelled, SpellsChars, BadWordAt}
 
-pub AreTexts-append : (words more : List (List ℕ)) (chars others : List Char) → AreTexts words chars → AreTexts more others → AreTexts (words ++ more) (chars ++ others)
+pub AreTexts-append : (words more : List (List ℕ)) (chars others : List Char) → AreTexts words chars
+    → AreTexts more others → AreTexts (words ++ more) (chars ++ others)
 AreTexts-append [] more [] others h k = k
 AreTexts-append [] more (c ∷ chars) others h k = absurd h
 AreTexts-append (w ∷ words) more [] others h k = absurd h
-AreTexts-append (w ∷ words) more (c ∷ chars) others h k = (h.0, h.1, AreTexts-append words more chars others h.2 k)
+AreTexts-append (w ∷ words) more (c ∷ chars) others h k =
+    (h.0, h.1, AreTexts-append words more chars others h.2 k)
 
-spelled_front : (words more : List (List ℕ)) (chars : List Char) → AreTexts (words ++ more) chars → AreSpelled words
+spelled_front : (words more : List (List ℕ)) (chars : List Char) → AreTexts (words ++ more) chars
+    → AreSpelled words
 spelled_front [] more chars h = ([], tt)
 spelled_front (w ∷ words) more [] h = absurd h
-spelled_front (w ∷ words) more (c ∷ chars) h = let rest = spelled_front words more chars h.2 in (c ∷ rest.0, (h.0, h.1, rest.1))
+spelled_front (w ∷ words) more (c ∷ chars) h =
+    let rest = spelled_front words more chars h.2 in (c ∷ rest.0, (h.0, h.1, rest.1))
 
-pub spelled_behind : (words more : List (List ℕ)) (chars : List Char) → AreTexts (words ++ more) chars → AreSpelled more
+pub spelled_behind : (words more : List (List ℕ)) (chars : List Char)
+    → AreTexts (words ++ more) chars → AreSpelled more
 spelled_behind [] more chars h = (chars, h)
 spelled_behind (w ∷ words) more [] h = absurd h
 spelled_behind (w ∷ words) more (c ∷ chars) h = spelled_behind words more chars h.2
 
-pub AreTexts-once : (words : List (List ℕ)) (chars others : List Char) → AreTexts words chars → AreTexts words others → others ≡ chars
+pub AreTexts-once : (words : List (List ℕ)) (chars others : List Char) → AreTexts words chars
+    → AreTexts words others → others ≡ chars
 AreTexts-once [] [] [] h k = refl
 AreTexts-once [] [] (d ∷ others) h k = absurd k
 AreTexts-once [] (c ∷ chars) others h k = absurd h
@@ -47,7 +53,8 @@ AreTexts-once (w ∷ words) (c ∷ chars) (d ∷ others) h k =
     let first : d ≡ c = char_text_of-injective d c (sym k.1 ∙ h.1) in
     ap (λ x. x ∷ others) first ∙ ap (λ xs. c ∷ xs) (AreTexts-once words chars others h.2 k.2)
 
-AreTexts-length : (words : List (List ℕ)) (chars : List Char) → AreTexts words chars → length chars ≡ length words
+AreTexts-length : (words : List (List ℕ)) (chars : List Char) → AreTexts words chars
+    → length chars ≡ length words
 AreTexts-length [] [] h = refl
 AreTexts-length [] (c ∷ chars) h = absurd h
 AreTexts-length (w ∷ words) [] h = absurd h
@@ -58,24 +65,32 @@ AreTexts-length (w ∷ words) (c ∷ chars) h = ap suc (AreTexts-length words ch
 digit_no_space : (n : ℕ) → hex_digit n ≢ 32
 digit_no_space n is = grind (arith, nat_tests)
 
-no_space : (c : Char) (x y z : ℕ) → (x ∷ y ∷ z ∷ []) ≡ char_text_of c → (x ≢ 32) × (y ≢ 32) × (z ≢ 32)
+no_space : (c : Char) (x y z : ℕ) → (x ∷ y ∷ z ∷ []) ≡ char_text_of c
+    → (x ≢ 32) × (y ≢ 32) × (z ≢ 32)
 no_space (Data b) x y z e =
     let first : x ≡ 100 = cc in
     let second : y ≡ hex_digit (b / 16) = cc in
-    let third : z ≡ hex_digit (b % 16) = cc in
-    ((λ is. absurd (omega arith)), (λ is. digit_no_space (b / 16) (sym second ∙ is)), (λ is. digit_no_space (b % 16) (sym third ∙ is)))
+    let third : z ≡ hex_digit (b % 16) = cc in (
+      (λ is. absurd (omega arith)),
+      (λ is. digit_no_space (b / 16) (sym second ∙ is)),
+      (λ is. digit_no_space (b % 16) (sym third ∙ is)),
+    )
 no_space (Special b) x y z e =
     let first : x ≡ 107 = cc in
     let second : y ≡ hex_digit (b / 16) = cc in
-    let third : z ≡ hex_digit (b % 16) = cc in
-    ((λ is. absurd (omega arith)), (λ is. digit_no_space (b / 16) (sym second ∙ is)), (λ is. digit_no_space (b % 16) (sym third ∙ is)))
+    let third : z ≡ hex_digit (b % 16) = cc in (
+      (λ is. absurd (omega arith)),
+      (λ is. digit_no_space (b / 16) (sym second ∙ is)),
+      (λ is. digit_no_space (b % 16) (sym third ∙ is)),
+    )
 no_space Invalid x y z e =
     let first : x ≡ 105 = cc in
     let second : y ≡ 110 = cc in
     let third : z ≡ 118 = cc in
     ((λ is. absurd (omega arith)), (λ is. absurd (omega arith)), (λ is. absurd (omega arith)))
 
-words_front : (x y z : ℕ) (rest : List ℕ) → x ≢ 32 → y ≢ 32 → z ≢ 32 → words_in (x ∷ y ∷ z ∷ 32 ∷ rest) ≡ (x ∷ y ∷ z ∷ []) ∷ words_in rest
+words_front : (x y z : ℕ) (rest : List ℕ) → x ≢ 32 → y ≢ 32 → z ≢ 32
+    → words_in (x ∷ y ∷ z ∷ 32 ∷ rest) ≡ (x ∷ y ∷ z ∷ []) ∷ words_in rest
 words_front x y z rest nx ny nz =
     let ex : (x == 32) ≡ false = ne_eqb x 32 nx in
     let ey : (y == 32) ≡ false = ne_eqb y 32 ny in
@@ -83,7 +98,8 @@ words_front x y z rest nx ny nz =
     rw (ex, ey, ez) refl
 
 -- one more word was read
-pub words-turn : (left : List ℕ) (c : Char) → 4 ≤ length left → get_or left 3 0 ≡ 32 → (get_or left 0 0 ∷ get_or left 1 0 ∷ get_or left 2 0 ∷ []) ≡ char_text_of c
+pub words-turn : (left : List ℕ) (c : Char) → 4 ≤ length left → get_or left 3 0 ≡ 32
+    → (get_or left 0 0 ∷ get_or left 1 0 ∷ get_or left 2 0 ∷ []) ≡ char_text_of c
     → words_in left ≡ char_text_of c ∷ words_in (take (length left - 4) (drop 4 left))
 words-turn [] c four space is = absurd (omega arith)
 words-turn (x ∷ []) c four space is = absurd (omega arith)
@@ -92,92 +108,146 @@ words-turn (x ∷ y ∷ z ∷ []) c four space is = absurd (omega arith)
 words-turn (x ∷ y ∷ z ∷ s ∷ rest) c four space is =
     let no = no_space c x y z is in
     let all : take (length (x ∷ y ∷ z ∷ s ∷ rest) - 4) rest ≡ rest = grind (arith, common_steps) in
-    rw all (ap (λ b. words_in (x ∷ y ∷ z ∷ b ∷ rest)) space ∙ words_front x y z rest no.0 no.1 no.2 ∙ ap (λ w. w ∷ words_in rest) is)
+    rw all (ap (λ b. words_in (x ∷ y ∷ z ∷ b ∷ rest)) space ∙ words_front x y z rest no.0 no.1 no.2
+    ∙ ap (λ w. w ∷ words_in rest) is)
 
 -- ---- a part that is not spelled
 
-parted : {X : Type 0} (all : List X) (n : ℕ) (x : X) → n < length all → x ≡ get_or all n x → all ≡ take n all ++ x ∷ drop (suc n) all
+parted : {X : Type 0} (all : List X) (n : ℕ) (x : X) → n < length all → x ≡ get_or all n x
+    → all ≡ take n all ++ x ∷ drop (suc n) all
 parted all n x within here =
-    sym (take-append-drop n all) ∙ ap (λ xs. take n all ++ xs) (drop-cons all n x within) ∙ ap (λ y. take n all ++ y ∷ drop (suc n) all) (sym here)
+    sym (take-append-drop n all)
+    ∙ ap (λ xs. take n all ++ xs) (drop-cons all n x within)
+    ∙ ap (λ y. take n all ++ y ∷ drop (suc n) all) (sym here)
 
 -- one word of a line
-pub bad_word : (line word : List ℕ) (n : ℕ) → n < length (slice_split (λ byte. byte == 32) line) → word ≡ get_or (slice_split (λ byte. byte == 32) line) n word
+pub bad_word : (line word : List ℕ) (n : ℕ) → n < length (slice_split (λ byte. byte == 32) line)
+    → word ≡ get_or (slice_split (λ byte. byte == 32) line) n word
     → ¬ AreSpelled (word_in word) → ¬ AreSpelled (words_in line)
 bad_word line word n within here bad h =
     let pieces = slice_split (λ byte. byte == 32) line in
-    let whole : words_in line ≡ filter is_word (take n pieces) ++ (word_in word ++ filter is_word (drop (suc n) pieces)) =
+    let whole : words_in line
+    ≡ filter is_word (take n pieces) ++ (word_in word ++ filter is_word (drop (suc n) pieces)) =
     ap (filter is_word) (parted pieces n word within here)
     ∙ filter-append is_word (take n pieces) (word ∷ drop (suc n) pieces)
-    ∙ ap (λ xs. filter is_word (take n pieces) ++ xs) (filter-append is_word (word ∷ []) (drop (suc n) pieces)) in
-    let behind = spelled_behind (filter is_word (take n pieces)) (word_in word ++ filter is_word (drop (suc n) pieces)) h.0 (subst (λ words. AreTexts words h.0) whole h.1) in
+    ∙ ap (λ xs. filter is_word (take n pieces) ++ xs)
+    (filter-append is_word (word ∷ []) (drop (suc n) pieces)) in
+    let behind =
+    spelled_behind (filter is_word (take n pieces))
+    (word_in word ++ filter is_word (drop (suc n) pieces)) h.0
+    (subst (λ words. AreTexts words h.0) whole h.1) in
     bad (spelled_front (word_in word) (filter is_word (drop (suc n) pieces)) behind.0 behind.1)
 
 -- what is spelled has no bad word
-pub no_bad_word : (bytes : List ℕ) (chars : List Char) (line : ℕ) → SpellsChars bytes chars → BadWordAt bytes line → ⊥
+pub no_bad_word : (bytes : List ℕ) (chars : List Char) (line : ℕ) → SpellsChars bytes chars
+    → BadWordAt bytes line → ⊥
 no_bad_word bytes chars line spelled b =
-    let whole : words_of bytes ≡ flat_map words_in b.before ++ (words_in b.text ++ flat_map words_in b.behind) =
+    let whole : words_of bytes
+    ≡ flat_map words_in b.before ++ (words_in b.text ++ flat_map words_in b.behind) =
     ap (flat_map words_in) b.split ∙ flat_map-append words_in b.before (b.text ∷ b.behind) in
-    let behind = spelled_behind (flat_map words_in b.before) (words_in b.text ++ flat_map words_in b.behind) chars (subst (λ words. AreTexts words chars) whole spelled) in
+    let behind =
+    spelled_behind (flat_map words_in b.before) (words_in b.text ++ flat_map words_in b.behind)
+    chars (subst (λ words. AreTexts words chars) whole spelled) in
     b.bad (spelled_front (words_in b.text) (flat_map words_in b.behind) behind.0 behind.1)
 
 -- the first bad line is one
-same_front : (before before2 : List (List ℕ)) (text text2 : List ℕ) (behind behind2 : List (List ℕ)) → before ++ text ∷ behind ≡ before2 ++ text2 ∷ behind2
-    → AreSpelled (flat_map words_in before) → ¬ AreSpelled (words_in text) → AreSpelled (flat_map words_in before2) → ¬ AreSpelled (words_in text2) → length before ≡ length before2
+same_front : (before before2 : List (List ℕ)) (text text2 : List ℕ) (behind behind2 : List (List ℕ))
+    → before ++ text ∷ behind ≡ before2 ++ text2 ∷ behind2
+    → AreSpelled (flat_map words_in before) → ¬ AreSpelled (words_in text)
+    → AreSpelled (flat_map words_in before2) → ¬ AreSpelled (words_in text2)
+    → length before ≡ length before2
 same_front [] [] text text2 behind behind2 e h bad h2 bad2 = refl
 same_front [] (y ∷ ys) text text2 behind behind2 e h bad h2 bad2 =
     let here : text ≡ y = cc in
-    absurd (bad (subst (λ t. AreSpelled (words_in t)) (sym here) (spelled_front (words_in y) (flat_map words_in ys) h2.0 h2.1)))
+    absurd (bad (subst (λ t. AreSpelled (words_in t)) (sym here)
+    (spelled_front (words_in y) (flat_map words_in ys) h2.0 h2.1)))
 same_front (x ∷ xs) [] text text2 behind behind2 e h bad h2 bad2 =
     let here : x ≡ text2 = cc in
-    absurd (bad2 (subst (λ t. AreSpelled (words_in t)) here (spelled_front (words_in x) (flat_map words_in xs) h.0 h.1)))
+    absurd (bad2 (subst (λ t. AreSpelled (words_in t)) here
+    (spelled_front (words_in x) (flat_map words_in xs) h.0 h.1)))
 same_front (x ∷ xs) (y ∷ ys) text text2 behind behind2 e h bad h2 bad2 =
     let rest : xs ++ text ∷ behind ≡ ys ++ text2 ∷ behind2 = cc in
-    ap suc (same_front xs ys text text2 behind behind2 rest (spelled_behind (words_in x) (flat_map words_in xs) h.0 h.1) bad (spelled_behind (words_in y) (flat_map words_in ys) h2.0 h2.1) bad2)
+    ap suc (same_front xs ys text text2 behind behind2 rest
+    (spelled_behind (words_in x) (flat_map words_in xs) h.0 h.1) bad
+    (spelled_behind (words_in y) (flat_map words_in ys) h2.0 h2.1) bad2)
 
-pub bad_word_once : (bytes : List ℕ) (line line2 : ℕ) → BadWordAt bytes line → BadWordAt bytes line2 → line ≡ line2
+pub bad_word_once : (bytes : List ℕ) (line line2 : ℕ) → BadWordAt bytes line → BadWordAt bytes line2
+    → line ≡ line2
 bad_word_once bytes line line2 h k =
-    let same : length h.before ≡ length k.before = same_front h.before k.before h.text k.text h.behind k.behind (sym h.split ∙ k.split) h.spelled h.bad k.spelled k.bad in
+    let same : length h.before ≡ length k.before =
+    same_front h.before k.before h.text k.text h.behind k.behind (sym h.split ∙ k.split)
+    h.spelled h.bad k.spelled k.bad in
     h.place ∙ ap (λ n. n + 1) same ∙ sym k.place
 
 -- the n-th of the lines is bad, and those before it are not
-pub BadWordAt-from_turn : (bytes : List ℕ) (n : ℕ) (before : List (List ℕ)) (text : List ℕ) (chars : List Char) (line : ℕ) → before ≡ take n (lines_of bytes) → n < length (lines_of bytes)
-    → text ≡ get_or (lines_of bytes) n text → n ≡ length before → AreTexts (flat_map words_in before) chars → ¬ AreSpelled (words_in text) → line ≡ n + 1 → BadWordAt bytes line
-BadWordAt-from_turn bytes n before text chars line so_far within here counted spelled bad at = record {
-  before = before;
-  text = text;
-  behind = drop (suc n) (lines_of bytes);
-  split = parted (lines_of bytes) n text within here ∙ ap (λ xs. xs ++ text ∷ drop (suc n) (lines_of bytes)) (sym so_far);
-  spelled = (chars, spelled);
-  bad = bad;
-  place = omega arith;
-}
+pub BadWordAt-from_turn : (bytes : List ℕ) (n : ℕ) (before : List (List ℕ)) (text : List ℕ)
+    (chars : List Char) (line : ℕ) → before ≡ take n (lines_of bytes) → n < length (lines_of bytes)
+    → text ≡ get_or (lines_of bytes) n text → n ≡ length before
+    → AreTexts (flat_map words_in before) chars → ¬ AreSpelled (words_in text) → line ≡ n + 1
+    → BadWordAt bytes line
+BadWordAt-from_turn bytes n before text chars line so_far within here counted spelled bad at =
+    record {
+      before = before;
+      text = text;
+      behind = drop (suc n) (lines_of bytes);
+      split =
+          parted (lines_of bytes) n text within here
+          ∙ ap (λ xs. xs ++ text ∷ drop (suc n) (lines_of bytes)) (sym so_far);
+      spelled = (chars, spelled);
+      bad = bad;
+      place = omega arith;
+    }
 
 -- ---- there are no more characters than bytes
 
-word_longer : (b : Bool) (x : ℕ) (pieces : List (List ℕ)) → length (filter is_word (cond b ([] ∷ pieces) (onto_first x pieces))) ≤ 1 + length (filter is_word pieces)
+word_longer : (b : Bool) (x : ℕ) (pieces : List (List ℕ))
+    → length (filter is_word (cond b ([] ∷ pieces) (onto_first x pieces)))
+    ≤ 1 + length (filter is_word pieces)
 word_longer true x pieces = omega arith
 word_longer false x [] = omega arith
 word_longer false x ([] ∷ pieces) = omega arith
 word_longer false x ((y ∷ ys) ∷ pieces) = omega arith
 
-line_longer : (b : Bool) (x : ℕ) (lines : List (List ℕ)) → length (flat_map words_in (cond b ([] ∷ lines) (onto_first x lines))) ≤ 1 + length (flat_map words_in lines)
+line_longer : (b : Bool) (x : ℕ) (lines : List (List ℕ))
+    → length (flat_map words_in (cond b ([] ∷ lines) (onto_first x lines)))
+    ≤ 1 + length (flat_map words_in lines)
 line_longer true x lines = omega arith
-line_longer false x [] = let one = word_longer (x == 32) x ([] ∷ []) in omega (arith, length-append (words_in (x ∷ [])) [])
+line_longer false x [] =
+    let one = word_longer (x == 32) x ([] ∷ []) in
+    omega (arith, length-append (words_in (x ∷ [])) [])
 line_longer false x (line ∷ lines) =
     let one = word_longer (x == 32) x (slice_split (λ byte. byte == 32) line) in
-    omega (arith, length-append (words_in (x ∷ line)) (flat_map words_in lines), length-append (words_in line) (flat_map words_in lines))
+    omega (
+      arith,
+      length-append (words_in (x ∷ line)) (flat_map words_in lines),
+      length-append (words_in line) (flat_map words_in lines),
+    )
 
 few_words : (bytes : List ℕ) → length (words_of bytes) ≤ length bytes
 few_words [] = omega arith
-few_words (x ∷ bytes) = let more = line_longer (x == 10) x (lines_of bytes) in let rest = few_words bytes in omega arith
+few_words (x ∷ bytes) =
+    let more = line_longer (x == 10) x (lines_of bytes) in let rest = few_words bytes in omega arith
 
-pub few_chars : (bytes : List ℕ) (chars : List Char) → SpellsChars bytes chars → length chars ≤ length bytes
-few_chars bytes chars spelled = let same = AreTexts-length (words_of bytes) chars spelled in let few = few_words bytes in omega arith
+pub few_chars : (bytes : List ℕ) (chars : List Char) → SpellsChars bytes chars
+    → length chars ≤ length bytes
+few_chars bytes chars spelled =
+    let same = AreTexts-length (words_of bytes) chars spelled in let few = few_words bytes in
+    omega arith
 
 -- ---- what loops go over
 
-pub words-road : {F : Type 0} {g : Mut F (Bor ℕ × Unit {0}) Bool} {f : F} {s : _} (bytes : List ℕ) (xs : List (Bor (List ℕ))) (t : _) → Yields (split_steps g) s xs t → split_rest s ≡ bytes → split_done s ≡ false → split_callee s ≡ f → ((x : ℕ) (b : Bool) (q : F) → CalledAt g f x b q → (q ≡ f) × (b ≡ (x == 32))) → YieldsList (split_steps g) (λ x. x.now) s (slice_split (λ byte. byte == 32) bytes)
-words-road {g} bytes xs t yields rest done closure calls = YieldsList-from_slice_split g (λ b. b == 32) bytes rest done closure calls
+pub words-road : {F : Type 0} {g : Mut F (Bor ℕ × Unit {0}) Bool} {f : F} {s : _} (bytes : List ℕ)
+    (xs : List (Bor (List ℕ))) (t : _) → Yields (split_steps g) s xs t → split_rest s ≡ bytes
+    → split_done s ≡ false → split_callee s ≡ f
+    → ((x : ℕ) (b : Bool) (q : F) → CalledAt g f x b q → (q ≡ f) × (b ≡ (x == 32)))
+    → YieldsList (split_steps g) (λ x. x.now) s (slice_split (λ byte. byte == 32) bytes)
+words-road {g} bytes xs t yields rest done closure calls =
+    YieldsList-from_slice_split g (λ b. b == 32) bytes rest done closure calls
 
-pub lines-road : {F : Type 0} {g : Mut F (Bor ℕ × Unit {0}) Bool} {f : F} {s : _} (bytes : List ℕ) (xs : List (Bor (List ℕ))) (t : _) → Yields (split_steps g) s xs t → split_rest s ≡ bytes → split_done s ≡ false → split_callee s ≡ f → ((x : ℕ) (b : Bool) (q : F) → CalledAt g f x b q → (q ≡ f) × (b ≡ (x == 10))) → YieldsList (split_steps g) (λ x. x.now) s (lines_of bytes)
-lines-road {g} bytes xs t yields rest done closure calls = YieldsList-from_slice_split g (λ b. b == 10) bytes rest done closure calls
+pub lines-road : {F : Type 0} {g : Mut F (Bor ℕ × Unit {0}) Bool} {f : F} {s : _} (bytes : List ℕ)
+    (xs : List (Bor (List ℕ))) (t : _) → Yields (split_steps g) s xs t → split_rest s ≡ bytes
+    → split_done s ≡ false → split_callee s ≡ f
+    → ((x : ℕ) (b : Bool) (q : F) → CalledAt g f x b q → (q ≡ f) × (b ≡ (x == 10)))
+    → YieldsList (split_steps g) (λ x. x.now) s (lines_of bytes)
+lines-road {g} bytes xs t yields rest done closure calls =
+    YieldsList-from_slice_split g (λ b. b == 10) bytes rest done closure calls

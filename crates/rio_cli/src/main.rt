@@ -3,9 +3,10 @@
 //! of their reading. The exit status is the number of what `answer` answers, and a line on standard
 //! error says in words what is to be said of it.
 //!
-//! - `run`: the whole program, over any source, sink and sink of messages; `main` gives it the arguments and the
-//!   standard streams, and does nothing more.
-//! - `answer` and `rio`: what the words ask for is done; `Answer`, `Status`, `Refusal` and `Command`.
+//! - `run`: the whole program, over any source, sink and sink of messages; `main` gives it the
+//!   arguments and the standard streams, and does nothing more.
+//! - `answer` and `rio`: what the words ask for is done; `Answer`, `Status`, `Refusal` and
+//!   `Command`.
 //! - `inputs_are_judged_once`: a law of inputs.
 //!
 //! If the system does not give the arguments, the status is 1 and nothing is written.

@@ -29,10 +29,15 @@ use Rattle.rio_framer.proofs.FrontsLaws.{front-cons, front-none}
 
 -- ---- one character
 
-one_quiet : (from : Place) (c : Char) (cs : List Char) (to : Framing) → (step from c).gives ≡ [] → to ≡ framing_after (step from c)
-    → (to ≡ framing_at to.place) × (telling_front from (c ∷ cs) ≡ later 1 (telling_front to.place cs))
+one_quiet : (from : Place) (c : Char) (cs : List Char) (to : Framing) → (step from c).gives ≡ []
+    → to ≡ framing_after (step from c)
+    → (to ≡ framing_at to.place)
+    × (telling_front from (c ∷ cs) ≡ later 1 (telling_front to.place cs))
 one_quiet from c cs to none is =
-    let at : to ≡ framing_at (step from c).place = is ∙ ap (λ (es : List Event). record { place = (step from c).place; ended = ended_of es }) none in
+    let at : to ≡ framing_at (step from c).place =
+    is
+    ∙ ap (λ (es : List Event). record { place = (step from c).place; ended = ended_of es })
+    none in
     let there : to.place ≡ (step from c).place = ap (λ (f : Framing). f.place) at in
     let behind = telling_front (step from c).place cs in
     let more : suc behind.count ≡ 1 + behind.count = omega arith in (
@@ -42,18 +47,27 @@ one_quiet from c cs to none is =
           ∙ ap (λ (p : Place). later 1 (telling_front p cs)) (sym there),
     )
 
-tells_by : (es : List Event) (first : Step) (behind : Front) → (told_of es ≡ told.Nothing → ⊥) → front_by es first behind ≡ record { count = 1; step = first }
+tells_by : (es : List Event) (first : Step) (behind : Front) → (told_of es ≡ told.Nothing → ⊥)
+    → front_by es first behind ≡ record {
+      count = 1;
+      step = first;
+    }
 tells_by [] first behind tells = absurd (tells refl)
 tells_by (e ∷ es) first behind tells = refl
 
-pub part-one : (from : Place) (c : Char) (cs chars : List Char) (outcome : Told) (to : Framing) → chars ≡ c ∷ cs
-    → outcome ≡ told_of (step from c).gives → to ≡ framing_after (step from c) → IsPart from chars 1 outcome to
+pub part-one : (from : Place) (c : Char) (cs chars : List Char) (outcome : Told) (to : Framing)
+    → chars ≡ c ∷ cs
+    → outcome ≡ told_of (step from c).gives → to ≡ framing_after (step from c)
+    → IsPart from chars 1 outcome to
 part-one from c cs chars outcome to is tells stands = rw is (record {
   some = omega arith;
   within = omega arith;
   quiet = λ none. one_quiet from c cs to (quiet-step from c (sym tells ∙ none)) stands;
   tells = λ told_some.
-      let front = front-cons from c cs ∙ tells_by (step from c).gives (step from c) (telling_front (step from c).place cs) (λ none. told_some (tells ∙ none)) in (
+      let front =
+      front-cons from c cs
+      ∙ tells_by (step from c).gives (step from c) (telling_front (step from c).place cs)
+      (λ none. told_some (tells ∙ none)) in (
         ap (λ (f : Front). f.count) (sym front),
         tells ∙ ap (λ (f : Front). told_of f.step.gives) (sym front),
         stands ∙ ap (λ (f : Front). framing_after f.step) (sym front),
@@ -63,36 +77,55 @@ part-one from c cs chars outcome to is tells stands = rw is (record {
 -- ---- data characters of a packet
 
 later-none : (f : Front) → later 0 f ≡ f
-later-none f = let same : 0 + f.count ≡ f.count = omega arith in ap (λ (n : ℕ). record { count = n; step = f.step }) same
+later-none f =
+    let same : 0 + f.count ≡ f.count = omega arith in
+    ap (λ (n : ℕ). record { count = n; step = f.step }) same
 
 data-step : (bytes : List ℕ) (x : ℕ) → length bytes < 276
-    → step (place (Within bytes) Nothing) (Data x) ≡ record { place = place (Within (bytes ++ x ∷ [])) Nothing; gives = [] }
+    → step (place (Within bytes) Nothing) (Data x) ≡ record {
+      place = place (Within (bytes ++ x ∷ [])) Nothing;
+      gives = [];
+    }
 data-step bytes x h =
-    ap (step_by (Within bytes) Nothing) (kind-data x) ∙ ap (added bytes x) (below (length bytes) 276 h)
+    ap (step_by (Within bytes) Nothing) (kind-data x)
+    ∙ ap (added bytes x) (below (length bytes) 276 h)
 
-quiet_by : (from : Place) (c : Char) (cs : List Char) (to : Place) → step from c ≡ record { place = to; gives = [] }
-    → telling_front from (c ∷ cs) ≡ record { count = suc (telling_front to cs).count; step = (telling_front to cs).step }
-quiet_by from c cs to is = front-cons from c cs ∙ ap (λ (s : Step). front_by s.gives s (telling_front s.place cs)) is
+quiet_by : (from : Place) (c : Char) (cs : List Char) (to : Place) → step from c ≡ record {
+  place = to;
+  gives = [];
+}
+    → telling_front from (c ∷ cs) ≡ record {
+      count = suc (telling_front to cs).count;
+      step = (telling_front to cs).step;
+    }
+quiet_by from c cs to is =
+    front-cons from c cs ∙ ap (λ (s : Step). front_by s.gives s (telling_front s.place cs)) is
 
 data-front : (bytes xs : List ℕ) (cs : List Char) → length bytes + length xs ≤ 276
-    → telling_front (place (Within bytes) Nothing) (data_chars xs ++ cs) ≡ later (length xs) (telling_front (place (Within (bytes ++ xs)) Nothing) cs)
+    → telling_front (place (Within bytes) Nothing) (data_chars xs ++ cs)
+    ≡ later (length xs) (telling_front (place (Within (bytes ++ xs)) Nothing) cs)
 data-front bytes [] cs h =
     ap (λ (all : List ℕ). telling_front (place (Within all) Nothing) cs) (sym (append-nil bytes))
     ∙ sym (later-none (telling_front (place (Within (bytes ++ [])) Nothing) cs))
 data-front bytes (x ∷ xs) cs h =
     let behind = telling_front (place (Within (bytes ++ x ∷ xs)) Nothing) cs in
     let more : suc (length xs + behind.count) ≡ suc (length xs) + behind.count = omega arith in
-    quiet_by (place (Within bytes) Nothing) (Data x) (data_chars xs ++ cs) (place (Within (bytes ++ x ∷ [])) Nothing) (data-step bytes x (omega arith))
+    quiet_by (place (Within bytes) Nothing) (Data x) (data_chars xs ++ cs)
+    (place (Within (bytes ++ x ∷ [])) Nothing) (data-step bytes x (omega arith))
     ∙ ap (λ (f : Front). record { count = suc f.count; step = f.step })
     (data-front (bytes ++ x ∷ []) xs cs (longer bytes x xs h)
-    ∙ ap (λ (all : List ℕ). later (length xs) (telling_front (place (Within all) Nothing) cs)) (append_assoc bytes (x ∷ []) xs))
+    ∙ ap (λ (all : List ℕ). later (length xs) (telling_front (place (Within all) Nothing) cs))
+    (append_assoc bytes (x ∷ []) xs))
     ∙ ap (λ (n : ℕ). record { count = n; step = behind.step }) more
   where
-    longer : (bytes : List ℕ) (x : ℕ) (xs : List ℕ) → length bytes + length (x ∷ xs) ≤ 276 → length (bytes ++ x ∷ []) + length xs ≤ 276
+    longer : (bytes : List ℕ) (x : ℕ) (xs : List ℕ) → length bytes + length (x ∷ xs) ≤ 276
+        → length (bytes ++ x ∷ []) + length xs ≤ 276
     longer bytes x xs h = grind (arith, length-append)
 
-part-data : (bytes xs : List ℕ) (chars : List Char) (to : Framing) → length bytes + length xs ≤ 276 → 0 < length xs
-    → chars ≡ data_chars xs ++ drop (length xs) chars → to ≡ framing_at (place (Within (bytes ++ xs)) Nothing)
+part-data : (bytes xs : List ℕ) (chars : List Char) (to : Framing) → length bytes + length xs ≤ 276
+    → 0 < length xs
+    → chars ≡ data_chars xs ++ drop (length xs) chars
+    → to ≡ framing_at (place (Within (bytes ++ xs)) Nothing)
     → IsPart (place (Within bytes) Nothing) chars (length xs) told.Nothing to
 part-data bytes xs chars to most some is stands =
     let size = ap length is ∙ length-append (data_chars xs) (drop (length xs) chars) in
@@ -102,13 +135,16 @@ part-data bytes xs chars to most some is stands =
       within = omega arith;
       quiet = λ none. (
         stands ∙ ap framing_at (sym (ap (λ (f : Framing). f.place) stands)),
-        ap (telling_front (place (Within bytes) Nothing)) is ∙ data-front bytes xs (drop (length xs) chars) most
-            ∙ ap (λ (p : Place). later (length xs) (telling_front p (drop (length xs) chars))) (sym (ap (λ (f : Framing). f.place) stands)),
+        ap (telling_front (place (Within bytes) Nothing)) is
+            ∙ data-front bytes xs (drop (length xs) chars) most
+            ∙ ap (λ (p : Place). later (length xs) (telling_front p (drop (length xs) chars)))
+            (sym (ap (λ (f : Framing). f.place) stands)),
       );
       tells = λ told_some. absurd (told_some refl);
     }
 
-pub part-eight : (t : Text) (p : Pending) (xs : List ℕ) (chars : List Char) (to : Framing) → TakesEight t p → length xs ≡ 8
+pub part-eight : (t : Text) (p : Pending) (xs : List ℕ) (chars : List Char) (to : Framing)
+    → TakesEight t p → length xs ≡ 8
     → chars ≡ data_chars xs ++ drop 8 chars → to ≡ framing_at (place (with_bytes t xs) Nothing)
     → IsPart (place t p) chars 8 told.Nothing to
 part-eight (Within bytes) Nothing xs chars to takes eight is stands =
@@ -123,13 +159,15 @@ part-eight Skipped p xs chars to takes eight is stands = absurd takes
 
 -- ---- a symbol
 
-told_tells : (t : Text) (s : Fields) (b : Bool) → told_of ((if b then ended t else []) ++ Ctl s ∷ []) ≡ told.Nothing → ⊥
+told_tells : (t : Text) (s : Fields) (b : Bool)
+    → told_of ((if b then ended t else []) ++ Ctl s ∷ []) ≡ told.Nothing → ⊥
 told_tells t s false e = cc
 told_tells Plain s true e = cc
 told_tells Skipped s true e = cc
 told_tells (Within bytes) s true e = cc
 
-finished_tells : (t : Text) (d : Delimiter) (o : Option Fields) → told_of (finished t d o).gives ≡ told.Nothing → ⊥
+finished_tells : (t : Text) (d : Delimiter) (o : Option Fields)
+    → told_of (finished t d o).gives ≡ told.Nothing → ⊥
 finished_tells t d None e = cc
 finished_tells t d (Some s) e = by_allowed (allowed d s) e
   where
@@ -138,27 +176,40 @@ finished_tells t d (Some s) e = by_allowed (allowed d s) e
     by_allowed false e = cc
 
 symbol-front : (t : Text) (d : Delimiter) (c : Char) (x y z : ℕ) (cs : List Char) → kind c ≡ Opens d
-    → telling_front (place t Nothing) (c ∷ Data x ∷ Data y ∷ Data z ∷ cs) ≡ record { count = 4; step = finished (opened t) d (spelled x y z) }
+    → telling_front (place t Nothing) (c ∷ Data x ∷ Data y ∷ Data z ∷ cs) ≡ record {
+      count = 4;
+      step = finished (opened t) d (spelled x y z);
+    }
 symbol-front t d c x y z cs opens =
     let last = finished (opened t) d (spelled x y z) in
-    let fourth : step (place (opened t) (Two d x y)) (Data z) ≡ last = ap (step_by (opened t) (Two d x y)) (kind-data z) in
-    quiet_by (place t Nothing) c (Data x ∷ Data y ∷ Data z ∷ cs) (place (opened t) (Opened d)) (ap (step_by t Nothing) opens)
+    let fourth : step (place (opened t) (Two d x y)) (Data z) ≡ last =
+    ap (step_by (opened t) (Two d x y)) (kind-data z) in
+    quiet_by (place t Nothing) c (Data x ∷ Data y ∷ Data z ∷ cs) (place (opened t) (Opened d))
+    (ap (step_by t Nothing) opens)
     ∙ ap (λ (f : Front). record { count = suc f.count; step = f.step })
-    (quiet_by (place (opened t) (Opened d)) (Data x) (Data y ∷ Data z ∷ cs) (place (opened t) (One d x)) (ap (step_by (opened t) (Opened d)) (kind-data x))
+    (quiet_by (place (opened t) (Opened d)) (Data x) (Data y ∷ Data z ∷ cs)
+    (place (opened t) (One d x)) (ap (step_by (opened t) (Opened d)) (kind-data x))
     ∙ ap (λ (f : Front). record { count = suc f.count; step = f.step })
-    (quiet_by (place (opened t) (One d x)) (Data y) (Data z ∷ cs) (place (opened t) (Two d x y)) (ap (step_by (opened t) (One d x)) (kind-data y))
+    (quiet_by (place (opened t) (One d x)) (Data y) (Data z ∷ cs) (place (opened t) (Two d x y))
+    (ap (step_by (opened t) (One d x)) (kind-data y))
     ∙ ap (λ (f : Front). record { count = suc f.count; step = f.step })
     (front-cons (place (opened t) (Two d x y)) (Data z) cs
     ∙ ap (λ (s : Step). front_by s.gives s (telling_front s.place cs)) fourth
-    ∙ tells_by last.gives last (telling_front last.place cs) (finished_tells (opened t) d (spelled x y z)))))
+    ∙ tells_by last.gives last (telling_front last.place cs)
+    (finished_tells (opened t) d (spelled x y z)))))
 
-pub part-symbol : (t : Text) (p : Pending) (d : Delimiter) (x y z : ℕ) (chars : List Char) (outcome : Told) (to : Framing) → p ≡ Nothing
-    → StartsWithSymbol d x y z chars → outcome ≡ told_of (finished (opened t) d (spelled x y z)).gives
-    → to ≡ framing_after (finished (opened t) d (spelled x y z)) → IsPart (place t p) chars 4 outcome to
+pub part-symbol : (t : Text) (p : Pending) (d : Delimiter) (x y z : ℕ) (chars : List Char)
+    (outcome : Told) (to : Framing) → p ≡ Nothing
+    → StartsWithSymbol d x y z chars
+    → outcome ≡ told_of (finished (opened t) d (spelled x y z)).gives
+    → to ≡ framing_after (finished (opened t) d (spelled x y z))
+    → IsPart (place t p) chars 4 outcome to
 part-symbol t p d x y z chars outcome to none starts tells stands =
     let size = ap length starts.is in
-    let front : telling_front (place t p) chars ≡ record { count = 4; step = finished (opened t) d (spelled x y z) } =
-    ap (λ (q : Pending). telling_front (place t q) chars) none ∙ ap (telling_front (place t Nothing)) starts.is
+    let front : telling_front (place t p) chars
+    ≡ record { count = 4; step = finished (opened t) d (spelled x y z) } =
+    ap (λ (q : Pending). telling_front (place t q) chars) none
+    ∙ ap (telling_front (place t Nothing)) starts.is
     ∙ symbol-front t d starts.first x y z (drop 4 chars) starts.opens in
     record {
       some = omega arith;
@@ -174,10 +225,13 @@ part-symbol t p d x y z chars outcome to none starts tells stands =
 -- ---- parts one after another
 
 pub later-later : (m n : ℕ) (f : Front) → later m (later n f) ≡ later (m + n) f
-later-later m n f = let same : m + (n + f.count) ≡ m + n + f.count = omega arith in ap (λ (k : ℕ). record { count = k; step = f.step }) same
+later-later m n f =
+    let same : m + (n + f.count) ≡ m + n + f.count = omega arith in
+    ap (λ (k : ℕ). record { count = k; step = f.step }) same
 
 -- what a run keeps after a part that tells nothing
-pub part-quiet : (from to : Place) (chars : List Char) (count size : ℕ) (all : Front) → length chars ≤ size → count ≤ length chars
+pub part-quiet : (from to : Place) (chars : List Char) (count size : ℕ) (all : Front)
+    → length chars ≤ size → count ≤ length chars
     → ((n : ℕ) → n + length chars ≡ size → later n (telling_front from chars) ≡ all)
     → telling_front from chars ≡ later count (telling_front to (drop count chars))
     → (behind : List Char) → behind ≡ drop count chars → length behind + count ≡ length chars
@@ -192,14 +246,17 @@ part-quiet from to chars count size all within few so_far front behind is length
     ∙ ap (later m) (sym front) ∙ so_far m before
 
 -- and where it ends
-pub part-tells : (from : Place) (chars : List Char) (count size n : ℕ) (all : Front) → count ≡ (telling_front from chars).count
-    → ((k : ℕ) → k + length chars ≡ size → later k (telling_front from chars) ≡ all) → count ≤ length chars → n + length chars ≡ size
+pub part-tells : (from : Place) (chars : List Char) (count size n : ℕ) (all : Front)
+    → count ≡ (telling_front from chars).count
+    → ((k : ℕ) → k + length chars ≡ size → later k (telling_front from chars) ≡ all)
+    → count ≤ length chars → n + length chars ≡ size
     → record { count = n + count; step = (telling_front from chars).step } ≡ all
 part-tells from chars count size n all is so_far few e =
     ap (λ (k : ℕ). record { count = n + k; step = (telling_front from chars).step }) is ∙ so_far n e
 
 -- no character is left
-pub part-none : (from : Place) (chars : List Char) (size : ℕ) (all : Front) → length chars ≡ 0 → length chars ≤ size
+pub part-none : (from : Place) (chars : List Char) (size : ℕ) (all : Front) → length chars ≡ 0
+    → length chars ≤ size
     → ((k : ℕ) → k + length chars ≡ size → later k (telling_front from chars) ≡ all)
     → record { count = size; step = record { place = from; gives = [] } } ≡ all
 part-none from [] size all none within so_far =

@@ -8,7 +8,8 @@ use Rattle.link_model.specs.Reading.{Text, Plain, Skipped, Within}
 use Rattle.rio_framer.specs.declared.framer.Mode.{Mode}
 use Rattle.rio_framer.specs.declared.framer.Mode.TheVariants.{Outside, Skipping, InPacket}
 
--- where the reader of a link stands, and the event of the packet that the last character ended, if it ended one
+-- where the reader of a link stands, and the event of the packet that the last character ended, if
+-- it ended one
 pub record Framing : Type 0 where
   pub place : Place
   pub ended : Option Event

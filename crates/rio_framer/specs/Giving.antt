@@ -1,4 +1,5 @@
--- The events of one character, as a list of at most two, as a value, and as an outcome of a few bytes.
+-- The events of one character, as a list of at most two, as a value, and as an outcome of a few
+-- bytes.
 use Rattle.std.specs.Prelude.{◌≡◌, ℕ, ◌⊎◌, List, [], ◌∷◌, Option, Some, None}
 use Rattle.rio_symbols.specs.declared.stype1.TheConstants.{START_OF_PACKET, END_OF_PACKET}
 use Rattle.rio_symbols.specs.Fields.{Fields}
@@ -28,7 +29,8 @@ events_of [] = record { first = None; second = None }
 events_of (e ∷ []) = record { first = Some e; second = None }
 events_of (e ∷ x ∷ es) = record { first = Some e; second = symbol_of x }
 
--- A second event is the start-of-packet or end-of-packet symbol that ended the packet named by the first.
+-- A second event is the start-of-packet or end-of-packet symbol that ended the packet named by the
+-- first.
 abbrev pub IsPaired : Option Event → Option Fields → Type 0
 IsPaired first None = Unit {0}
 IsPaired None (Some symbol) = ⊥

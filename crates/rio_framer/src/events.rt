@@ -20,7 +20,8 @@ pub enum Told {
     Nothing,
     /// A control symbol, which ended no packet.
     Ctl(Symbol),
-    /// The packet that was in progress, and the start-of-packet or end-of-packet symbol that ended it.
+    /// The packet that was in progress, and the start-of-packet or end-of-packet symbol that ended
+    /// it.
     Ends(Symbol),
     /// What is neither a symbol nor a packet, and why.
     Bad(Cause),

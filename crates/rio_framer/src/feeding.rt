@@ -10,9 +10,10 @@ use rio_chars::{Char, NoMemory};
 use std::alloc::Global;
 
 impl Framer {
-    /// Takes characters, at most 4,194,304, and tells each event with the place of the character that completed it, counted
-    /// from 0 in each call: `link_model::reading_in_pieces` says how the events of calls join. `NoMemory` comes where memory
-    /// for the events was not given; the framer is then as before.
+    /// Takes characters, at most 4,194,304, and tells each event with the place of the character
+    /// that completed it, counted from 0 in each call: `link_model::reading_in_pieces` says how the
+    /// events of calls join. `NoMemory` comes where memory for the events was not given; the framer
+    /// is then as before.
     pub fn feed_all(&mut self, alloc: Global, chars: &[Char]) -> Result<Vec<(u32, Event)>, NoMemory>
         requires { length chars.now ≤ 4194304 }
         ensures events { IfOk result (λ found. found.items ≡ run self.old.place 0 chars.now) }

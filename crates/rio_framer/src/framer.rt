@@ -18,8 +18,8 @@ pub(crate) enum Mode {
     InPacket,
 }
 
-/// Takes the characters of a link, one after another, and tells what they say
-/// (RapidIO Interconnect Specification 1.3, Part 6, control symbols and packet delimiting; what follows an error by this
+/// Takes the characters of a link, one after another, and tells what they say (RapidIO Interconnect
+/// Specification 1.3, Part 6, control symbols and packet delimiting; what follows an error by this
 /// project's profile, `docs/characters.md`).
 ///
 /// ```text
@@ -101,7 +101,8 @@ impl Framer {
         self.events(told)
     }
 
-    /// The packet that the last character ended: its ackID and its bytes with ackID 0, or the cause why its bytes carry none.
+    /// The packet that the last character ended: its ackID and its bytes with ackID 0, or the cause
+    /// why its bytes carry none.
     pub fn ended(&self) -> Result<(u8, &[u8]), Cause>
         requires { IsSome self.now.ended }
         ensures event { MatchResult result

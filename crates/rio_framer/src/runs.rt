@@ -17,9 +17,10 @@ impl Framer {
     ghost use Rattle.rio_framer.specs.Giving.{listed, events_of, told_of, IsPaired};
     ghost use Rattle.rio_framer.specs.Parts.{IsPart, TakesEight, with_bytes};
 
-    /// Takes characters up to and with the first that tells an event, or all where none does, and answers their number and
-    /// what the last of them tells. A packet that it ended stays where it is, and is lent by [`Framer::ended`] until the next
-    /// call that takes characters. To read the characters of a list run by run is to read it character by character:
+    /// Takes characters up to and with the first that tells an event, or all where none does, and
+    /// answers their number and what the last of them tells. A packet that it ended stays where it
+    /// is, and is lent by [`Framer::ended`] until the next call that takes characters. To read the
+    /// characters of a list run by run is to read it character by character:
     /// `link_model::events_go_by_fronts`.
     pub fn read_run(&mut self, chars: &[Char]) -> (usize, Told)
         ensures count { result.0 ≡ (telling_front self.old.place chars.now).count }
@@ -42,8 +43,9 @@ impl Framer {
         (chars.len(), Told::Nothing)
     }
 
-    /// Takes characters, 1 to 4,096, up to and with the first that gives an event, or all where none does, and answers their
-    /// number and the events: as [`Framer::feed`] of each in order. [`Framer::read_run`] is the same with no packet by value.
+    /// Takes characters, 1 to 4,096, up to and with the first that gives an event, or all where
+    /// none does, and answers their number and the events: as [`Framer::feed`] of each in order.
+    /// [`Framer::read_run`] is the same with no packet by value.
     pub fn feed_run(&mut self, chars: &[Char]) -> (u16, Events)
         requires least { 1 ≤ length chars.now }
         requires most { length chars.now ≤ 4096 }

@@ -23,8 +23,9 @@ pub fn symbol_chars(symbol: &Symbol) -> ArrayVec<Char, 4>
     chars
 }
 
-/// A start-of-packet symbol, the bytes of a packet with its ackID, below 32, and an end-of-packet symbol
-/// (RapidIO Interconnect Specification 1.3, Part 6, packet delimiting): 16 to 284 characters.
+/// A start-of-packet symbol, the bytes of a packet with its ackID, below 32, and an end-of-packet
+/// symbol (RapidIO Interconnect Specification 1.3, Part 6, packet delimiting): 16 to 284
+/// characters.
 pub fn packet_chars(start: &Symbol, ack: u8, packet: &Packet, end: &Symbol) -> ArrayVec<Char, 284>
     requires ack { ack < 32 }
     requires start { start.now.s1 ≡ START_OF_PACKET }

@@ -156,7 +156,8 @@ fn a_packet_is_too_long_from_its_277th_byte_on(rt: HostRuntime) -> Result<(), Fa
     Ok(())
 }
 
-/// A packet with a symbol in it, a symbol that breaks off another, a packet that start-of-packet ends, and text that is none.
+/// A packet with a symbol in it, a symbol that breaks off another, a packet that start-of-packet
+/// ends, and text that is none.
 const RUNS: [&str; 5] = [
     "k7c d80 df8 d1f d00 d0f d02 d01 k1c d80 dff d0f dde db2 d00 d00 k7c d80 dfa d18",
     "k7c d80 df8 d1f d00 d0f d02 d01 dde db2 d00 d00 k7c d80 df8 d1f d00 d0f d02 d01 d00",
@@ -200,7 +201,8 @@ fn a_run_ends_with_the_character_that_tells(rt: HostRuntime) -> Result<(), Fail>
     Ok(())
 }
 
-/// Whether a framer that takes runs tells what a framer tells that takes one character after another.
+/// Whether a framer that takes runs tells what a framer tells that takes one character after
+/// another.
 fn runs_agree(by_run: &mut Framer, by_one: &mut Framer, chars: &[Char]) -> bool {
     let mut rest = chars;
     for _ in 0..chars.len() {

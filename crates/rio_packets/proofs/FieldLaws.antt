@@ -14,16 +14,19 @@ get_or-padded m i h =
     ]
 
 -- The first 80 bytes of a body stand at the front of its link form.
-pub get_or-link_form : (body p : List ℕ) (i : ℕ) → LinkForm body p → i < length body → i < 80 → get_or p i 0 ≡ get_or body i 0
+pub get_or-link_form : (body p : List ℕ) (i : ℕ) → LinkForm body p → i < length body → i < 80
+    → get_or p i 0 ≡ get_or body i 0
 get_or-link_form body p i f h k =
     elim f.form [
       | inl s ↦
           (let size = length-append body (s.x ∷ s.y ∷ []) in
-          rw s.is (get_or-padded (body ++ s.x ∷ s.y ∷ []) i (omega arith) ∙ get_or_append_left body (s.x ∷ s.y ∷ []) 0 i h))
+          rw s.is (get_or-padded (body ++ s.x ∷ s.y ∷ []) i (omega arith)
+          ∙ get_or_append_left body (s.x ∷ s.y ∷ []) 0 i h))
       | inr l ↦
           (let back = (l.x ∷ l.y ∷ drop 80 body) ++ l.u ∷ l.v ∷ [] in
           let beyond = l.beyond in
-          let regrouped : split_by body l.x l.y ++ l.u ∷ l.v ∷ [] ≡ take 80 body ++ back = append_assoc (take 80 body) (l.x ∷ l.y ∷ drop 80 body) (l.u ∷ l.v ∷ []) in
+          let regrouped : split_by body l.x l.y ++ l.u ∷ l.v ∷ [] ≡ take 80 body ++ back =
+          append_assoc (take 80 body) (l.x ∷ l.y ∷ drop 80 body) (l.u ∷ l.v ∷ []) in
           let eighty : length (take 80 body) ≡ 80 = length-take-le 80 body (omega arith) in
           let size = length-append (take 80 body) back in
           rw (l.is, regrouped)
@@ -31,30 +34,38 @@ get_or-link_form body p i f h k =
           ∙ get_or_append_left (take 80 body) back 0 i (omega arith) ∙ get_or-take 80 body i 0 k))
     ]
 
--- A body of at most 80 bytes whose length is 2 above a multiple of four is followed by its CRC alone.
-pub length-link_form : (body p : List ℕ) → LinkForm body p → length body ≤ 80 → length body % 4 ≡ 2 → length p ≡ length body + 2
+-- A body of at most 80 bytes whose length is 2 above a multiple of four is followed by its CRC
+-- alone.
+pub length-link_form : (body p : List ℕ) → LinkForm body p → length body ≤ 80 → length body % 4 ≡ 2
+    → length p ≡ length body + 2
 length-link_form body p f h k =
     elim f.form [
       | inl s ↦
-          (let size : length (body ++ s.x ∷ s.y ∷ []) ≡ length body + 2 = length-append body (s.x ∷ s.y ∷ []) in
+          (let size : length (body ++ s.x ∷ s.y ∷ []) ≡ length body + 2 =
+          length-append body (s.x ∷ s.y ∷ []) in
           ap length (s.is ∙ padded-fours (body ++ s.x ∷ s.y ∷ []) (omega arith)) ∙ size)
       | inr l ↦ absurd (let beyond = l.beyond in omega arith)
     ]
 
-pub take-link_form : (body p : List ℕ) → LinkForm body p → length body ≤ 80 → length body % 4 ≡ 2 → take (length body) p ≡ body
+pub take-link_form : (body p : List ℕ) → LinkForm body p → length body ≤ 80 → length body % 4 ≡ 2
+    → take (length body) p ≡ body
 take-link_form body p f h k =
     elim f.form [
       | inl s ↦
-          (let size : length (body ++ s.x ∷ s.y ∷ []) ≡ length body + 2 = length-append body (s.x ∷ s.y ∷ []) in
-          ap (take (length body)) (s.is ∙ padded-fours (body ++ s.x ∷ s.y ∷ []) (omega arith)) ∙ take_at body (s.x ∷ s.y ∷ []) (length body) refl)
+          (let size : length (body ++ s.x ∷ s.y ∷ []) ≡ length body + 2 =
+          length-append body (s.x ∷ s.y ∷ []) in
+          ap (take (length body)) (s.is ∙ padded-fours (body ++ s.x ∷ s.y ∷ []) (omega arith))
+          ∙ take_at body (s.x ∷ s.y ∷ []) (length body) refl)
       | inr l ↦ absurd (let beyond = l.beyond in omega arith)
     ]
 
 -- ---- the fields of a packet that was built
 
-module _ (prio ftype dest source : ℕ) (rest p : List ℕ) (form : LinkForm (body_of prio ftype dest source rest) p) where
+module _ (prio ftype dest source : ℕ) (rest p : List ℕ)
+    (form : LinkForm (body_of prio ftype dest source rest) p) where
   byte : (i : ℕ) → i < 4 → get_or p i 0 ≡ get_or (body_of prio ftype dest source rest) i 0
-  byte i h = get_or-link_form (body_of prio ftype dest source rest) p i form (omega arith) (omega arith)
+  byte i h =
+      get_or-link_form (body_of prio ftype dest source rest) p i form (omega arith) (omega arith)
 
   pub prio_of-link_form : prio < 4 → ftype < 16 → prio_of p ≡ prio
   prio_of-link_form h k = let second = byte 1 (omega arith) in omega arith
@@ -66,10 +77,12 @@ module _ (prio ftype dest source : ℕ) (rest p : List ℕ) (form : LinkForm (bo
   tt_of-link_form h k = let second = byte 1 (omega arith) in omega arith
 
   pub dest_of-link_form : prio < 4 → ftype < 16 → dest_of p ≡ Some dest
-  dest_of-link_form h k = rw (eq-eqb (tt_of p) 0 (tt_of-link_form h k)) (ap (λ n. Some n) (byte 2 (omega arith)))
+  dest_of-link_form h k =
+      rw (eq-eqb (tt_of p) 0 (tt_of-link_form h k)) (ap (λ n. Some n) (byte 2 (omega arith)))
 
   pub source_of-link_form : prio < 4 → ftype < 16 → source_of p ≡ Some source
-  source_of-link_form h k = rw (eq-eqb (tt_of p) 0 (tt_of-link_form h k)) (ap (λ n. Some n) (byte 3 (omega arith)))
+  source_of-link_form h k =
+      rw (eq-eqb (tt_of p) 0 (tt_of-link_form h k)) (ap (λ n. Some n) (byte 3 (omega arith)))
 
   pub is_maintenance-link_form : prio < 4 → ftype < 16 → ftype ≢ 8 → is_maintenance p ≡ false
   is_maintenance-link_form h k other =

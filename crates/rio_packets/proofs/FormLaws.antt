@@ -16,19 +16,27 @@ AreBytes-take n xs h = All-take (λ b. b < 256) n xs h
 AreBytes-drop : (n : ℕ) (xs : List ℕ) → AreBytes xs → AreBytes (drop n xs)
 AreBytes-drop n xs h = All-drop (λ b. b < 256) n xs h
 
-pub split_by-regrouped : (body : List ℕ) (x y : ℕ) → split_by body x y ≡ (take 80 body ++ x ∷ y ∷ []) ++ drop 80 body
+pub split_by-regrouped : (body : List ℕ) (x y : ℕ)
+    → split_by body x y ≡ (take 80 body ++ x ∷ y ∷ []) ++ drop 80 body
 split_by-regrouped body x y = sym (append_assoc (take 80 body) (x ∷ y ∷ []) (drop 80 body))
 
 length-split_by : (body : List ℕ) (x y : ℕ) → length (split_by body x y) ≡ length body + 2
 length-split_by body x y =
     let whole = ap length (take-append-drop 80 body) in
-    omega (arith, whole, length-append (take 80 body) (drop 80 body), length-append (take 80 body) (x ∷ y ∷ drop 80 body))
+    omega (
+      arith,
+      whole,
+      length-append (take 80 body) (drop 80 body),
+      length-append (take 80 body) (x ∷ y ∷ drop 80 body),
+    )
 
-AreBytes-split_by : (body : List ℕ) (x y : ℕ) → AreBytes body → x < 256 → y < 256 → AreBytes (split_by body x y)
+AreBytes-split_by : (body : List ℕ) (x y : ℕ) → AreBytes body → x < 256 → y < 256
+    → AreBytes (split_by body x y)
 AreBytes-split_by body x y range high low =
     rw (split_by-regrouped body x y)
     (AreBytes-append (take 80 body ++ x ∷ y ∷ []) (drop 80 body)
-    (AreBytes-append (take 80 body) (x ∷ y ∷ []) (AreBytes-take 80 body range) (AreBytes-two x y high low))
+    (AreBytes-append (take 80 body) (x ∷ y ∷ []) (AreBytes-take 80 body range)
+    (AreBytes-two x y high low))
     (AreBytes-drop 80 body range))
 
 Short-passes : (body bytes : List ℕ) → IsBody body → Short body bytes → Passes bytes
@@ -53,26 +61,31 @@ Long-passes body bytes b l =
     let split = length-split_by body l.x l.y in
     let size : length m ≡ length body + 4 = length-append s (l.u ∷ l.v ∷ []) ∙ omega arith in
     let eighty : length (take 80 body) ≡ 80 = length-take-le 80 body (omega arith) in
-    let front_size : length front ≡ 82 = length-append (take 80 body) (l.x ∷ l.y ∷ []) ∙ omega arith in
+    let front_size : length front ≡ 82 =
+    length-append (take 80 body) (l.x ∷ l.y ∷ []) ∙ omega arith in
     let regrouped : m ≡ front ++ (drop 80 body ++ l.u ∷ l.v ∷ []) =
-    ap (λ t. t ++ l.u ∷ l.v ∷ []) (split_by-regrouped body l.x l.y) ∙ append_assoc front (drop 80 body) (l.u ∷ l.v ∷ []) in
+    ap (λ t. t ++ l.u ∷ l.v ∷ []) (split_by-regrouped body l.x l.y)
+    ∙ append_assoc front (drop 80 body) (l.u ∷ l.v ∷ []) in
     let range = AreBytes-split_by body l.x l.y b.range l.first.high l.first.low in
     rw l.is
     (Passes-padded m (omega arith) (omega arith) (omega arith)
     (AreBytes-append s (l.u ∷ l.v ∷ []) range (AreBytes-two l.u l.v l.second.high l.second.low))
     (rw (
       append_assoc (take 80 body) (l.x ∷ l.y ∷ drop 80 body) (l.u ∷ l.v ∷ []),
-      get_or_append_left (take 80 body) ((l.x ∷ l.y ∷ drop 80 body) ++ l.u ∷ l.v ∷ []) 0 0 (omega arith),
+      get_or_append_left (take 80 body) ((l.x ∷ l.y ∷ drop 80 body) ++ l.u ∷ l.v ∷ []) 0 0
+          (omega arith),
       get_or-take 80 body 0 0 (omega arith),
     ) b.origin)
     (running-crc s l.u l.v (omega arith) range l.second)
-    (λ h. ap running (ap (take 82) regrouped ∙ take_at front (drop 80 body ++ l.u ∷ l.v ∷ []) 82 front_size)
+    (λ h. ap running
+    (ap (take 82) regrouped ∙ take_at front (drop 80 body ++ l.u ∷ l.v ∷ []) 82 front_size)
     ∙ running-crc (take 80 body) l.x l.y (omega arith) (AreBytes-take 80 body b.range) l.first))
 
 -- A link form passes.
 pub Passes-from_form : (body bytes : List ℕ) → LinkForm body bytes → Passes bytes
 Passes-from_form body bytes f =
-    elim f.form [ inl s ↦ Short-passes body bytes f.is_body s | inr l ↦ Long-passes body bytes f.is_body l ]
+    elim f.form
+    [ inl s ↦ Short-passes body bytes f.is_body s | inr l ↦ Long-passes body bytes f.is_body l ]
 
 -- A body has at most one link form.
 pub LinkForm-one : (body p q : List ℕ) → LinkForm body p → LinkForm body q → p ≡ q
@@ -81,7 +94,10 @@ LinkForm-one body p q f g =
       | inl s ↦ elim g.form [
         | inl t ↦
             (let same = IsCrc-one body s.x s.y t.x t.y s.crc t.crc in
-            s.is ∙ ap (λ x. padded (body ++ x ∷ s.y ∷ [])) same.0 ∙ ap (λ y. padded (body ++ t.x ∷ y ∷ [])) same.1 ∙ sym t.is)
+            s.is
+            ∙ ap (λ x. padded (body ++ x ∷ s.y ∷ [])) same.0
+            ∙ ap (λ y. padded (body ++ t.x ∷ y ∷ [])) same.1
+            ∙ sym t.is)
         | inr k ↦ absurd (let within = s.within in let beyond = k.beyond in omega arith)
       ]
       | inr l ↦ elim g.form [
@@ -95,7 +111,8 @@ LinkForm-one body p q f g =
         let first = IsCrc-one (take 80 body) l.x l.y k.x k.y l.first k.first in
         let same : split_by body l.x l.y ≡ split_by body k.x k.y =
         ap (λ x. split_by body x l.y) first.0 ∙ ap (λ y. split_by body k.x y) first.1 in
-        let moved : IsCrc (split_by body k.x k.y) l.u l.v = subst (λ (m : List ℕ). IsCrc m l.u l.v) same l.second in
+        let moved : IsCrc (split_by body k.x k.y) l.u l.v =
+        subst (λ (m : List ℕ). IsCrc m l.u l.v) same l.second in
         let second = IsCrc-one (split_by body k.x k.y) l.u l.v k.u k.v moved k.second in
         l.is ∙ ap (λ m. padded (m ++ l.u ∷ l.v ∷ [])) same
         ∙ ap (λ u. padded (split_by body k.x k.y ++ u ∷ l.v ∷ [])) second.0
@@ -110,7 +127,9 @@ made-short body b h =
       y = running body % 256;
       crc = IsCrc-halves body (omega arith) b.range;
       is = ap padded (ap (with_more (with_crc (take 80 body))) (drop_all 80 body h)
-          ∙ with_more-none (with_crc (take 80 body)) ∙ ap with_crc (take_all 80 body h) ∙ with_crc-is body);
+          ∙ with_more-none (with_crc (take 80 body))
+          ∙ ap with_crc (take_all 80 body h)
+          ∙ with_crc-is body);
     }
 
 made-long : (body : List ℕ) → IsBody body → 80 < length body → Long body (made body)
@@ -132,8 +151,11 @@ made-long body b h =
       u = running s / 256;
       v = running s % 256;
       first = first;
-      second = IsCrc-halves s (omega arith) (AreBytes-split_by body x y b.range first.high first.low);
-      is = ap padded (with_more-some (with_crc front) (drop 80 body) (omega arith) ∙ ap with_crc joined ∙ with_crc-is s);
+      second =
+          IsCrc-halves s (omega arith) (AreBytes-split_by body x y b.range first.high first.low);
+      is =
+          ap padded (with_more-some (with_crc front) (drop 80 body) (omega arith)
+          ∙ ap with_crc joined ∙ with_crc-is s);
     }
 
 -- A body has a link form.

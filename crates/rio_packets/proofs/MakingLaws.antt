@@ -8,7 +8,8 @@ use Rattle.rio_packets.specs.Making.{with_crc, with_more, made}
 
 -- The header and what follows, in steps.
 pub made_in_steps : (head rest front back one two three : List ℕ) → length head ≡ 4
-    → front ≡ take 76 rest → back ≡ drop 76 rest → one ≡ head → two ≡ one ++ front → three ≡ with_crc two
+    → front ≡ take 76 rest → back ≡ drop 76 rest → one ≡ head → two ≡ one ++ front
+    → three ≡ with_crc two
     → padded (with_more three back) ≡ made (head ++ rest)
 made_in_steps head rest front back one two three four f b o t h =
     let size : 4 + 76 ≡ length head + 76 = omega arith in
@@ -19,7 +20,8 @@ made_in_steps head rest front back one two three four f b o t h =
     rw (h, t, o, f, b, first, last) refl
 
 -- A body with a header is a body.
-pub IsBody-body_of : (prio ftype dest source : ℕ) (rest : List ℕ) → prio < 4 → ftype < 16 → dest < 256 → source < 256 → AreBytes rest
+pub IsBody-body_of : (prio ftype dest source : ℕ) (rest : List ℕ) → prio < 4 → ftype < 16
+    → dest < 256 → source < 256 → AreBytes rest
     → length rest % 2 ≡ 0 → length rest ≤ 268 → IsBody (body_of prio ftype dest source rest)
 IsBody-body_of prio ftype dest source rest p f d s range even most = record {
   even = omega arith;

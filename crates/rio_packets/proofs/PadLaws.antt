@@ -12,7 +12,8 @@ pub AreBytes-append : (xs ys : List ℕ) → AreBytes xs → AreBytes ys → Are
 AreBytes-append xs ys h k = All-append (λ b. b < 256) xs ys h k
 
 pub AreBytes-two : (x y : ℕ) → x < 256 → y < 256 → AreBytes (x ∷ y ∷ [])
-AreBytes-two x y h k = All-cons (λ b. b < 256) x (y ∷ []) h (All-cons (λ b. b < 256) y [] k (All-nil (λ b. b < 256)))
+AreBytes-two x y h k =
+    All-cons (λ b. b < 256) x (y ∷ []) h (All-cons (λ b. b < 256) y [] k (All-nil (λ b. b < 256)))
 
 -- no pad at a multiple of four
 pub padded-fours : (m : List ℕ) → length m % 4 ≡ 0 → padded m ≡ m
@@ -29,7 +30,8 @@ running-pad m e =
     ∙ (zero_after_two 0 0 0 (lit< tt) (lit< tt) (lit< tt)).1 refl
 
 -- Bytes with CRCs pass once they are padded.
-pub Passes-padded : (m : List ℕ) → length m % 2 ≡ 0 → 6 ≤ length m → length m ≤ 276 → AreBytes m → get_or m 0 0 < 4
+pub Passes-padded : (m : List ℕ) → length m % 2 ≡ 0 → 6 ≤ length m → length m ≤ 276 → AreBytes m
+    → get_or m 0 0 < 4
     → running m ≡ 0 → (82 ≤ length m → running (take 82 m) ≡ 0) → Passes (padded m)
 Passes-padded m even least most range origin ends middle =
     elim (cases_eq (length m % 4) 0) [
@@ -51,6 +53,8 @@ Passes-padded m even least most range origin ends middle =
             range = AreBytes-append m (0 ∷ 0 ∷ []) range (AreBytes-two 0 0 (lit< tt) (lit< tt));
             origin = rw (get_or_append_left m (0 ∷ 0 ∷ []) 0 0 (omega arith)) origin;
             ends = running-pad m ends;
-            middle = λ h. ap running (take-append-le 82 m (0 ∷ 0 ∷ []) (omega arith)) ∙ middle (omega arith);
+            middle =
+                λ h. ap running (take-append-le 82 m (0 ∷ 0 ∷ []) (omega arith))
+                ∙ middle (omega arith);
           })
     ]

@@ -11,7 +11,8 @@ use Rattle.rio_packets.proofs.CrcLaws.{IsCrc-from_zero}
 use Rattle.rio_packets.proofs.PadLaws.{AreBytes-append, AreBytes-two, padded-fours, padded-other}
 
 -- two elements more
-take_two_more : (n : ℕ) (xs : List ℕ) → n + 2 ≤ length xs → take (n + 2) xs ≡ take n xs ++ get_or xs n 0 ∷ get_or xs (n + 1) 0 ∷ []
+take_two_more : (n : ℕ) (xs : List ℕ) → n + 2 ≤ length xs
+    → take (n + 2) xs ≡ take n xs ++ get_or xs n 0 ∷ get_or xs (n + 1) 0 ∷ []
 take_two_more n xs h =
     let same : n + 2 ≡ n + 1 + 1 = omega arith in
     ap (λ k. take k xs) same ∙ take_more xs (n + 1) 0 (omega arith)
@@ -19,12 +20,15 @@ take_two_more n xs h =
     ∙ append_assoc (take n xs) (get_or xs n 0 ∷ []) (get_or xs (n + 1) 0 ∷ [])
 
 -- a list and its last two elements
-last_two : (n : ℕ) (xs : List ℕ) → n + 2 ≡ length xs → xs ≡ take n xs ++ get_or xs n 0 ∷ get_or xs (n + 1) 0 ∷ []
+last_two : (n : ℕ) (xs : List ℕ) → n + 2 ≡ length xs
+    → xs ≡ take n xs ++ get_or xs n 0 ∷ get_or xs (n + 1) 0 ∷ []
 last_two n xs h =
-    sym (ap (λ k. take k xs) h ∙ take_all (length xs) xs (omega arith)) ∙ take_two_more n xs (omega arith)
+    sym (ap (λ k. take k xs) h ∙ take_all (length xs) xs (omega arith))
+    ∙ take_two_more n xs (omega arith)
 
 -- at most 80 bytes end in the CRC of what is before
-short_body : (bytes : List ℕ) → Passes bytes → length bytes < 84 → LinkForm (take (length bytes - 2) bytes) bytes
+short_body : (bytes : List ℕ) → Passes bytes → length bytes < 84
+    → LinkForm (take (length bytes - 2) bytes) bytes
 short_body bytes p h =
     let fours = p.fours in let least = p.least in
     let n = length bytes - 2 in
@@ -48,17 +52,20 @@ short_body bytes p h =
         within = omega arith;
         x = x;
         y = y;
-        crc = IsCrc-from_zero body x y (omega arith) range high low (ap running (sym split) ∙ p.ends);
+        crc =
+            IsCrc-from_zero body x y (omega arith) range high low (ap running (sym split) ∙ p.ends);
         is = sym (ap padded (sym split) ∙ padded-fours bytes fours);
       };
     }
 
 -- the first 82 bytes and their CRC
-front_crc : (bytes : List ℕ) → Passes bytes → 84 ≤ length bytes → IsCrc (take 80 bytes) (get_or bytes 80 0) (get_or bytes 81 0)
+front_crc : (bytes : List ℕ) → Passes bytes → 84 ≤ length bytes
+    → IsCrc (take 80 bytes) (get_or bytes 80 0) (get_or bytes 81 0)
 front_crc bytes p h =
     let size : length (take 80 bytes) ≡ 80 = length-take-le 80 bytes (omega arith) in
     IsCrc-from_zero (take 80 bytes) (get_or bytes 80 0) (get_or bytes 81 0) (omega arith)
-    (All-take (λ b. b < 256) 80 bytes p.range) (p.range 80 0 (omega arith)) (p.range 81 0 (omega arith))
+    (All-take (λ b. b < 256) 80 bytes p.range) (p.range 80 0 (omega arith))
+    (p.range 81 0 (omega arith))
     (ap running (sym (take_two_more 80 bytes (omega arith))) ∙ p.middle h)
 
 -- 84 bytes are a body of 80, its CRC, and a pad
@@ -102,7 +109,8 @@ padded_body bytes p h =
     }
 
 -- longer bytes are the first 80 of the body, their CRC, its rest, and a CRC
-long_body : (bytes : List ℕ) → Passes bytes → 84 < length bytes → (body : List ℕ) × LinkForm body bytes
+long_body : (bytes : List ℕ) → Passes bytes → 84 < length bytes
+    → (body : List ℕ) × LinkForm body bytes
 long_body bytes p h =
     let fours = p.fours in let most = p.most in
     let front = take 80 bytes in
@@ -137,10 +145,12 @@ long_body bytes p h =
     let s_range : AreBytes s =
     subst AreBytes (append_assoc front (x ∷ y ∷ []) rest)
     (AreBytes-append (front ++ x ∷ y ∷ []) rest
-    (AreBytes-append front (x ∷ y ∷ []) front_range (AreBytes-two x y x_range y_range)) rest_range) in
+    (AreBytes-append front (x ∷ y ∷ []) front_range (AreBytes-two x y x_range y_range))
+    rest_range) in
     let s_size : length s ≡ 82 + n = length-append front (x ∷ y ∷ rest) ∙ omega arith in
     let second : IsCrc s u v =
-    IsCrc-from_zero s u v (omega arith) s_range (back_range n 0 (omega arith)) (back_range (n + 1) 0 (omega arith))
+    IsCrc-from_zero s u v (omega arith) s_range (back_range n 0 (omega arith))
+    (back_range (n + 1) 0 (omega arith))
     (ap running (sym whole) ∙ p.ends) in (
       body,
       record {
@@ -149,7 +159,11 @@ long_body bytes p h =
           least = omega arith;
           most = omega arith;
           range = AreBytes-append front rest front_range rest_range;
-          origin = rw (get_or_append_left front rest 0 0 (omega arith), get_or-take 80 bytes 0 0 (omega arith)) p.origin;
+          origin =
+              rw (
+                get_or_append_left front rest 0 0 (omega arith),
+                get_or-take 80 bytes 0 0 (omega arith),
+              ) p.origin;
         };
         form = inr record {
           beyond = omega arith;
@@ -157,9 +171,12 @@ long_body bytes p h =
           y = y;
           u = u;
           v = v;
-          first = subst (λ (m : List ℕ). IsCrc m x y) (sym take_body) (front_crc bytes p (omega arith));
+          first =
+              subst (λ (m : List ℕ). IsCrc m x y) (sym take_body) (front_crc bytes p (omega arith));
           second = subst (λ (m : List ℕ). IsCrc m u v) (sym split) second;
-          is = sym (ap (λ t. padded (t ++ u ∷ v ∷ [])) split ∙ ap padded (sym whole) ∙ padded-fours bytes fours);
+          is =
+              sym (ap (λ t. padded (t ++ u ∷ v ∷ [])) split ∙ ap padded (sym whole)
+              ∙ padded-fours bytes fours);
         };
       },
     )

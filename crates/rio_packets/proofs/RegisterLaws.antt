@@ -18,7 +18,8 @@ pub shifted_low : (r : ℕ) → r < 0x8000 → shifted r ≡ r * 2
 unfolding shifted
 shifted_low r h = rw (lt-ltb r 0x8000 h) refl
 
-pub shifted_high : (r : ℕ) → 0x8000 ≤ r → r < 0x10000 → shifted r ≡ bit_xor ((r - 0x8000) * 2) 0x1021
+pub shifted_high : (r : ℕ) → 0x8000 ≤ r → r < 0x10000
+    → shifted r ≡ bit_xor ((r - 0x8000) * 2) 0x1021
 unfolding shifted
 shifted_high r low high =
     let doubled : r * 2 % 0x10000 ≡ (r - 0x8000) * 2 = omega arith in
@@ -28,7 +29,8 @@ pub shifted-lt : (r : ℕ) → r < 0x10000 → shifted r < 0x10000
 shifted-lt r h =
     elim (cases_lt r 0x8000) [
       | inl low ↦ rw (shifted_low r low) (omega arith)
-      | inr high ↦ rw (shifted_high r high h) (xor_of_16 ((r - 0x8000) * 2) 0x1021 (omega arith) (lit< tt))
+      | inr high ↦ rw (shifted_high r high h)
+          (xor_of_16 ((r - 0x8000) * 2) 0x1021 (omega arith) (lit< tt))
     ]
 
 shifted_times-none : (r : ℕ) → shifted_times 0 r ≡ r
@@ -47,7 +49,8 @@ fed-lt r b h k = shifted_times-lt 8 (bit_xor r (b * 256)) (xor_of_16 r (b * 256)
 pub fed_all-lt : (r : ℕ) (bytes : List ℕ) → r < 0x10000 → AreBytes bytes → fed_all r bytes < 0x10000
 fed_all-lt r [] h range = h
 fed_all-lt r (b ∷ bs) h range =
-    fed_all-lt (fed r b) bs (fed-lt r b h (All-head (λ x. x < 256) b bs range)) (All-tail (λ x. x < 256) b bs range)
+    fed_all-lt (fed r b) bs (fed-lt r b h (All-head (λ x. x < 256) b bs range))
+    (All-tail (λ x. x < 256) b bs range)
 
 -- a step of the division is a shift of the register in front
 pub division_step-shifted : (r : ℕ) (bs : List Bool) → r < 0x10000
@@ -60,7 +63,8 @@ division_step-shifted r bs h =
     ]
 
 pub division_steps-shifted : (n r : ℕ) (bs : List Bool) → r < 0x10000
-    → division_steps n crc16_divisor (added (bits 16 r) (replicate n false ++ bs)) ≡ added (bits 16 (shifted_times n r)) bs
+    → division_steps n crc16_divisor (added (bits 16 r) (replicate n false ++ bs))
+    ≡ added (bits 16 (shifted_times n r)) bs
 unfolding division_steps shifted_times
 division_steps-shifted zero r bs h = refl
 division_steps-shifted (suc n) r bs h =
@@ -68,38 +72,51 @@ division_steps-shifted (suc n) r bs h =
     ∙ division_steps-shifted n (shifted r) bs (shifted-lt r h)
 
 -- a number is absorbed with the bits behind the register, and shifted through
-pub division_steps-absorbed : (n r v k : ℕ) (xs bs : List Bool) → r < 0x10000 → v < 0x10000 → length xs ≡ n → bits 16 v ≡ xs ++ replicate k false
-    → division_steps n crc16_divisor (added (bits 16 r) (xs ++ bs)) ≡ added (bits 16 (shifted_times n (bit_xor r v))) bs
+pub division_steps-absorbed : (n r v k : ℕ) (xs bs : List Bool) → r < 0x10000 → v < 0x10000
+    → length xs ≡ n → bits 16 v ≡ xs ++ replicate k false
+    → division_steps n crc16_divisor (added (bits 16 r) (xs ++ bs))
+    ≡ added (bits 16 (shifted_times n (bit_xor r v))) bs
 division_steps-absorbed n r v k xs bs h below size e =
-    ap (division_steps n crc16_divisor) (absorbed 16 r v k xs bs e ∙ ap (λ m. added (bits 16 (bit_xor r v)) (replicate m false ++ bs)) size)
+    ap (division_steps n crc16_divisor) (absorbed 16 r v k xs bs e
+    ∙ ap (λ m. added (bits 16 (bit_xor r v)) (replicate m false ++ bs)) size)
     ∙ division_steps-shifted n (bit_xor r v) bs (xor_of_16 r v h below)
 
 pub division_steps-fed : (r b : ℕ) (bs : List Bool) → r < 0x10000 → b < 256
-    → division_steps 8 crc16_divisor (added (bits 16 r) (bits 8 b ++ bs)) ≡ added (bits 16 (fed r b)) bs
+    → division_steps 8 crc16_divisor (added (bits 16 r) (bits 8 b ++ bs))
+    ≡ added (bits 16 (fed r b)) bs
 unfolding fed
 division_steps-fed r b bs h k =
-    let moved : bits 16 (b * 2 ^ 8 + 0) ≡ bits 8 b ++ bits 8 0 = bits_cat 8 8 b 0 16 refl (lit< tt) in
+    let moved : bits 16 (b * 2 ^ 8 + 0) ≡ bits 8 b ++ bits 8 0 =
+    bits_cat 8 8 b 0 16 refl (lit< tt) in
     let same : b * 2 ^ 8 + 0 ≡ b * 256 = omega arith in
     division_steps-absorbed 8 r (b * 256) 8 (bits 8 b) bs h (omega arith) (length-bits 8 b)
     (ap (bits 16) (sym same) ∙ moved ∙ ap (λ t. bits 8 b ++ t) (bits_of_zero 8))
 
 -- The division of a message behind the register is the register after the message.
-pub division_steps-fed_all : (bytes : List ℕ) (r n : ℕ) (bs : List Bool) → r < 0x10000 → AreBytes bytes → n ≡ 8 * length bytes
-    → division_steps n crc16_divisor (added (bits 16 r) (bits_of bytes ++ bs)) ≡ added (bits 16 (fed_all r bytes)) bs
+pub division_steps-fed_all : (bytes : List ℕ) (r n : ℕ) (bs : List Bool) → r < 0x10000
+    → AreBytes bytes → n ≡ 8 * length bytes
+    → division_steps n crc16_divisor (added (bits 16 r) (bits_of bytes ++ bs))
+    ≡ added (bits 16 (fed_all r bytes)) bs
 division_steps-fed_all [] r n bs h range e =
     let none : n ≡ 0 = omega arith in
-    rw none (division_steps-shifted 0 r bs h ∙ ap (λ t. added (bits 16 t) bs) (shifted_times-none r))
+    rw none
+    (division_steps-shifted 0 r bs h ∙ ap (λ t. added (bits 16 t) bs) (shifted_times-none r))
 division_steps-fed_all (b ∷ bytes) r n bs h range e =
     let here = All-head (λ x. x < 256) b bytes range in
     division_steps-add 8 (8 * length bytes) n crc16_divisor _ (omega arith)
-    ∙ ap (λ t. division_steps (8 * length bytes) crc16_divisor (division_steps 8 crc16_divisor (added (bits 16 r) t))) (append_assoc (bits 8 b) (bits_of bytes) bs)
-    ∙ ap (division_steps (8 * length bytes) crc16_divisor) (division_steps-fed r b (bits_of bytes ++ bs) h here)
-    ∙ division_steps-fed_all bytes (fed r b) (8 * length bytes) bs (fed-lt r b h here) (All-tail (λ x. x < 256) b bytes range) refl
+    ∙ ap (λ t. division_steps (8 * length bytes) crc16_divisor
+    (division_steps 8 crc16_divisor (added (bits 16 r) t)))
+    (append_assoc (bits 8 b) (bits_of bytes) bs)
+    ∙ ap (division_steps (8 * length bytes) crc16_divisor)
+    (division_steps-fed r b (bits_of bytes ++ bs) h here)
+    ∙ division_steps-fed_all bytes (fed r b) (8 * length bytes) bs (fed-lt r b h here)
+    (All-tail (λ x. x < 256) b bytes range) refl
 
 pub length-bits_of : (bytes : List ℕ) → length (bits_of bytes) ≡ 8 * length bytes
 length-bits_of [] = refl
 length-bits_of (b ∷ bytes) =
-    length-append (bits 8 b) (bits_of bytes) ∙ rw (length-bits 8 b, length-bits_of bytes) (omega arith)
+    length-append (bits 8 b) (bits_of bytes)
+    ∙ rw (length-bits 8 b, length-bits_of bytes) (omega arith)
 
 preset_ones : bits 16 0xffff ≡ replicate 16 true
 unfolding bits
@@ -108,7 +125,9 @@ preset_ones = refl
 -- what stands alone in the register
 pub added_to_nothing : (r : ℕ) → added (bits 16 r) (replicate 16 false) ≡ bits 16 r
 added_to_nothing r =
-    let alone : added (bits 16 r ++ []) (replicate (length (bits 16 r)) false ++ []) ≡ bits 16 r ++ [] = added_to_zeros (bits 16 r) [] 0 in
+    let alone : added (bits 16 r ++ []) (replicate (length (bits 16 r)) false ++ [])
+    ≡ bits 16 r ++ [] =
+    added_to_zeros (bits 16 r) [] 0 in
     let size : length (bits 16 r) ≡ 16 = length-bits 16 r in
     rw (append-nil (bits 16 r), size) at alone
 
@@ -117,16 +136,23 @@ unfolding crc16_divisor
 length-crc16_divisor = ap (λ n. suc n) (length-bits 16 0x1021)
 
 -- The CRC of a message is the register after it.
-pub crc16_of-running : (bytes : List ℕ) → 2 ≤ length bytes → AreBytes bytes → crc16_of bytes ≡ bits 16 (running bytes)
+pub crc16_of-running : (bytes : List ℕ) → 2 ≤ length bytes → AreBytes bytes
+    → crc16_of bytes ≡ bits 16 (running bytes)
 unfolding crc16_of
 crc16_of-running bytes h range =
     let size = length-bits_of bytes in
     let zeros = replicate 16 false in
     let all = bits_of bytes ++ zeros in
     let preset : complemented 16 (bits_of bytes) ++ zeros ≡ added (bits 16 0xffff) all =
-    complemented-append 16 (bits_of bytes) zeros (omega (arith, size)) ∙ ap (λ t. added t all) (sym preset_ones) in
+    complemented-append 16 (bits_of bytes) zeros (omega (arith, size))
+    ∙ ap (λ t. added t all) (sym preset_ones) in
     let steps : length (added (bits 16 0xffff) all) + 1 - length crc16_divisor ≡ 8 * length bytes =
-    rw (length-added (bits 16 0xffff) all, length-append (bits_of bytes) zeros, size, length-crc16_divisor) (omega arith) in
+    rw (
+      length-added (bits 16 0xffff) all,
+      length-append (bits_of bytes) zeros,
+      size,
+      length-crc16_divisor,
+    ) (omega arith) in
     ap (λ t. remainder t crc16_divisor) preset
     ∙ ap (λ n. division_steps n crc16_divisor (added (bits 16 0xffff) all)) steps
     ∙ division_steps-fed_all bytes 0xffff (8 * length bytes) zeros (lit< tt) range refl
@@ -142,14 +168,16 @@ shifted-zero r h e =
       | inr high ↦
           (let last : (r - 0x8000) * 2 % 2 ≡ 0 = omega arith in
           let odd = bit_at_xor ((r - 0x8000) * 2) 0x1021 0 in
-          let sum : bit_at (bit_xor ((r - 0x8000) * 2) 0x1021) 0 ≡ bit_at 0 0 = ap (λ n. bit_at n 0) (sym (shifted_high r high h) ∙ e) in
+          let sum : bit_at (bit_xor ((r - 0x8000) * 2) 0x1021) 0 ≡ bit_at 0 0 =
+          ap (λ n. bit_at n 0) (sym (shifted_high r high h) ∙ e) in
           absurd (omega (arith, odd, sum, last, bit_at_lowest ((r - 0x8000) * 2))))
     ]
 
 shifted_times-zero : (n r : ℕ) → r < 0x10000 → shifted_times n r ≡ 0 → r ≡ 0
 unfolding shifted_times
 shifted_times-zero zero r h e = e
-shifted_times-zero (suc n) r h e = shifted-zero r h (shifted_times-zero n (shifted r) (shifted-lt r h) e)
+shifted_times-zero (suc n) r h e =
+    shifted-zero r h (shifted_times-zero n (shifted r) (shifted-lt r h) e)
 
 zero_shifted : (n : ℕ) → shifted_times n 0 ≡ 0
 unfolding shifted_times shifted
@@ -157,16 +185,21 @@ zero_shifted zero = refl
 zero_shifted (suc n) = zero_shifted n
 
 -- two bytes are absorbed as one number
-fed_all-two : (r x y : ℕ) → r < 0x10000 → x < 256 → y < 256 → fed_all r (x ∷ y ∷ []) ≡ shifted_times 16 (bit_xor r (x * 256 + y))
+fed_all-two : (r x y : ℕ) → r < 0x10000 → x < 256 → y < 256
+    → fed_all r (x ∷ y ∷ []) ≡ shifted_times 16 (bit_xor r (x * 256 + y))
 fed_all-two r x y h hx hy =
     let v = x * 256 + y in
     let below : v < 0x10000 = omega arith in
     let two : bits 16 (x * 2 ^ 8 + y) ≡ bits 8 x ++ bits 8 y = bits_cat 8 8 x y 16 refl hy in
     let whole : bits 16 v ≡ bits_of (x ∷ y ∷ []) ++ replicate 0 false =
-    two ∙ sym (append-nil (bits 8 x ++ bits 8 y)) ∙ ap (λ t. t ++ []) (ap (λ t. bits 8 x ++ t) (sym (append-nil (bits 8 y)))) in
+    two
+    ∙ sym (append-nil (bits 8 x ++ bits 8 y))
+    ∙ ap (λ t. t ++ []) (ap (λ t. bits 8 x ++ t) (sym (append-nil (bits 8 y)))) in
     let size : length (bits_of (x ∷ y ∷ [])) ≡ 16 = length-bits_of (x ∷ y ∷ []) in
     let zeros = replicate 16 false in
-    let range : AreBytes (x ∷ y ∷ []) = All-cons (λ b. b < 256) x (y ∷ []) hx (All-cons (λ b. b < 256) y [] hy (All-nil (λ b. b < 256))) in
+    let range : AreBytes (x ∷ y ∷ []) =
+    All-cons (λ b. b < 256) x (y ∷ []) hx
+    (All-cons (λ b. b < 256) y [] hy (All-nil (λ b. b < 256))) in
     let one = division_steps-fed_all (x ∷ y ∷ []) r 16 zeros h range refl in
     let other = division_steps-absorbed 16 r v 0 (bits_of (x ∷ y ∷ [])) zeros h below size whole in
     same_by_bits 16 (fed_all r (x ∷ y ∷ [])) (shifted_times 16 (bit_xor r v))
@@ -175,14 +208,22 @@ fed_all-two r x y h hx hy =
 
 xor-zero : (a b : ℕ) → bit_xor a b ≡ 0 → a ≡ b
 xor-zero a b e =
-    sym (xor_zero_r a) ∙ ap (bit_xor a) (sym (xor_self b)) ∙ sym (xor_assoc a b b) ∙ ap (λ t. bit_xor t b) e ∙ xor_zero_l b
+    sym (xor_zero_r a)
+    ∙ ap (bit_xor a) (sym (xor_self b))
+    ∙ sym (xor_assoc a b b)
+    ∙ ap (λ t. bit_xor t b) e
+    ∙ xor_zero_l b
 
 -- The register is 0 behind two bytes exactly where they are its own value.
-pub zero_after_two : (r x y : ℕ) → r < 0x10000 → x < 256 → y < 256 → fed_all r (x ∷ y ∷ []) ≡ 0 ↔ (r ≡ x * 256 + y)
+pub zero_after_two : (r x y : ℕ) → r < 0x10000 → x < 256 → y < 256
+    → fed_all r (x ∷ y ∷ []) ≡ 0 ↔ (r ≡ x * 256 + y)
 zero_after_two r x y h hx hy =
     let v = x * 256 + y in
     let two = fed_all-two r x y h hx hy in
     let below : v < 0x10000 = omega arith in (
       λ e. xor-zero r v (shifted_times-zero 16 (bit_xor r v) (xor_of_16 r v h below) (sym two ∙ e)),
-      λ e. two ∙ ap (λ t. shifted_times 16 (bit_xor t v)) e ∙ ap (shifted_times 16) (xor_self v) ∙ zero_shifted 16,
+      λ e. two
+          ∙ ap (λ t. shifted_times 16 (bit_xor t v)) e
+          ∙ ap (shifted_times 16) (xor_self v)
+          ∙ zero_shifted 16,
     )

@@ -3,7 +3,8 @@ use Rattle.std.proofs.Common.{◌≡◌, ℕ, suc, ◌+◌, ◌-◌, ◌<◌, Li
 use Rattle.rio_packets.specs.Register.{shifted, shifted_times, fed, fed_all}
 
 -- one shift more, of those that are left
-pub one_shift_more : (n k r : ℕ) → k < n → shifted_times (n - (k + 1)) (shifted r) ≡ shifted_times (n - k) r
+pub one_shift_more : (n k r : ℕ) → k < n
+    → shifted_times (n - (k + 1)) (shifted r) ≡ shifted_times (n - k) r
 unfolding shifted_times
 one_shift_more n k r below =
     let P : ℕ → Type 0 = λ m. shifted_times (n - (k + 1)) (shifted r) ≡ shifted_times m r in

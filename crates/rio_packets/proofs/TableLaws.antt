@@ -40,15 +40,19 @@ pub entry_three : (b : ℕ) → b < 256 → get_or AFTER_THREE_ZEROS b 0 ≡ aft
 entry_three b h = entry 256 AFTER_THREE_ZEROS (after_zeros 3) b table_three h
 
 -- the remainder of a byte and sixteen 0 bits
-remainder_of_byte : (b : ℕ) → b < 256 → remainder (bits 8 b ++ replicate 16 false) crc16_divisor ≡ bits 16 (fed 0 b)
+remainder_of_byte : (b : ℕ) → b < 256
+    → remainder (bits 8 b ++ replicate 16 false) crc16_divisor ≡ bits 16 (fed 0 b)
 remainder_of_byte b h =
     let zeros = replicate 16 false in
     let alone = bits 8 b ++ zeros in
     let steps : length alone + 1 - length crc16_divisor ≡ 8 =
     rw (length-append (bits 8 b) zeros, length-bits 8 b, length-crc16_divisor) (omega arith) in
-    let empty : added (bits 16 0) alone ≡ alone = ap (λ t. added t alone) (bits_of_zero 16) ∙ added_zeros 16 alone in
-    ap (λ n. division_steps n crc16_divisor alone) steps ∙ ap (division_steps 8 crc16_divisor) (sym empty)
+    let empty : added (bits 16 0) alone ≡ alone =
+    ap (λ t. added t alone) (bits_of_zero 16) ∙ added_zeros 16 alone in
+    ap (λ n. division_steps n crc16_divisor alone) steps
+    ∙ ap (division_steps 8 crc16_divisor) (sym empty)
     ∙ division_steps-fed 0 b zeros (lit< tt) h ∙ added_to_nothing (fed 0 b)
 
-pub entry-remainder : (b : ℕ) → b < 256 → bits 16 (get_or CRC16_TABLE b 0) ≡ remainder (bits 8 b ++ replicate 16 false) crc16_divisor
+pub entry-remainder : (b : ℕ) → b < 256
+    → bits 16 (get_or CRC16_TABLE b 0) ≡ remainder (bits 8 b ++ replicate 16 false) crc16_divisor
 entry-remainder b h = ap (bits 16) (entry_none b h) ∙ sym (remainder_of_byte b h)

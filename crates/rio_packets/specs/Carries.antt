@@ -1,5 +1,5 @@
--- What bytes on a link carry: an ackID and a packet
--- (RapidIO Interconnect Specification 1.3, Part 6, packet format; that bit 5 is ignored is this project's profile).
+-- What bytes on a link carry: an ackID and a packet (RapidIO Interconnect Specification 1.3, Part
+-- 6, packet format; that bit 5 is ignored is this project's profile).
 use Rattle.std.specs.Prelude.{Result, Ok, Err, ◌≡◌, ℕ, ◌/◌, ◌%◌, ◌<◌, ◌==◌, ◌&&◌, ◌||◌, Bool, nat_lt, nat_le, List, [], ◌∷◌, length, take, slice_index, Option, Some, None, if◌then◌else◌}
 use Rattle.std.specs.List.{list_all}
 use Rattle.rio_packets.specs.declared.cause.Cause.{Cause}
@@ -12,7 +12,8 @@ abbrev pub at_origin : List ℕ → List ℕ
 at_origin [] = []
 at_origin (b ∷ bs) = b % 4 ∷ bs
 
--- The first five bits are the ackID, and with the first six bits set to 0 the bytes are the link form of some body.
+-- The first five bits are the ackID, and with the first six bits set to 0 the bytes are the link
+-- form of some body.
 pub record Carries (bytes : List ℕ) (ack : ℕ) (packet : List ℕ) : Type 0 where
   pub ack_range : ack < 32
   pub ack_is : slice_index bytes 0 / 8 ≡ ack
@@ -20,7 +21,8 @@ pub record Carries (bytes : List ℕ) (ack : ℕ) (packet : List ℕ) : Type 0 w
   pub body : List ℕ
   pub form : LinkForm body packet
 
--- whether the running register passes bytes: it is 0 at the end, and from 84 bytes on also after byte 82
+-- whether the running register passes bytes: it is 0 at the end, and from 84 bytes on also after
+-- byte 82
 abbrev pub register_passes : List ℕ → Bool
 register_passes bytes = (length bytes % 4 == 0)
     && (nat_lt (slice_index bytes 0) 4
@@ -42,7 +44,8 @@ abbrev pub found_or_bad : Option (ℕ × List ℕ) → Result (ℕ × List ℕ) 
 found_or_bad (Some found) = Ok found
 found_or_bad None = Err BadPacket
 
--- what a receiver answers of bytes: the ackID and the packet that they carry, or why they carry none
+-- what a receiver answers of bytes: the ackID and the packet that they carry, or why they carry
+-- none
 unfoldable pub checked : List ℕ → Result (ℕ × List ℕ) Cause
 checked bytes =
     if nat_lt (length bytes) 8 || nat_lt 276 (length bytes) then Err General

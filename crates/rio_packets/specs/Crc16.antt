@@ -8,6 +8,7 @@ use Rattle.crc_division.specs.Division.{remainder, complemented}
 unfoldable pub crc16_divisor : List Bool
 crc16_divisor = true ∷ bits 16 0x1021
 
--- The CRC of packets: the remainder of the bits, the first sixteen complemented, followed by sixteen 0 bits.
+-- The CRC of packets: the remainder of the bits, the first sixteen complemented, followed by
+-- sixteen 0 bits.
 unfoldable pub crc16_of : List ℕ → List Bool
 crc16_of bytes = remainder (complemented 16 (bits_of bytes) ++ replicate 16 false) crc16_divisor

@@ -1,5 +1,5 @@
--- The fields at the front of a packet's bytes (RapidIO Interconnect Specification 1.3, Part 6, packet header;
--- Part 3, IDs; Part 1, maintenance packets). A missing byte is read as 0.
+-- The fields at the front of a packet's bytes (RapidIO Interconnect Specification 1.3, Part 6,
+-- packet header; Part 3, IDs; Part 1, maintenance packets). A missing byte is read as 0.
 use Rattle.std.specs.Prelude.{◌≡◌, ℕ, ◌+◌, ◌-◌, ◌*◌, ◌/◌, ◌%◌, ◌<◌, ◌≢◌, ◌==◌, ◌&&◌, Bool, nat_lt, nat_le, List, ◌∷◌, length, slice_index, take, Option, Some, None, IsTrue, if◌then◌else◌}
 use Rattle.rio_packets.specs.LinkForm.{IsCrc}
 
@@ -48,7 +48,8 @@ is_request bytes = is_maintenance bytes && nat_lt (ttype_of bytes) 2
 abbrev pub body_of : ℕ → ℕ → ℕ → ℕ → List ℕ → List ℕ
 body_of prio ftype dest source rest = 0 ∷ (64 * prio + ftype) ∷ dest ∷ source ∷ rest
 
--- Two maintenance packets that differ in the hop count, which is one less in the new one, and in the CRC at the end.
+-- Two maintenance packets that differ in the hop count, which is one less in the new one, and in
+-- the CRC at the end.
 pub record Lowered (old new : List ℕ) : Type 0 where
   pub was : IsTrue (is_maintenance old)
   pub is : IsTrue (is_maintenance new)

@@ -1,5 +1,6 @@
--- The form in which a packet stands on a link: its body, one CRC or two, and a pad
--- (RapidIO Interconnect Specification 1.3, Part 6, packet format and packet CRC; the ranges are this project's profile).
+-- The form in which a packet stands on a link: its body, one CRC or two, and a pad (RapidIO
+-- Interconnect Specification 1.3, Part 6, packet format and packet CRC; the ranges are this
+-- project's profile).
 use Rattle.std.specs.Prelude.{◌≡◌, ℕ, ◌%◌, ◌<◌, ◌≤◌, ◌==◌, ◌⊎◌, List, [], ◌∷◌, ◌++◌, length, take, drop, All, slice_index, if◌then◌else◌}
 use Rattle.crc_division.specs.Bits.{bits}
 use Rattle.rio_packets.specs.Crc16.{crc16_of}
@@ -9,7 +10,8 @@ use Rattle.rio_packets.specs.Register.{running}
 abbrev pub AreBytes : List ℕ → Type 0
 AreBytes bytes = All (λ b. b < 256) bytes
 
--- What stands before CRCs and pad: an even number of 4 to 272 bytes, of which the first six bits are 0.
+-- What stands before CRCs and pad: an even number of 4 to 272 bytes, of which the first six bits
+-- are 0.
 pub record IsBody (body : List ℕ) : Type 0 where
   pub even : length body % 2 ≡ 0
   pub least : 4 ≤ length body
@@ -43,7 +45,8 @@ pub record Short (body bytes : List ℕ) : Type 0 where
 abbrev pub split_by : List ℕ → ℕ → ℕ → List ℕ
 split_by body x y = take 80 body ++ x ∷ y ∷ drop 80 body
 
--- A longer body has a CRC of its first 80 bytes behind these, and at its end a CRC of all before it, the first CRC too.
+-- A longer body has a CRC of its first 80 bytes behind these, and at its end a CRC of all before
+-- it, the first CRC too.
 pub record Long (body bytes : List ℕ) : Type 0 where
   pub beyond : 80 < length body
   pub x : ℕ
@@ -59,7 +62,8 @@ pub record LinkForm (body bytes : List ℕ) : Type 0 where
   pub is_body : IsBody body
   pub form : Short body bytes ⊎ Long body bytes
 
--- Bytes that are the link form of some body, told by the running register: it is 0 at the end, and from 84 bytes on also after byte 82.
+-- Bytes that are the link form of some body, told by the running register: it is 0 at the end, and
+-- from 84 bytes on also after byte 82.
 pub record Passes (bytes : List ℕ) : Type 0 where
   pub fours : length bytes % 4 ≡ 0
   pub least : 8 ≤ length bytes

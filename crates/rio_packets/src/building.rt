@@ -21,9 +21,9 @@ const FIRST_CRC_END: usize = 82;
 /// From this length on, a link form has a CRC after 80 bytes.
 const LONG_FROM: usize = 84;
 
-/// The bytes of a packet as they come from a link, at most 276, with the running register of its CRC, so that no byte is
-/// read again when the packet ends (RapidIO Interconnect Specification 1.3, Part 6, packet format and packet CRC).
-/// Contracts see the list of the bytes.
+/// The bytes of a packet as they come from a link, at most 276, with the running register of its
+/// CRC, so that no byte is read again when the packet ends (RapidIO Interconnect Specification 1.3,
+/// Part 6, packet format and packet CRC). Contracts see the list of the bytes.
 #[derive(Debug, Drop)]
 pub struct Building {
     /// The bytes, of which the first has its first six bits set to 0.
@@ -153,8 +153,8 @@ impl Building {
         }
     }
 
-    /// The ackID and the bytes of the packet that the bytes carry, with ackID 0, lent; the errors are those of
-    /// [`check`](crate::check).
+    /// The ackID and the bytes of the packet that the bytes carry, with ackID 0, lent; the errors
+    /// are those of [`check`](crate::check).
     pub fn carried(&self) -> Result<(u8, &[u8]), Cause>
         ensures checked { MatchResult result (λ found. checked self.now ≡ Ok (found.0, found.1.now))
             (λ cause. checked self.now ≡ Err cause) }
@@ -175,7 +175,8 @@ impl Building {
     }
 }
 
-/// What is read in bytes, the first as it came and the others behind their first six bits, by the registers after them.
+/// What is read in bytes, the first as it came and the others behind their first six bits, by the
+/// registers after them.
 fn read(first: u8, form: &[u8], register: u16, middle: u16) -> Result<(u8, &[u8]), Cause>
     requires is { IsBuilding first form.now register middle }
     requires most { length form.now ≤ 276 }

@@ -8,7 +8,8 @@ use crate::tables::{AFTER_ONE_ZERO, AFTER_THREE_ZEROS, AFTER_TWO_ZEROS, CRC16_TA
 /// The register before the first byte.
 pub(crate) const PRESET: u16 = 0xffff;
 
-/// The register after the bytes. Two bytes use up its sixteen bits, so that of four bytes each has a table of its own.
+/// The register after the bytes. Two bytes use up its sixteen bits, so that of four bytes each has
+/// a table of its own.
 pub(crate) fn run(register: u16, bytes: &[u8]) -> u16
     ensures { result ≡ fed_all register bytes.now }
 {

@@ -37,8 +37,8 @@ impl Packet {
         self.form[1] & 15
     }
 
-    /// The destination ID, of 8 bits (RapidIO Interconnect Specification 1.3, Part 3, IDs). `None` comes exactly where the
-    /// transport type is not 0.
+    /// The destination ID, of 8 bits (RapidIO Interconnect Specification 1.3, Part 3, IDs). `None`
+    /// comes exactly where the transport type is not 0.
     pub fn dest(&self) -> Option<u8>
         ensures { result ≡ dest_of self.now }
     {
@@ -49,8 +49,8 @@ impl Packet {
         }
     }
 
-    /// The source ID, of 8 bits (RapidIO Interconnect Specification 1.3, Part 3, IDs). `None` comes exactly where the
-    /// transport type is not 0.
+    /// The source ID, of 8 bits (RapidIO Interconnect Specification 1.3, Part 3, IDs). `None` comes
+    /// exactly where the transport type is not 0.
     pub fn source(&self) -> Option<u8>
         ensures { result ≡ source_of self.now }
     {
@@ -61,8 +61,9 @@ impl Packet {
         }
     }
 
-    /// The hop count, 0 to 255 (RapidIO Interconnect Specification 1.3, Part 1 and Part 3, maintenance packets). `None` comes
-    /// exactly where it is no maintenance packet of a length that `docs/packets.md` names.
+    /// The hop count, 0 to 255 (RapidIO Interconnect Specification 1.3, Part 1 and Part 3,
+    /// maintenance packets). `None` comes exactly where it is no maintenance packet of a length
+    /// that `docs/packets.md` names.
     pub fn hop(&self) -> Option<u8>
         ensures { result ≡ hop_of self.now }
     {
@@ -73,8 +74,8 @@ impl Packet {
         }
     }
 
-    /// Whether it is a maintenance packet: format type 8, transport type 0, and room for no or up to eight
-    /// double-words of data.
+    /// Whether it is a maintenance packet: format type 8, transport type 0, and room for no or up
+    /// to eight double-words of data.
     fn is_maintenance(&self) -> bool
         ensures { result ≡ is_maintenance self.now }
     {

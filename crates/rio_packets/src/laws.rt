@@ -42,8 +42,9 @@ pub fn crc16_table_has_remainders()
         ≡ remainder (bits 8 byte ++ replicate 16 false) crc16_divisor }
 {}
 
-/// [`MAX_REST`](crate::MAX_REST) bytes may follow the source ID of a packet, and of more none: whatever the header,
-/// a rest of that length makes no body of bad length, and each longer one does.
+/// [`MAX_REST`](crate::MAX_REST) bytes may follow the source ID of a packet, and of more none:
+/// whatever the header, a rest of that length makes no body of bad length, and each longer one
+/// does.
 pub fn longest_rest()
     ensures is { MAX_REST ≡ most_rest }
     ensures fits { (prio ftype dest source : ℕ) (rest : List ℕ) → length rest ≡ most_rest

@@ -1,14 +1,17 @@
-//! Packets of RapidIO serial links (RapidIO Interconnect Specification 1.3, Part 6): a packet is built from its
-//! fields, or read from the bytes of a link, in the one form in which it stands on a link. That form has one CRC
-//! of sixteen bits or two, and is a multiple of four bytes long.
+//! Packets of RapidIO serial links (RapidIO Interconnect Specification 1.3, Part 6): a packet is
+//! built from its fields, or read from the bytes of a link, in the one form in which it stands on a
+//! link. That form has one CRC of sixteen bits or two, and is a multiple of four bytes long.
 //!
-//! - [`Packet`] is such a form with the ackID taken as 0. Contracts see it as the list of its bytes, at most [`MAX_BYTES`].
-//! - [`Header`] and [`build`] make one; [`BadLength`] says that its data does not fit, of which there are at most [`MAX_REST`] bytes.
+//! - [`Packet`] is such a form with the ackID taken as 0. Contracts see it as the list of its
+//!   bytes, at most [`MAX_BYTES`].
+//! - [`Header`] and [`build`] make one; [`BadLength`] says that its data does not fit, of which
+//!   there are at most [`MAX_REST`] bytes.
 //! - [`check`] reads bytes of a link, and [`Cause`] says why they are no packet.
-//! - [`body_has_one_form`] and its five neighbours are laws: each states what holds of all bytes, and does nothing.
+//! - [`body_has_one_form`] and its five neighbours are laws: each states what holds of all bytes,
+//!   and does nothing.
 //!
-//! Left out: control symbols and framing, device IDs of 16 bits, and what is behind the IDs of a packet, but for
-//! the hop count of maintenance packets. No call takes memory.
+//! Left out: control symbols and framing, device IDs of 16 bits, and what is behind the IDs of a
+//! packet, but for the hop count of maintenance packets. No call takes memory.
 #![tactic(auto)]
 
 mod building;

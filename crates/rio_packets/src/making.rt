@@ -34,8 +34,8 @@ pub struct Header {
 #[derive(Clone, Copy, Debug, PartialEq, Eq)]
 pub struct BadLength;
 
-/// The packet whose body is a zero byte, priority and format type in a byte, the two IDs, and `rest`.
-/// `BadLength` comes exactly where this body has an odd length or more than 272 bytes.
+/// The packet whose body is a zero byte, priority and format type in a byte, the two IDs, and
+/// `rest`. `BadLength` comes exactly where this body has an odd length or more than 272 bytes.
 pub fn build(header: &Header, rest: &[u8]) -> Result<Packet, BadLength>
     requires prio { header.now.prio < 4 }
     requires ftype { header.now.ftype < 16 }

@@ -5,12 +5,13 @@ ghost use Rattle.arrayvec.specs.ArrayVec.{array_vec_len};
 use arrayvec::ArrayVec;
 use std::marker::Model;
 
-/// How many bytes a link form has at most (RapidIO Interconnect Specification 1.3, Part 6, packet size).
+/// How many bytes a link form has at most (RapidIO Interconnect Specification 1.3, Part 6, packet
+/// size).
 pub const MAX_BYTES: usize = 276;
 
-/// A packet as the bytes of its link form, 8 to 276 and a multiple of four, of which the first six bits are 0
-/// (RapidIO Interconnect Specification 1.3, Part 6, packet format and packet CRC). Two packets are the same where their
-/// bytes are.
+/// A packet as the bytes of its link form, 8 to 276 and a multiple of four, of which the first six
+/// bits are 0 (RapidIO Interconnect Specification 1.3, Part 6, packet format and packet CRC). Two
+/// packets are the same where their bytes are.
 #[derive(Debug, Drop)]
 pub struct Packet {
     pub(crate) form: ArrayVec<u8, MAX_BYTES>,

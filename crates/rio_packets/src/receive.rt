@@ -7,10 +7,10 @@ use crate::cause::Cause;
 use crate::packet::{MAX_BYTES, Packet, append};
 use arrayvec::ArrayVec;
 
-/// The ackID, which is the first five bits, and the packet that the bytes carry; the sixth bit is ignored
-/// (RapidIO Interconnect Specification 1.3, Part 6, packet format and packet CRC; the sixth bit by this project's profile).
-/// `General` comes exactly where there are fewer than 8 bytes or more than 276, and `BadPacket` exactly where their
-/// number is in range and they carry no packet.
+/// The ackID, which is the first five bits, and the packet that the bytes carry; the sixth bit is
+/// ignored (RapidIO Interconnect Specification 1.3, Part 6, packet format and packet CRC; the sixth
+/// bit by this project's profile). `General` comes exactly where there are fewer than 8 bytes or
+/// more than 276, and `BadPacket` exactly where their number is in range and they carry no packet.
 pub fn check(bytes: &[u8]) -> Result<(u8, Packet), Cause>
     ensures ok { IfOk result (λ found. Carries bytes.now found.0 found.1) }
     ensures found { IfOk result (λ found. carried bytes.now ≡ Some (found.0, found.1)) }

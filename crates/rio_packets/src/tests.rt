@@ -67,7 +67,8 @@ fn two_crcs_beyond_80_bytes(rt: HostRuntime) {
     assert_eq!(rt; build(&HEADER, &rest[..3]), Err(BadLength));
 }
 
-/// The bytes are read, and refused with any one bit altered that is not of the ackID and not the bit behind it.
+/// The bytes are read, and refused with any one bit altered that is not of the ackID and not the
+/// bit behind it.
 fn is_read_unless_altered(rt: &impl Abort, packet: &Packet) {
     let sent = packet.with_ack(21);
     assert_eq!(rt; check(&sent), Ok((21, packet.copy())));

@@ -50,7 +50,8 @@ division_step-shifted r bs h =
     ]
 
 division_steps-shifted : (n r : ℕ) (bs : List Bool) → r < 32
-    → division_steps n crc5_divisor (added (bits 5 r) (replicate n false ++ bs)) ≡ added (bits 5 (shifted_times n r)) bs
+    → division_steps n crc5_divisor (added (bits 5 r) (replicate n false ++ bs))
+    ≡ added (bits 5 (shifted_times n r)) bs
 unfolding division_steps shifted_times
 division_steps-shifted zero r bs h = refl
 division_steps-shifted (suc n) r bs h =
@@ -70,27 +71,33 @@ pub entry_remainder : (n : ℕ) → n < 32 → get_or CRC5_TABLE n 0 ≡ crc5_en
 entry_remainder n h = entry 32 CRC5_TABLE crc5_entry n table_remainders h
 
 crc5_entry-shifts : (n : ℕ) → n < 32 → crc5_entry n ≡ shifted_times 5 n
-crc5_entry-shifts n h = sym (entry_remainder n h) ∙ entry 32 CRC5_TABLE (shifted_times 5) n table_shifts h
+crc5_entry-shifts n h =
+    sym (entry_remainder n h) ∙ entry 32 CRC5_TABLE (shifted_times 5) n table_shifts h
 
 -- a remainder is five bits long
 length-remainder : (n : ℕ) → length (remainder (bits 5 n ++ replicate 5 false) crc5_divisor) ≡ 5
 length-remainder n =
-    let size : length (bits 5 n ++ replicate 5 false) ≡ 10 = length-append (bits 5 n) (replicate 5 false) ∙ ap (λ m. m + 5) (length-bits 5 n) in
-    rw size (length-division_steps 5 crc5_divisor (bits 5 n ++ replicate 5 false) ∙ ap (λ m. m - 5) size)
+    let size : length (bits 5 n ++ replicate 5 false) ≡ 10 =
+    length-append (bits 5 n) (replicate 5 false) ∙ ap (λ m. m + 5) (length-bits 5 n) in
+    rw size
+    (length-division_steps 5 crc5_divisor (bits 5 n ++ replicate 5 false) ∙ ap (λ m. m - 5) size)
 
 pub crc5_entry-lt : (n : ℕ) → crc5_entry n < 32
 crc5_entry-lt n =
     rw (length-remainder n) at (number-lt (remainder (bits 5 n ++ replicate 5 false) crc5_divisor))
 
-pub table_entry-bits : (n : ℕ) → n < 32 → bits 5 (get_or CRC5_TABLE n 0) ≡ remainder (bits 5 n ++ replicate 5 false) crc5_divisor
+pub table_entry-bits : (n : ℕ) → n < 32
+    → bits 5 (get_or CRC5_TABLE n 0) ≡ remainder (bits 5 n ++ replicate 5 false) crc5_divisor
 table_entry-bits n h =
     let back : bits 5 (crc5_entry n) ≡ remainder (bits 5 n ++ replicate 5 false) crc5_divisor =
-    rw (length-remainder n) at (bits-number (remainder (bits 5 n ++ replicate 5 false) crc5_divisor)) in
+    rw (length-remainder n) at
+    (bits-number (remainder (bits 5 n ++ replicate 5 false) crc5_divisor)) in
     ap (bits 5) (entry_remainder n h) ∙ back
 
 -- five bits behind the register lead it to an entry
 fed : (r v : ℕ) (bs : List Bool) → r < 32 → v < 32
-    → division_steps 5 crc5_divisor (added (bits 5 r) (bits 5 v ++ bs)) ≡ added (bits 5 (crc5_entry (bit_xor r v))) bs
+    → division_steps 5 crc5_divisor (added (bits 5 r) (bits 5 v ++ bs))
+    ≡ added (bits 5 (crc5_entry (bit_xor r v))) bs
 fed r v bs h below =
     let fits : bit_xor r v < 32 = xor_lt 5 r v h below in
     ap (division_steps 5 crc5_divisor) (absorbed 5 r v 0 (bits 5 v) bs (sym (append-nil (bits 5 v)))
@@ -107,11 +114,13 @@ front_five k n width e =
 
 fed_front : (k r n width : ℕ) (bs : List Bool) → r < 32 → width ≡ 5 + k
     → division_steps width crc5_divisor (added (bits 5 r) (bits width n ++ bs))
-    ≡ division_steps k crc5_divisor (added (bits 5 (crc5_entry (bit_xor r (n / 2 ^ k % 32)))) (bits k n ++ bs))
+    ≡ division_steps k crc5_divisor
+    (added (bits 5 (crc5_entry (bit_xor r (n / 2 ^ k % 32)))) (bits k n ++ bs))
 fed_front k r n width bs h e =
     division_steps-add 5 k width crc5_divisor _ e
     ∙ ap (λ t. division_steps k crc5_divisor (division_steps 5 crc5_divisor (added (bits 5 r) t)))
-    (ap (λ t. t ++ bs) (front_five k n width e) ∙ append_assoc (bits 5 (n / 2 ^ k % 32)) (bits k n) bs)
+    (ap (λ t. t ++ bs) (front_five k n width e)
+    ∙ append_assoc (bits 5 (n / 2 ^ k % 32)) (bits k n) bs)
     ∙ ap (division_steps k crc5_divisor) (fed r (n / 2 ^ k % 32) (bits k n ++ bs) h (omega arith))
 
 -- nineteen bits of fields, twenty-five that are divided, and five of CRC
@@ -124,7 +133,8 @@ unfolding crc5_message
 length-crc5_message symbol = simp (length-append, length-complemented, length-field_bits)
 
 -- twenty steps are taken
-pub crc5_of-steps : (symbol : Fields) → crc5_of symbol ≡ division_steps 20 crc5_divisor (crc5_message symbol)
+pub crc5_of-steps : (symbol : Fields)
+    → crc5_of symbol ≡ division_steps 20 crc5_divisor (crc5_message symbol)
 unfolding crc5_of
 crc5_of-steps symbol = rw (length-crc5_message symbol)
 
@@ -136,7 +146,9 @@ length-crc5_of symbol =
 -- the CRC as a number, and back
 pub crc5_value-lt : (symbol : Fields) → crc5_value symbol < 32
 unfolding crc5_value
-crc5_value-lt symbol = let size : length (crc5_of symbol) ≡ 5 = length-crc5_of symbol in rw size at (number-lt (crc5_of symbol))
+crc5_value-lt symbol =
+    let size : length (crc5_of symbol) ≡ 5 = length-crc5_of symbol in
+    rw size at (number-lt (crc5_of symbol))
 
 pub bits-crc5_value : (symbol : Fields) → bits 5 (crc5_value symbol) ≡ crc5_of symbol
 unfolding crc5_value
@@ -144,10 +156,12 @@ bits-crc5_value symbol = rw (length-crc5_of symbol) at (bits-number (crc5_of sym
 
 -- the nineteen bits, each field written behind the ones before it
 pub bits-fields : (symbol : Fields) → InRange symbol
-    → bits 19 ((((symbol.s0 * 32 + symbol.p0) * 32 + symbol.p1) * 8 + symbol.s1) * 8 + symbol.cmd) ≡ field_bits symbol
+    → bits 19 ((((symbol.s0 * 32 + symbol.p0) * 32 + symbol.p1) * 8 + symbol.s1) * 8 + symbol.cmd)
+    ≡ field_bits symbol
 unfolding field_bits
 bits-fields symbol range =
-    bits_cat 16 3 (((symbol.s0 * 32 + symbol.p0) * 32 + symbol.p1) * 8 + symbol.s1) symbol.cmd 19 refl range.cmd
+    bits_cat 16 3 (((symbol.s0 * 32 + symbol.p0) * 32 + symbol.p1) * 8 + symbol.s1) symbol.cmd 19
+    refl range.cmd
     ∙ ap (λ front. front ++ bits 3 symbol.cmd)
     (bits_cat 13 3 ((symbol.s0 * 32 + symbol.p0) * 32 + symbol.p1) symbol.s1 16 refl range.s1
     ∙ ap (λ front. front ++ bits 3 symbol.s1)
@@ -172,7 +186,9 @@ message_is symbol n e =
 -- what stands alone in the register
 alone : (r : ℕ) → added (bits 5 r) (replicate 5 false) ≡ bits 5 r
 alone r =
-    let whole : added (bits 5 r ++ []) (replicate (length (bits 5 r)) false ++ []) ≡ bits 5 r ++ [] = added_to_zeros (bits 5 r) [] 0 in
+    let whole : added (bits 5 r ++ []) (replicate (length (bits 5 r)) false ++ [])
+    ≡ bits 5 r ++ [] =
+    added_to_zeros (bits 5 r) [] 0 in
     let size : length (bits 5 r) ≡ 5 = length-bits 5 r in
     rw (append-nil (bits 5 r), size) at whole
 
@@ -187,8 +203,10 @@ nothing_left n bs = refl
 
 -- the register after four times five bits has the CRC
 pub crc5_of-table : (symbol : Fields) (n a b c d : ℕ) → bits 19 n ≡ field_bits symbol
-    → a ≡ crc5_entry (bit_xor 31 (n * 2 / 2 ^ 15 % 32)) → b ≡ crc5_entry (bit_xor a (n * 2 / 2 ^ 10 % 32))
-    → c ≡ crc5_entry (bit_xor b (n * 2 / 2 ^ 5 % 32)) → d ≡ crc5_entry (bit_xor c (n * 2 / 2 ^ 0 % 32))
+    → a ≡ crc5_entry (bit_xor 31 (n * 2 / 2 ^ 15 % 32))
+    → b ≡ crc5_entry (bit_xor a (n * 2 / 2 ^ 10 % 32))
+    → c ≡ crc5_entry (bit_xor b (n * 2 / 2 ^ 5 % 32))
+    → d ≡ crc5_entry (bit_xor c (n * 2 / 2 ^ 0 % 32))
     → crc5_of symbol ≡ bits 5 d
 crc5_of-table symbol n a b c d e first second third fourth =
     let room : List Bool = replicate 5 false in
@@ -198,14 +216,16 @@ crc5_of-table symbol n a b c d e first second third fourth =
     let b_fits : b < 32 = rw second (crc5_entry-lt (bit_xor a (n * 2 / 2 ^ 10 % 32))) in
     let c_fits : c < 32 = rw third (crc5_entry-lt (bit_xor b (n * 2 / 2 ^ 5 % 32))) in
     crc5_of-steps symbol ∙ ap (division_steps 20 crc5_divisor) (message_is symbol n e)
-    ∙ fed_front 15 31 (n * 2) 20 room (omega arith) refl ∙ ap (λ r. turn 15 (behind 15 r)) (sym first)
+    ∙ fed_front 15 31 (n * 2) 20 room (omega arith) refl
+    ∙ ap (λ r. turn 15 (behind 15 r)) (sym first)
     ∙ fed_front 10 a (n * 2) 15 room a_fits refl ∙ ap (λ r. turn 10 (behind 10 r)) (sym second)
     ∙ fed_front 5 b (n * 2) 10 room b_fits refl ∙ ap (λ r. turn 5 (behind 5 r)) (sym third)
     ∙ fed_front 0 c (n * 2) 5 room c_fits refl ∙ ap (λ r. turn 0 (behind 0 r)) (sym fourth)
     ∙ no_steps crc5_divisor (behind 0 d) ∙ ap (added (bits 5 d)) (nothing_left (n * 2) room)
     ∙ alone d
 
-pub crc5_value-of_bits : (symbol : Fields) (d : ℕ) → d < 32 → crc5_of symbol ≡ bits 5 d → d ≡ crc5_value symbol
+pub crc5_value-of_bits : (symbol : Fields) (d : ℕ) → d < 32 → crc5_of symbol ≡ bits 5 d
+    → d ≡ crc5_value symbol
 unfolding crc5_value
 crc5_value-of_bits symbol d h e =
     let low : d ≡ d % 2 ^ 5 = omega arith in

@@ -1,5 +1,5 @@
--- The CRC of a control symbol: the polynomial and the preset are the standard's, the bit that is added
--- to the nineteen is this project's profile.
+-- The CRC of a control symbol: the polynomial and the preset are the standard's, the bit that is
+-- added to the nineteen is this project's profile.
 use Rattle.std.specs.Prelude.{ℕ, Bool, true, false, List, [], ◌∷◌, ◌++◌, replicate}
 use Rattle.crc_division.specs.Bits.{bits, number}
 use Rattle.crc_division.specs.Division.{remainder, complemented}

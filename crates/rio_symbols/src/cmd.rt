@@ -1,5 +1,5 @@
-//! The values of cmd: which request a link-request makes (RapidIO Interconnect Specification 1.3, Part 6,
-//! "Link-Request Control Symbol"). The others are reserved.
+//! The values of cmd: which request a link-request makes (RapidIO Interconnect Specification 1.3,
+//! Part 6, "Link-Request Control Symbol"). The others are reserved.
 
 /// The far port is to be reset.
 pub const RESET_DEVICE: u8 = 3;

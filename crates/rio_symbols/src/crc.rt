@@ -7,7 +7,8 @@ ghost use Rattle.rio_symbols.specs.Crc5.{field_bits, crc5_divisor, crc5_entry, c
 use crate::symbol::Symbol;
 
 /// The CRC of five bits: the entry of a number below 32 is the remainder of its five bits and five
-/// 0 bits by x^5 + x^4 + x^2 + 1 (RapidIO Interconnect Specification 1.3, Part 6, control symbol CRC).
+/// 0 bits by x^5 + x^4 + x^2 + 1 (RapidIO Interconnect Specification 1.3, Part 6, control symbol
+/// CRC).
 pub const CRC5_TABLE: [u8; 32] = [
     0x00, 0x15, 0x1f, 0x0a, 0x0b, 0x1e, 0x14, 0x01, 0x16, 0x03, 0x09, 0x1c, 0x1d, 0x08, 0x02, 0x17,
     0x19, 0x0c, 0x06, 0x13, 0x12, 0x07, 0x0d, 0x18, 0x0f, 0x1a, 0x10, 0x05, 0x04, 0x11, 0x1b, 0x0e,

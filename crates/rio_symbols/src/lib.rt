@@ -7,7 +7,8 @@
 //!
 //! - `Symbol`: the five fields, each within its width.
 //! - `stype0`, `stype1`, `cmd`: the names of what these fields say.
-//! - `crc5`: the CRC of the fields, by `CRC5_TABLE`; `crc5_table_has_remainders` says what its entries are.
+//! - `crc5`: the CRC of the fields, by `CRC5_TABLE`; `crc5_table_has_remainders` says what its
+//!   entries are.
 //! - `to_bytes`, `from_bytes`, `BadCrc`: the spelling, in both directions.
 //! - `Delimiter`, `delimiter`: the special character that is sent before a symbol.
 //! - `spelling_laws`, `delimiter_laws`: facts about the spelling of any numbers, for proofs above.

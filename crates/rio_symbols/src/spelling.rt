@@ -64,8 +64,9 @@ pub fn from_bytes(bytes: &[u8; 3]) -> Result<Symbol, BadCrc>
     }
 }
 
-/// What holds of the spelling of any three numbers, bytes or not: `spelled` decides `Spells`, a symbol
-/// has one spelling, and bytes spell one symbol at most. For proofs above; the call does nothing.
+/// What holds of the spelling of any three numbers, bytes or not: `spelled` decides `Spells`, a
+/// symbol has one spelling, and bytes spell one symbol at most. For proofs above; the call does
+/// nothing.
 pub fn spelling_laws()
     ensures some { (x y z : ℕ) (s : Fields) → spelled x y z ≡ Some s → Spells s (x ∷ y ∷ z ∷ []) }
     ensures back { (x y z : ℕ) (s : Fields) → Spells s (x ∷ y ∷ z ∷ []) → spelled x y z ≡ Some s }

@@ -1,5 +1,5 @@
-//! The values of stype1: what a symbol tells the receiver of packets (RapidIO Interconnect Specification
-//! 1.3, Part 6, "Stype1 Control Symbols"). 6 is reserved.
+//! The values of stype1: what a symbol tells the receiver of packets (RapidIO Interconnect
+//! Specification 1.3, Part 6, "Stype1 Control Symbols"). 6 is reserved.
 
 /// A packet begins. One that is in progress ends here.
 pub const START_OF_PACKET: u8 = 0;

@@ -2,8 +2,8 @@
 use super::*;
 use Delimiter::{Pd, Sc};
 
-/// The fields, the bytes and the delimiter, as the examples of docs/symbols.md have them; a bit-serial
-/// register in another language gives the same CRCs.
+/// The fields, the bytes and the delimiter, as the examples of docs/symbols.md have them; a
+/// bit-serial register in another language gives the same CRCs.
 #[test]
 fn example_symbols_are_read_and_written(rt: HostRuntime) {
     let examples: [([u8; 5], [u8; 3], Delimiter); 20] = [

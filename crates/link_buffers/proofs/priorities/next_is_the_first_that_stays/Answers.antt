@@ -1,4 +1,5 @@
-use Rattle.link_buffers.proofs.PriorityLaws.{slice_get-lists_without, packets_of-next, Covers-next}
+use Rattle.link_buffers.proofs.PriorityLists.{slice_get-lists_without}
+use Rattle.link_buffers.proofs.PriorityLaws.{packets_of-next, Covers-next}
 use Rattle.link_buffers.proofs.priorities.next_is_the_first_that_stays.Goals as goal
 
 pub returns-clause-place : goal.returns-clause-place

@@ -1,4 +1,4 @@
-use Rattle.link_buffers.proofs.PriorityLaws.{packets_of-append, lists_without-append}
+use Rattle.link_buffers.proofs.PriorityLists.{packets_of-append, lists_without-append}
 use Rattle.link_buffers.proofs.priorities.taken_in_turn.Goals as goal
 
 pub returns-clause-taken : goal.returns-clause-taken

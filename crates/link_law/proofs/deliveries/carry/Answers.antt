@@ -7,6 +7,9 @@ pub returns-clause-told : goal.returns-clause-told
 returns-clause-told c = record {
   got_is = c.in_ok-delivery.ensures.got;
   moves_are = c.in_ok-delivery.ensures.moves;
-  answers_are = c.in_ok-answers.ensures.sent ∙ ap (λ (replies : List Fields). (answers replies).chars) (c.as_slice.ensures.value ∙ c.in_ok-delivery.ensures.replies);
+  answers_are =
+      c.in_ok-answers.ensures.sent
+      ∙ ap (λ (replies : List Fields). (answers replies).chars)
+      (c.as_slice.ensures.value ∙ c.in_ok-delivery.ensures.replies);
   found_is = c.in_ok-delivery.ensures.undetected;
 }

@@ -6,4 +6,5 @@ pub returns-clause-one : goal.returns-clause-one
 returns-clause-one c = one_reply
 
 pub returns-clause-start_or_end : goal.returns-clause-start_or_end
-returns-clause-start_or_end c port symbol ends = start_or_end_has_none (after_hearing port symbol).input symbol.s1 symbol.cmd ends
+returns-clause-start_or_end c port symbol ends =
+    start_or_end_has_none (after_hearing port symbol).input symbol.s1 symbol.cmd ends

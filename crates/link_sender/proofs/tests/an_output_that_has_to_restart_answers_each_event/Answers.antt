@@ -7,4 +7,6 @@ use Rattle.link_sender.proofs.tests.an_output_that_has_to_restart_answers_each_e
 
 pub turn-started-requires : goal.turn-started-requires
 turn-started-requires g c =
-    subst (λ (w : Outstanding). Covers w.prios c.in_ok-store.store) (sym (ap (λ (t : Turned). outstanding_of t.state) (c.restart-port.ensures None))) (λ prio. omega arith)
+    subst (λ (w : Outstanding). Covers w.prios c.in_ok-store.store)
+    (sym (ap (λ (t : Turned). outstanding_of t.state) (c.restart-port.ensures None)))
+    (λ prio. omega arith)

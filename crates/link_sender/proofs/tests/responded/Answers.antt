@@ -9,10 +9,17 @@ use Rattle.link_sender.proofs.tests.responded.Goals.{then-asked, else-asked}
 
 pub response-requires-clause-covered : goal.response-requires-clause-covered
 response-requires-clause-covered c =
-    let stopped = subst (λ (w : Outstanding). Covers w.prios c.in_ok-store.store) (sym (ap outstanding_of (c.not_accepted-port.ensures 0))) c.sending.ensures in
+    let stopped =
+    subst (λ (w : Outstanding). Covers w.prios c.in_ok-store.store)
+    (sym (ap outstanding_of (c.not_accepted-port.ensures 0))) c.sending.ensures in
     elim c.if-asked.branch [
       | then-asked w ↦
-          let asked = subst (λ (v : Outstanding). Covers v.prios c.in_ok-store.store) (sym (ap (λ (t : Turned). outstanding_of t.state) (w.request-port.ensures None))) stopped in
-          subst (λ (s : ErrorStopped). Covers s.outstanding.prios c.in_ok-store.store) (sym w.port-is) asked
-      | else-asked w ↦ subst (λ (s : ErrorStopped). Covers s.outstanding.prios c.in_ok-store.store) (sym w.port-is) stopped
+          let asked =
+          subst (λ (v : Outstanding). Covers v.prios c.in_ok-store.store)
+          (sym (ap (λ (t : Turned). outstanding_of t.state) (w.request-port.ensures None)))
+          stopped in
+          subst (λ (s : ErrorStopped). Covers s.outstanding.prios c.in_ok-store.store)
+          (sym w.port-is) asked
+      | else-asked w ↦ subst (λ (s : ErrorStopped). Covers s.outstanding.prios c.in_ok-store.store)
+          (sym w.port-is) stopped
     ]

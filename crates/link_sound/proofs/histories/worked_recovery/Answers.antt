@@ -2,4 +2,5 @@ use Rattle.link_sound.proofs.WorkedRecoveries.{asked, recovered, recovery_comes,
 use Rattle.link_sound.proofs.histories.worked_recovery.Goals as goal
 
 pub returns : goal.returns
-returns c = (asked, recovered, recovery_comes, is_asked, recovery_ends, is_recovered, recovered_arrive)
+returns c =
+    (asked, recovered, recovery_comes, is_asked, recovery_ends, is_recovered, recovered_arrive)

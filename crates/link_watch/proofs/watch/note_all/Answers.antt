@@ -11,7 +11,9 @@ returns-in-Err-clause-stopped g c =
     record {
       front = take i notes;
       rest = note ∷ drop (suc i) notes;
-      whole = split_at notes i note (omega arith) ∙ ap (λ (n : Note). take i notes ++ n ∷ drop (suc i) notes) (sym c.note-item.is);
+      whole =
+          split_at notes i note (omega arith)
+          ∙ ap (λ (n : Note). take i notes ++ n ∷ drop (suc i) notes) (sym c.note-item.is);
       mid = c.loop-note.watch;
       grown = c.loop-note.invariant.grown;
       cut_at = c.in-Err.ensures.stopped;

@@ -12,5 +12,7 @@ returns-in-Nothing-clause-shows c = λ acted at.
     let kept = c.args.kept.now.items in
     let moves = c.args.came.now.moves.items in
     let replies = c.args.came.now.replies.items in
-    subst (λ (w : Completed). Shows (come (placed at (completed_events w c.args.packet.now)) (flow_of port kept moves replies acted (suc at))) None (suc at) port kept moves replies) (sym c.in-Nothing.is)
+    subst (λ (w : Completed). Shows (come (placed at (completed_events w c.args.packet.now))
+    (flow_of port kept moves replies acted (suc at))) None (suc at) port kept moves replies)
+    (sym c.in-Nothing.is)
     (come_nothing port kept moves replies acted (suc at))

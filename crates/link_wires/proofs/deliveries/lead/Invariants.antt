@@ -7,8 +7,11 @@ use Rattle.link_wires.proofs.deliveries.lead.Given as goal
 abbrev pub invariant-loop-taken : goal.invariant-loop-taken
 invariant-loop-taken l = record {
   within : l.taken ≤ length l.chars;
-  so_far : (acted : List Event) × (flows (drop l.taken l.chars) (flow_of l.port l.kept.items l.came.moves.items l.came.replies.items acted l.taken)
-      ≡ flows l.chars (flow_of l.initial.port l.initial.kept.items l.initial.came.moves.items l.initial.came.replies.items [] 0));
+  so_far : (acted : List Event)
+      × (flows (drop l.taken l.chars)
+      (flow_of l.port l.kept.items l.came.moves.items l.came.replies.items acted l.taken)
+      ≡ flows l.chars (flow_of l.initial.port l.initial.kept.items l.initial.came.moves.items
+      l.initial.came.replies.items [] 0));
 }
 
 abbrev pub decreases-loop-taken : goal.decreases-loop-taken

@@ -6,7 +6,8 @@ pub loop-rest-init : goal.loop-rest-init
 loop-rest-init c = record {
   within = omega arith;
   below = omega arith;
-  digits = DigitsFrom-begin c.args.number c.args.digits.now (omega arith) (omega arith) (omega arith);
+  digits =
+      DigitsFrom-begin c.args.number c.args.digits.now (omega arith) (omega arith) (omega arith);
 }
 
 pub loop-rest-preserved : goal.loop-rest-preserved
@@ -16,5 +17,7 @@ loop-rest-preserved c =
     record {
       within = omega arith;
       below = step.1;
-      digits = DigitsFrom-step c.args.number loop.rest loop.begin loop.digits (omega arith) (omega arith) step.0 (omega arith) loop.invariant.digits;
+      digits =
+          DigitsFrom-step c.args.number loop.rest loop.begin loop.digits (omega arith) (omega arith)
+          step.0 (omega arith) loop.invariant.digits;
     }

@@ -6,4 +6,5 @@ pub loop-i-preserved : goal.loop-i-preserved
 loop-i-preserved c =
     let below : c.loop-i.i < length c.args.chars.now = omega arith in
     let fits : length c.loop-i.room ≡ 4 * length c.args.chars.now = omega arith in
-    rw (c.hex_digit.ensures, c.hex_digit-in-loop-i.ensures, c.byte_of-byte.ensures) (spaced-step c.loop-i.room c.args.chars.now c.loop-i.i _ below fits c.requires.are_data c.loop-i.invariant)
+    rw (c.hex_digit.ensures, c.hex_digit-in-loop-i.ensures, c.byte_of-byte.ensures) (spaced-step
+    c.loop-i.room c.args.chars.now c.loop-i.i _ below fits c.requires.are_data c.loop-i.invariant)

@@ -10,5 +10,13 @@ loop-rest-init g c =
 
 pub loop-rest-preserved : goal.loop-rest-preserved
 loop-rest-preserved g c =
-    let more = AppendsFront-more _ _ (g.K.Sink.written c.write.new.self) c.args.bytes.now c.loop-rest.rest.now c.in_ok-count.count c.loop-rest.invariant.0 c.loop-rest.invariant.1 c.in_ok-count.ensures.bytes in
-    (more.0, more.1 ∙ sym (take_rest c.loop-rest.rest.now c.in_ok-count.count), c.in_ok-count.ensures.counts ∙ c.loop-rest.invariant.2)
+    let more =
+    AppendsFront-more _ _ (g.K.Sink.written c.write.new.self) c.args.bytes.now
+    c.loop-rest.rest.now c.in_ok-count.count c.loop-rest.invariant.0 c.loop-rest.invariant.1
+    c.in_ok-count.ensures.bytes in (
+      more.0,
+      more.1
+          ∙ sym (take_rest c.loop-rest.rest.now c.in_ok-count.count),
+      c.in_ok-count.ensures.counts
+          ∙ c.loop-rest.invariant.2,
+    )

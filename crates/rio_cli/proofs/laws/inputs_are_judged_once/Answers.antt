@@ -6,6 +6,7 @@ use Rattle.rio_cli.proofs.laws.inputs_are_judged_once.Goals as goal
 pub returns : goal.returns
 returns c = record {
   once = refused_once_too;
-  apart = λ command bytes line reason refused is. not_refused_too command bytes line reason is refused;
+  apart =
+      λ command bytes line reason refused is. not_refused_too command bytes line reason is refused;
   one_spelling = λ bytes chars others h k. AreTexts-once (words_of bytes) chars others h k;
 }

@@ -23,7 +23,15 @@ returns g c =
     let line = decimal c.args.refusal.now.line in
     let reason = reason_text c.args.refusal.now.command c.args.refusal.now.reason in
     let Fourth : List ℕ → Type 0 = λ text. WritesUnless b3 (w m3) (f m3) b4 (w m4) (f m4) text in
-    let two = WritesUnless-then false (w m0) (f m0) b1 (w m1) (f m1) b2 (w m2) (f m2) begin line c.write_unless-failed.ensures c.write_number-failed.ensures in
-    let three = WritesUnless-then false (w m0) (f m0) b2 (w m2) (f m2) b3 (w m3) (f m3) (begin ++ line) (codes ": ") two c.write_unless-failed-2.ensures in
-    let four = WritesUnless-then false (w m0) (f m0) b3 (w m3) (f m3) b4 (w m4) (f m4) (begin ++ line ++ codes ": ") reason three (subst Fourth c.reason_text.ensures c.write_unless-failed-3.ensures) in
-    WritesUnless-then false (w m0) (f m0) b4 (w m4) (f m4) c.write_unless.result (w m5) (f m5) (begin ++ line ++ codes ": " ++ reason) (codes "\n") four c.write_unless.ensures
+    let two =
+    WritesUnless-then false (w m0) (f m0) b1 (w m1) (f m1) b2 (w m2) (f m2) begin line
+    c.write_unless-failed.ensures c.write_number-failed.ensures in
+    let three =
+    WritesUnless-then false (w m0) (f m0) b2 (w m2) (f m2) b3 (w m3) (f m3) (begin ++ line)
+    (codes ": ") two c.write_unless-failed-2.ensures in
+    let four =
+    WritesUnless-then false (w m0) (f m0) b3 (w m3) (f m3) b4 (w m4) (f m4)
+    (begin ++ line ++ codes ": ") reason three
+    (subst Fourth c.reason_text.ensures c.write_unless-failed-3.ensures) in
+    WritesUnless-then false (w m0) (f m0) b4 (w m4) (f m4) c.write_unless.result (w m5) (f m5)
+    (begin ++ line ++ codes ": " ++ reason) (codes "\n") four c.write_unless.ensures

@@ -17,27 +17,47 @@ returns-in-Some g c =
     let w' = g.K.Sink.written c.run_input.new.sink in
     let answer = c.run_input.result.status in
     let h = c.run_input.ensures.says in
-    let As : Command → Type 0 = λ k. SaysOfInput k answer l l2 (g.S.Source.faults c.args.source.now) (g.S.Source.faults c.run_input.new.source) w (g.K.Sink.faults c.args.sink.now) w' (g.K.Sink.faults c.run_input.new.sink) in
+    let As : Command → Type 0 =
+    λ k. SaysOfInput k answer l l2 (g.S.Source.faults c.args.source.now)
+    (g.S.Source.faults c.run_input.new.source) w (g.K.Sink.faults c.args.sink.now) w'
+    (g.K.Sink.faults c.run_input.new.sink) in
     record {
       ended = record {
         words = λ e. absurd (says_at command _ _ _ _ _ _ _ _ answer Words h e);
         other_words = λ other. absurd (other command known);
         done = λ e. (command, known, says_at command _ _ _ _ _ _ _ _ answer Done h e);
         script = λ e. (command, known, says_at command _ _ _ _ _ _ _ _ answer Script h e);
-        too_long = λ e. let t = says_at command _ _ _ _ _ _ _ _ answer TooLong h e in (command, known, t.0, t.1);
+        too_long =
+            λ e. let t = says_at command _ _ _ _ _ _ _ _ answer TooLong h e in
+            (command, known, t.0, t.1);
         bounded = c.run_input.ensures.bounded;
         read_fault = λ e. says_at command _ _ _ _ _ _ _ _ answer ReadFault h e;
-        write_fault = λ e. let t = says_at command _ _ _ _ _ _ _ _ answer WriteFault h e in (t.0, inr (command, known, t.1));
+        write_fault =
+            λ e. let t = says_at command _ _ _ _ _ _ _ _ answer WriteFault h e in
+            (t.0, inr (command, known, t.1));
         reads_counted = c.run_input.ensures.reads;
         writes_counted = c.run_input.ensures.writes;
         never_falls = (c.run_input.ensures.source, c.run_input.ensures.sink);
         no_memory = λ e. says_at command _ _ _ _ _ _ _ _ answer NoMemory h e;
-        never = ((λ e. says_at command _ _ _ _ _ _ _ _ answer Undetected h e), (λ e. says_at command _ _ _ _ _ _ _ _ answer Locked h e));
-        accepted = λ k bytes is has ok calm. accepts k _ _ _ _ _ _ _ _ answer (subst As (same_command command k words known is) h) bytes has.told has.within (accepted_stays k bytes w w' ok) calm.reads calm.writes;
-        refused = λ k bytes line reason is has not_ok calm. refuses k _ _ _ _ _ _ _ _ answer (subst As (same_command command k words known is) h) bytes has.told has.within (refused_stays k bytes line reason w w' not_ok) calm.reads calm.writes;
-        longer = λ k bytes is e long calm. lengthy command _ _ _ _ _ _ _ _ answer h bytes e long calm.reads calm.writes;
+        never = (
+          (λ e. says_at command _ _ _ _ _ _ _ _ answer Undetected h e),
+          (λ e. says_at command _ _ _ _ _ _ _ _ answer Locked h e),
+        );
+        accepted =
+            λ k bytes is has ok calm. accepts k _ _ _ _ _ _ _ _ answer
+            (subst As (same_command command k words known is) h) bytes has.told has.within
+            (accepted_stays k bytes w w' ok) calm.reads calm.writes;
+        refused =
+            λ k bytes line reason is has not_ok calm. refuses k _ _ _ _ _ _ _ _ answer
+            (subst As (same_command command k words known is) h) bytes has.told has.within
+            (refused_stays k bytes line reason w w' not_ok) calm.reads calm.writes;
+        longer =
+            λ k bytes is e long calm. lengthy command _ _ _ _ _ _ _ _ answer h bytes e long
+            calm.reads calm.writes;
       };
-      refuses = Refuses-input command words answer c.run_input.result.refusal l l2 w w' known c.run_input.ensures.refuses;
+      refuses =
+          Refuses-input command words answer c.run_input.result.refusal l l2 w w' known
+          c.run_input.ensures.refuses;
     }
 
 pub returns-in-None : goal.returns-in-None
@@ -46,7 +66,9 @@ returns-in-None g c =
     let other = c.in-None.ensures in
     let h = c.refuse.ensures.answers in
     let S = g.S.Source.left in
-    let ending : Ended words c.refuse.result g.S.Source.left g.S.Source.faults c.args.source.now c.args.source.now g.K.Sink.written g.K.Sink.faults c.args.sink.now c.refuse.new.sink = record {
+    let ending : Ended words c.refuse.result g.S.Source.left g.S.Source.faults c.args.source.now
+    c.args.source.now g.K.Sink.written g.K.Sink.faults c.args.sink.now c.refuse.new.sink =
+    record {
       words = λ e. (other, refusal_told _ _ _ _ _ _ _ (λ t. cc) h e);
       other_words = λ u. (refl, refusal_either _ _ _ _ _ _ _ h);
       done = λ e. absurd (no_other _ _ _ _ _ _ _ Done (λ t. cc) (λ t. cc) h e);
@@ -54,14 +76,21 @@ returns-in-None g c =
       too_long = λ e. absurd (no_other _ _ _ _ _ _ _ TooLong (λ t. cc) (λ t. cc) h e);
       bounded = took_none (g.S.Source.left c.args.source.now);
       read_fault = λ e. absurd (no_other _ _ _ _ _ _ _ ReadFault (λ t. cc) (λ t. cc) h e);
-      write_fault = λ e. let t = refusal_failed _ _ _ _ _ _ _ (λ t. cc) h e in (t.0, inl (other, t.1));
+      write_fault =
+          λ e. let t = refusal_failed _ _ _ _ _ _ _ (λ t. cc) h e in (t.0, inl (other, t.1));
       reads_counted = λ e. refl;
       writes_counted = c.refuse.ensures.writes;
       never_falls = (omega arith, c.refuse.ensures.sink);
       no_memory = λ e. absurd (no_other _ _ _ _ _ _ _ NoMemory (λ t. cc) (λ t. cc) h e);
-      never = ((λ e. no_other _ _ _ _ _ _ _ Undetected (λ t. cc) (λ t. cc) h e), (λ e. no_other _ _ _ _ _ _ _ Locked (λ t. cc) (λ t. cc) h e));
+      never = (
+        (λ e. no_other _ _ _ _ _ _ _ Undetected (λ t. cc) (λ t. cc) h e),
+        (λ e. no_other _ _ _ _ _ _ _ Locked (λ t. cc) (λ t. cc) h e),
+      );
       accepted = λ k bytes is. absurd (other k is);
       refused = λ k bytes line reason is. absurd (other k is);
       longer = λ k bytes is. absurd (other k is);
     } in
-    rw c.ended.ensures (record { ended = ending; refuses = λ e. no_other _ _ _ _ _ _ _ Script (λ t. cc) (λ t. cc) h e })
+    rw c.ended.ensures (record {
+      ended = ending;
+      refuses = λ e. no_other _ _ _ _ _ _ _ Script (λ t. cc) (λ t. cc) h e;
+    })

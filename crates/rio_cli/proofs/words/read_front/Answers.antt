@@ -11,10 +11,12 @@ loop-left-preserved c =
     let h = c.loop-left.invariant in
     let read = c.in-Some.read in
     let space : get_or c.loop-left.left.now 3 0 ≡ 32 = search rules in
-    let turn = words-turn c.loop-left.left.now read c.in-32.len_at_least space c.in-Some.ensures.text in (
+    let turn =
+    words-turn c.loop-left.left.now read c.in-32.len_at_least space c.in-Some.ensures.text in (
       h.0 ++ read ∷ [],
       h.1 ++ char_text_of read ∷ [],
       c.in_ok-push.ensures.items ∙ ap (λ xs. xs ++ read ∷ []) h.2 ∙ append_assoc _ h.0 (read ∷ []),
       h.3 ∙ ap (λ ws. h.1 ++ ws) turn ∙ sym (append_assoc h.1 (char_text_of read ∷ []) _),
-      AreTexts-append h.1 (char_text_of read ∷ []) h.0 (read ∷ []) h.4 (c.in-Some.ensures.byte, refl, tt),
+      AreTexts-append h.1 (char_text_of read ∷ []) h.0 (read ∷ []) h.4
+          (c.in-Some.ensures.byte, refl, tt),
     )

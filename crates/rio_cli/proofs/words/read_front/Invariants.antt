@@ -4,7 +4,8 @@ use Rattle.rio_cli.specs.Decoding.{words_in, AreTexts}
 use Rattle.rio_cli.proofs.words.read_front.Given as goal
 
 abbrev pub invariant-loop-left : goal.invariant-loop-left
-invariant-loop-left l = (more : List Char) × (words : List (List ℕ)) × (l.chars.items ≡ l.initial.chars.items ++ more)
+invariant-loop-left l =
+    (more : List Char) × (words : List (List ℕ)) × (l.chars.items ≡ l.initial.chars.items ++ more)
     × (words_in l.fn.text ≡ words ++ words_in l.left) × AreTexts words more
 
 abbrev pub decreases-loop-left : goal.decreases-loop-left

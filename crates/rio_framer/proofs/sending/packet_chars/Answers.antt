@@ -17,4 +17,5 @@ returns c =
       c.symbol_chars.ensures,
       c.new-chars.ensures,
     )
-    (append_assoc (symbol_chars_of c.args.start.now) (data_chars (bytes_with_ack c.args.ack c.args.packet.now)) (symbol_chars_of c.args.end.now))
+    (append_assoc (symbol_chars_of c.args.start.now)
+    (data_chars (bytes_with_ack c.args.ack c.args.packet.now)) (symbol_chars_of c.args.end.now))

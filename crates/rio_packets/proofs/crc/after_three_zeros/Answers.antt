@@ -4,4 +4,5 @@ use Rattle.rio_packets.proofs.TableLaws.{entry_three}
 use Rattle.rio_packets.proofs.crc.after_three_zeros.Goals as goal
 
 pub returns : goal.returns
-returns c = ap (λ n. get_or AFTER_THREE_ZEROS n 0) c.from.ensures ∙ entry_three c.args.byte (omega arith)
+returns c =
+    ap (λ n. get_or AFTER_THREE_ZEROS n 0) c.from.ensures ∙ entry_three c.args.byte (omega arith)

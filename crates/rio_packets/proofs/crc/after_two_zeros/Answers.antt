@@ -4,4 +4,5 @@ use Rattle.rio_packets.proofs.TableLaws.{entry_two}
 use Rattle.rio_packets.proofs.crc.after_two_zeros.Goals as goal
 
 pub returns : goal.returns
-returns c = ap (λ n. get_or AFTER_TWO_ZEROS n 0) c.from.ensures ∙ entry_two c.args.byte (omega arith)
+returns c =
+    ap (λ n. get_or AFTER_TWO_ZEROS n 0) c.from.ensures ∙ entry_two c.args.byte (omega arith)

@@ -7,9 +7,11 @@ pub loop-byte-preserved : goal.loop-byte-preserved
 loop-byte-preserved c =
     let bytes = c.args.bytes.now in
     let i = c.loop-byte.byte-index in
-    rw c.feed-after.ensures (sym (ap (fed_all c.loop-byte.after) (drop_more bytes i 0 (omega arith))) ∙ c.loop-byte.invariant)
+    rw c.feed-after.ensures (sym
+    (ap (fed_all c.loop-byte.after) (drop_more bytes i 0 (omega arith))) ∙ c.loop-byte.invariant)
 
 pub returns : goal.returns
 returns c =
     let bytes = c.args.bytes.now in
-    sym (ap (fed_all c.loop-byte.after) (drop_all c.loop-byte.byte-index bytes (omega arith))) ∙ c.loop-byte.invariant
+    sym (ap (fed_all c.loop-byte.after) (drop_all c.loop-byte.byte-index bytes (omega arith)))
+    ∙ c.loop-byte.invariant

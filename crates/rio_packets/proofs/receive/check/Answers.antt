@@ -5,14 +5,18 @@ use Rattle.rio_packets.proofs.CheckedLaws.{Says, says-checked, checked-many}
 use Rattle.rio_packets.proofs.receive.check.Goals as goal
 
 pub returns-then-bytes-gt-MAX_BYTES-clause-none : goal.returns-then-bytes-gt-MAX_BYTES-clause-none
-returns-then-bytes-gt-MAX_BYTES-clause-none c = carried-out_of_range c.args.bytes.now (inr c.if-bytes-gt-MAX_BYTES.true)
+returns-then-bytes-gt-MAX_BYTES-clause-none c =
+    carried-out_of_range c.args.bytes.now (inr c.if-bytes-gt-MAX_BYTES.true)
 
-pub returns-then-bytes-gt-MAX_BYTES-clause-checked : goal.returns-then-bytes-gt-MAX_BYTES-clause-checked
-returns-then-bytes-gt-MAX_BYTES-clause-checked c = sym (checked-many c.args.bytes.now c.if-bytes-gt-MAX_BYTES.true)
+pub returns-then-bytes-gt-MAX_BYTES-clause-checked :
+    goal.returns-then-bytes-gt-MAX_BYTES-clause-checked
+returns-then-bytes-gt-MAX_BYTES-clause-checked c =
+    sym (checked-many c.args.bytes.now c.if-bytes-gt-MAX_BYTES.true)
 
 says : (c : goal.After-finish) → Says c.args.bytes.now c.finish.result
 says c = says-checked c.args.bytes.now c.finish.result (c.finish.ensures
-    ∙ ap checked (c.push_all.ensures ∙ ap (λ (bytes : List ℕ). bytes ++ c.args.bytes.now) c.new-building.ensures))
+    ∙ ap checked (c.push_all.ensures
+    ∙ ap (λ (bytes : List ℕ). bytes ++ c.args.bytes.now) c.new-building.ensures))
 
 pub returns-clause-ok : goal.returns-clause-ok
 returns-clause-ok c = (says c).ok

@@ -8,7 +8,8 @@ use Rattle.rio_symbols.proofs.spelling.to_bytes.Goals as goal
 pub returns-clause-exact : goal.returns-clause-exact
 returns-clause-exact c =
     let s = c.symbol.inside in
-    ap (λ crc. bit_or (s.s0 * 32 % 256) s.p0 ∷ bit_or (s.p1 * 8 % 256) s.s1 ∷ bit_or (s.cmd * 32 % 256) crc ∷ [])
+    ap (λ crc. bit_or (s.s0 * 32 % 256) s.p0 ∷ bit_or (s.p1 * 8 % 256) s.s1
+    ∷ bit_or (s.cmd * 32 % 256) crc ∷ [])
     (c.crc5.ensures.value ∙ sym (ap crc5_value c.symbol.view_is))
     ∙ symbol_bytes-joined _ c.symbol.invariant ∙ ap symbol_bytes c.symbol.view_is
 

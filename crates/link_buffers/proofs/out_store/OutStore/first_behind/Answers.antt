@@ -6,13 +6,16 @@ pub returns-then-place-len-clause-highest : goal.returns-then-place-len-clause-h
 returns-then-place-len-clause-highest c =
     let prio = c.loop-prio.prio - 1 in
     let long = length_list_at-lists_without c.args.prios.now c.args.self.now prio in
-    sym (highest_below-found prio c.loop-prio.prio _ (omega arith) (omega arith)) ∙ c.loop-prio.invariant
+    sym (highest_below-found prio c.loop-prio.prio _ (omega arith) (omega arith))
+    ∙ c.loop-prio.invariant
 
 pub loop-prio-preserved : goal.loop-prio-preserved
 loop-prio-preserved c =
     let prio = c.loop-prio.prio - 1 in
     let long = length_list_at-lists_without c.args.prios.now c.args.self.now prio in
-    sym (highest_below-passed prio c.loop-prio.prio _ (omega arith) (omega arith)) ∙ c.loop-prio.invariant
+    sym (highest_below-passed prio c.loop-prio.prio _ (omega arith) (omega arith))
+    ∙ c.loop-prio.invariant
 
 pub returns-clause-highest : goal.returns-clause-highest
-returns-clause-highest c = sym (highest_below-zero c.loop-prio.prio _ (omega arith)) ∙ c.loop-prio.invariant
+returns-clause-highest c =
+    sym (highest_below-zero c.loop-prio.prio _ (omega arith)) ∙ c.loop-prio.invariant

@@ -4,4 +4,5 @@ use Rattle.link_buffers.proofs.out_store.OutStore.first_behind.Given as goal
 
 -- no higher priority has a packet that waits
 abbrev pub invariant-loop-prio : goal.invariant-loop-prio
-invariant-loop-prio l = highest_below l.prio (lists_without l.prios l.self) ≡ highest (lists_without l.prios l.self)
+invariant-loop-prio l =
+    highest_below l.prio (lists_without l.prios l.self) ≡ highest (lists_without l.prios l.self)

@@ -4,7 +4,11 @@ use Rattle.link_buffers.proofs.out_store.OutStore.put.Goals as goal
 pub invariant_of-self : goal.invariant_of-self
 invariant_of-self c =
     let room = rw (← c.self.view_is) at c.requires.room in
-    rw c.put.ensures.lists (c.self.invariant.0, IsOutStore-appended _ c.args.packet c.self.invariant.1 c.put.ensures.few c.put.ensures.packet room)
+    rw c.put.ensures.lists (
+      c.self.invariant.0,
+      IsOutStore-appended _ c.args.packet c.self.invariant.1 c.put.ensures.few c.put.ensures.packet
+          room,
+    )
 
 pub returns-clause-store : goal.returns-clause-store
 returns-clause-store c = (invariant_of-self c).1

@@ -18,12 +18,16 @@ returns-then-not-has-clause-steps g c =
     let s = link c.args.self.now c.args.a.now c.args.b.now in
     let from = c.args.from in
     let count = c.args.count in
-    let none : has_chars from count s ≡ false = sym (c.has.ensures c.args.a.now c.args.b.now) ∙ c.if-not-has.true in
-    λ l. subst (λ b. Walks (queues_of s) (steps_of (if b then told_notes (other_side from) (take count (from_end from s).wire_a.chars) (told_of (delivery_from from count s)) else [])) (queues_of s)) (sym none) Ends
+    let none : has_chars from count s ≡ false =
+    sym (c.has.ensures c.args.a.now c.args.b.now) ∙ c.if-not-has.true in
+    λ l. subst (λ b. Walks (queues_of s) (steps_of (if b
+    then told_notes (other_side from) (take count (from_end from s).wire_a.chars)
+    (told_of (delivery_from from count s)) else [])) (queues_of s)) (sym none) Ends
 
 pub returns-in_default-clause-stopped : goal.returns-in_default-clause-stopped
 returns-in_default-clause-stopped g c =
-    stopped_at_once g.W.Watch.grew g.W.Watch.cut g.met.W.Watch.grew_none g.met.W.Watch.cut_none c.args.watch.now
+    stopped_at_once g.W.Watch.grew g.W.Watch.cut g.met.W.Watch.grew_none g.met.W.Watch.cut_none
+    c.args.watch.now
     (delivery_notes c.args.from c.args.count (link c.args.self.now c.args.a.now c.args.b.now))
 
 pub returns-clause-sound : goal.returns-clause-sound
@@ -32,10 +36,14 @@ returns-clause-sound g c =
     let next = link c.carry.new.self c.carry.new.a c.carry.new.b in
     let from = c.args.from in
     let count = c.args.count in
-    let has : has_chars from count s ≡ true = sym (c.has.ensures c.args.a.now c.args.b.now) ∙ c.if-not-has.false in
-    subst (λ (r : Result Edited LinkEnd). OnOk r (IsSoundLink s → IsSoundLink next)) (sym c.ended.ensures)
+    let has : has_chars from count s ≡ true =
+    sym (c.has.ensures c.args.a.now c.args.b.now) ∙ c.if-not-has.false in
+    subst (λ (r : Result Edited LinkEnd). OnOk r (IsSoundLink s → IsSoundLink next))
+    (sym c.ended.ensures)
     (on_done c.note-noted.result.0 c.other-2.result c.note-noted.result.1 (λ none l.
-    let is : next ≡ delivered_from from count s = c.in-Ok.ensures.link (sym c.note-noted.ensures.undetected ∙ none) ∙ link_is from count s has in
+    let is : next ≡ delivered_from from count s =
+    c.in-Ok.ensures.link (sym c.note-noted.ensures.undetected ∙ none)
+    ∙ link_is from count s has in
     subst (λ (t : LinkState). IsSoundLink t) (sym is) (delivery_keeps from count s l)))
 
 pub returns-clause-steps : goal.returns-clause-steps
@@ -44,10 +52,17 @@ returns-clause-steps g c =
     let next = link c.carry.new.self c.carry.new.a c.carry.new.b in
     let from = c.args.from in
     let count = c.args.count in
-    let has : has_chars from count s ≡ true = sym (c.has.ensures c.args.a.now c.args.b.now) ∙ c.if-not-has.false in
-    subst (λ (r : Result Edited LinkEnd). OnOk r (IsSoundLink s → Walks (queues_of s) (steps_of (delivery_notes from count s)) (queues_of next))) (sym c.ended.ensures)
+    let has : has_chars from count s ≡ true =
+    sym (c.has.ensures c.args.a.now c.args.b.now) ∙ c.if-not-has.false in
+    subst (λ (r : Result Edited LinkEnd). OnOk r (IsSoundLink s
+    → Walks (queues_of s) (steps_of (delivery_notes from count s)) (queues_of next)))
+    (sym c.ended.ensures)
     (on_done c.note-noted.result.0 c.other-2.result c.note-noted.result.1 (λ none l.
     let found : c.in-Ok.carried.undetected ≡ None = sym c.note-noted.ensures.undetected ∙ none in
-    let is : next ≡ delivered_from from count s = c.in-Ok.ensures.link found ∙ link_is from count s has in
-    let sent : undetected (delivery_from from count s) ≡ None = sym c.in-Ok.ensures.told.found_is ∙ found in
-    subst (λ (t : LinkState). Walks (queues_of s) (steps_of (delivery_notes from count s)) (queues_of t)) (sym is) (delivery_walks from count s sent l)))
+    let is : next ≡ delivered_from from count s =
+    c.in-Ok.ensures.link found ∙ link_is from count s has in
+    let sent : undetected (delivery_from from count s) ≡ None =
+    sym c.in-Ok.ensures.told.found_is ∙ found in
+    subst
+    (λ (t : LinkState). Walks (queues_of s) (steps_of (delivery_notes from count s)) (queues_of t))
+    (sym is) (delivery_walks from count s sent l)))

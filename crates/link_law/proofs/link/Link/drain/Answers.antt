@@ -50,7 +50,8 @@ loop-preserved g c =
     let here = link c.loop.self c.loop.a c.loop.b in
     let next = link c.round.new.self c.round.new.a c.round.new.b in (
       draining_on {cut = g.W.Watch.cut} watch s here next c.args.watch.now c.loop.watch
-          c.round.new.watch c.loop.counter (omega arith) (c.is_idle.ensures c.loop.a c.loop.b ∙ ap not
+          c.round.new.watch c.loop.counter (omega arith)
+          (c.is_idle.ensures c.loop.a c.loop.b ∙ ap not
           c.if-is_idle.false) c.loop.invariant.0 c.in_default.ensures.does,
       (let before =
           c.loop.invariant.1 in let then_on = c.in_default.ensures.counts.1 in omega arith),

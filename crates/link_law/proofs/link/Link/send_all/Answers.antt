@@ -117,7 +117,8 @@ loop-alloc-preserved g c =
     let here = link c.loop-alloc.self c.loop-alloc.a c.loop-alloc.b in
     let next = link c.take_turn.new.self c.take_turn.new.a c.take_turn.new.b in (
       (sent_on {cut = g.W.Watch.cut} watch c.args.side s here next c.args.watch.now
-          c.loop-alloc.watch c.take_turn.new.watch (ap (λ (p : PortState). waits p) (sym (c.near.ensures
+          c.loop-alloc.watch c.take_turn.new.watch
+          (ap (λ (p : PortState). waits p) (sym (c.near.ensures
           c.loop-alloc.self)) ∙ sym c.is_waiting.ensures ∙ c.loop-alloc-test.true) (ap (λ (p :
           PortState). is_retry_stopped p.output) (sym (c.near-in-loop-alloc.ensures
           c.take_turn.new.self)) ∙ sym c.stands_back.ensures ∙ c.if-stands_back.false)

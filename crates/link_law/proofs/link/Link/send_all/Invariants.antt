@@ -6,7 +6,8 @@ use Rattle.link_law.proofs.link.Link.send_all.Given as goal
 
 abbrev pub invariant-loop-alloc : goal.invariant-loop-alloc
 invariant-loop-alloc g l =
-    Sent g.W.Watch.grew l.fn.side (link l.fn.self l.fn.a l.fn.b) l.fn.watch (link l.self l.a l.b) l.watch
+    Sent g.W.Watch.grew l.fn.side (link l.fn.self l.fn.a l.fn.b) l.fn.watch (link l.self l.a l.b)
+    l.watch
     × (g.W.Watch.faults l.fn.watch ≤ g.W.Watch.faults l.watch) × (l.side ≡ l.fn.side)
 
 abbrev pub decreases-loop-alloc : goal.decreases-loop-alloc

@@ -10,9 +10,12 @@ use Rattle.link_law.proofs.link.Link.time_out.Goals as goal
 
 pub returns-in-Err-clause-stopped : goal.returns-in-Err-clause-stopped
 returns-in-Err-clause-stopped g c =
-    let silent : is_silent (link c.args.self.now c.args.a.now c.args.b.now) ≡ true = sym c.fire.ensures.early ∙ c.if-not-fire.false in
-    subst (λ b. Stopped g.W.Watch.grew g.W.Watch.cut c.args.watch.now (if b then Fire c.args.side ∷ [] else []) c.note.new.self) (sym silent)
-    (stopped_in_one g.W.Watch.grew g.W.Watch.cut g.met.W.Watch.grew_none c.args.watch.now c.note.new.self (Fire c.args.side) c.in-Err.ensures.stopped)
+    let silent : is_silent (link c.args.self.now c.args.a.now c.args.b.now) ≡ true =
+    sym c.fire.ensures.early ∙ c.if-not-fire.false in
+    subst (λ b. Stopped g.W.Watch.grew g.W.Watch.cut c.args.watch.now
+    (if b then Fire c.args.side ∷ [] else []) c.note.new.self) (sym silent)
+    (stopped_in_one g.W.Watch.grew g.W.Watch.cut g.met.W.Watch.grew_none c.args.watch.now
+    c.note.new.self (Fire c.args.side) c.in-Err.ensures.stopped)
 
 pub returns-clause-sound : goal.returns-clause-sound
 returns-clause-sound g c =

@@ -13,4 +13,5 @@ returns-then-out_room c = λ l.
     let put = c.out_put.ensures in
     layer_keeps A next (link pair.link pair.a pair.b) put.port
     (put_serves pair.a next (prio_of c.args.packet) c.args.packet l.port_a
-    (subst (λ n. n < 4) c.prio.ensures.value c.prio.ensures.range) put.alike put.queued put.received) l
+    (subst (λ n. n < 4) c.prio.ensures.value c.prio.ensures.range) put.alike put.queued
+    put.received) l

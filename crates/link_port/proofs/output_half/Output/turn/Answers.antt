@@ -8,16 +8,24 @@ use Rattle.link_port.specs.Sends.{starting, AreWaiting}
 use Rattle.link_port.proofs.output_half.Output.turn.Goals as goal
 
 waits :
-    (packet : Option Started) (prios : List ℕ) (queued : List (List (List ℕ))) → IfSome packet (λ p. (p.ack < 32) × (p.prio < 4))
-    → IfSome packet (λ p. p.place ≡ count_of prios p.prio) → IfSome packet (λ p. p.place < length (list_at queued p.prio))
+    (packet : Option Started) (prios : List ℕ) (queued : List (List (List ℕ)))
+    → IfSome packet (λ p. (p.ack < 32) × (p.prio < 4))
+    → IfSome packet (λ p. p.place ≡ count_of prios p.prio)
+    → IfSome packet (λ p. p.place < length (list_at queued p.prio))
     → AreWaiting (starting packet) prios queued
 waits None prios queued range next some = tt
-waits (Some p) prios queued range next some = record { ack = range.0; few = range.1; next = next; waits = some }
+waits (Some p) prios queued range next some = record {
+  ack = range.0;
+  few = range.1;
+  next = next;
+  waits = some;
+}
 
 pub returns-in-Ok-clause-waiting : goal.returns-in-Ok-clause-waiting
 returns-in-Ok-clause-waiting c =
     let e = c.turn-next.ensures in
-    rw (c.starting.ensures, c.in-Ok.is) (waits c.turn-next.result.1 c.in-Ok.state.prios c.args.queued.now e.range e.place e.waits)
+    rw (c.starting.ensures, c.in-Ok.is)
+    (waits c.turn-next.result.1 c.in-Ok.state.prios c.args.queued.now e.range e.place e.waits)
 
 pub returns-in-RetryStopped-clause-entry : goal.returns-in-RetryStopped-clause-entry
 returns-in-RetryStopped-clause-entry c = rw (c.in-RetryStopped.is) (c.restart.ensures None)
@@ -25,7 +33,8 @@ returns-in-RetryStopped-clause-entry c = rw (c.in-RetryStopped.is) (c.restart.en
 -- nothing is outstanding
 pub returns-in-RetryStopped-clause-covered : goal.returns-in-RetryStopped-clause-covered
 returns-in-RetryStopped-clause-covered c =
-    subst (λ (prios : List ℕ). Covers prios c.args.queued.now) (sym (ap (λ (t : Turned). prios_of t.state) (c.restart.ensures None))) (λ prio. omega arith)
+    subst (λ (prios : List ℕ). Covers prios c.args.queued.now)
+    (sym (ap (λ (t : Turned). prios_of t.state) (c.restart.ensures None))) (λ prio. omega arith)
 
 pub returns-else-asked-clause-entry : goal.returns-else-asked-clause-entry
 returns-else-asked-clause-entry c =
@@ -35,4 +44,5 @@ returns-else-asked-clause-entry c =
 pub returns-else-asked-clause-covered : goal.returns-else-asked-clause-covered
 returns-else-asked-clause-covered c =
     let covers = rw (c.in-ErrorStopped.is) at c.requires.covered in
-    subst (λ (prios : List ℕ). Covers prios c.args.queued.now) (sym (ap (λ (t : Turned). prios_of t.state) (c.request.ensures None))) covers
+    subst (λ (prios : List ℕ). Covers prios c.args.queued.now)
+    (sym (ap (λ (t : Turned). prios_of t.state) (c.request.ensures None))) covers

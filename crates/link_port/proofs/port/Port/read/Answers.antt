@@ -14,7 +14,8 @@ use Rattle.link_port.proofs.port.Port.read.Goals.{After-bounds}
 pub invariant_of-self : goal.invariant_of-self
 invariant_of-self c = (
   c.self.invariant.0,
-  subst (λ (f : Framing). IsBounded f.place.text) (sym c.read_run-count.ensures.state) (front_bounded _ _ c.self.invariant.1),
+  subst (λ (f : Framing). IsBounded f.place.text) (sym c.read_run-count.ensures.state)
+      (front_bounded _ _ c.self.invariant.1),
 )
 
 -- the packet that ended, as the framer has it
@@ -24,8 +25,10 @@ ended_in c = (framing_after (telling_front c.self.inside.framer.place c.args.cha
 pub returns-clause-events : goal.returns-clause-events
 returns-clause-events c =
     c.complete-completed.ensures
-    ∙ ap (λ (f : Framing). listed (events_by c.read_run-count.result.1 f.ended).first (events_by c.read_run-count.result.1 f.ended).second)
+    ∙ ap (λ (f : Framing). listed (events_by c.read_run-count.result.1 f.ended).first
+    (events_by c.read_run-count.result.1 f.ended).second)
     c.read_run-count.ensures.state
-    ∙ ap (λ (t : Told). listed (events_by t (ended_in c)).first (events_by t (ended_in c)).second) c.read_run-count.ensures.told
+    ∙ ap (λ (t : Told). listed (events_by t (ended_in c)).first (events_by t (ended_in c)).second)
+    c.read_run-count.ensures.told
     ∙ front_events c.self.inside.framer.place c.args.chars.now
     ∙ ap (λ (p : PortState). (front_of p c.args.chars.now).step.gives) c.self.view_is

@@ -12,7 +12,13 @@ use Rattle.link_port.proofs.port.Port.turn.Goals as goal
 
 -- what contracts see of the fields
 abbrev seen : Inside → PortState
-seen p = record { place = p.framer.place; output = output_of p.output; input = input_of p.input; queued = p.queued; received = p.received }
+seen p = record {
+  place = p.framer.place;
+  output = output_of p.output;
+  input = input_of p.input;
+  queued = p.queued;
+  received = p.received;
+}
 
 pub invariant_of-self : goal.invariant_of-self
 invariant_of-self c =
@@ -23,7 +29,8 @@ returns-clause-chars c =
     let entry = rw c.replace-output.ensures.value at c.turn-output.ensures.entry in
     let waits = rw c.replace-output.ensures.value at c.turn-output.ensures.waiting in
     c.make_burst.ensures.chars
-    ∙ ap (λ n. (burst_by c.turn-output.result.1 n c.self.inside.queued).chars) c.expected.ensures.value
+    ∙ ap (λ n. (burst_by c.turn-output.result.1 n c.self.inside.queued).chars)
+    c.expected.ensures.value
     ∙ ap (λ (s : Burst). s.chars) (turn_is (seen c.self.inside) _ _ entry waits)
     ∙ ap (λ (p : PortState). (turn_sends p).chars) c.self.view_is
 
@@ -32,13 +39,18 @@ returns-clause-sent c =
     let entry = rw c.replace-output.ensures.value at c.turn-output.ensures.entry in
     let waits = rw c.replace-output.ensures.value at c.turn-output.ensures.waiting in
     c.make_burst.ensures.sent
-    ∙ ap (λ n. (burst_by c.turn-output.result.1 n c.self.inside.queued).sent) c.expected.ensures.value
+    ∙ ap (λ n. (burst_by c.turn-output.result.1 n c.self.inside.queued).sent)
+    c.expected.ensures.value
     ∙ ap (λ (s : Burst). s.sent) (turn_is (seen c.self.inside) _ _ entry waits)
     ∙ ap (λ (p : PortState). (turn_sends p).sent) c.self.view_is
 
 pub returns-clause-read : goal.returns-clause-read
 returns-clause-read c =
-    ap (said start) (returns-clause-chars c) ∙ (turn_read c.args.self.now c.bounds.ensures).says ∙ sym (returns-clause-sent c)
+    ap (said start) (returns-clause-chars c)
+    ∙ (turn_read c.args.self.now c.bounds.ensures).says
+    ∙ sym (returns-clause-sent c)
 
 pub returns-clause-rests : goal.returns-clause-rests
-returns-clause-rests c = ap (place_after start) (returns-clause-chars c) ∙ (turn_read c.args.self.now c.bounds.ensures).rests
+returns-clause-rests c =
+    ap (place_after start) (returns-clause-chars c)
+    ∙ (turn_read c.args.self.now c.bounds.ensures).rests

@@ -9,15 +9,22 @@ use Rattle.rio_chars.proofs.WrittenLaws.{Writes-nil, Writes-then}
 use Rattle.rio_chars.proofs.outbox.Outbox.write_chars.Goals as goal
 
 -- one character more was told, at the front of those that are left
-one_told : {K : Type 0} {written : K → Option (List ℕ)} {faults : K → ℕ} {a b c : Outbox K} {text : List ℕ} (done chars left : List Char) (d : Char) → chars ≡ done ++ left → 1 ≤ length left
-    → Writes written faults a b (spaced_chars done) → text ≡ 32 ∷ char_text_of (get_or left 0 d) → Writes written faults b c text
-    → (more : List Char) × (chars ≡ more ++ take (length left - 1) (drop 1 left)) × Writes written faults a c (spaced_chars more)
+one_told : {K : Type 0} {written : K → Option (List ℕ)} {faults : K → ℕ} {a b c : Outbox K}
+    {text : List ℕ} (done chars left : List Char) (d : Char) → chars ≡ done ++ left
+    → 1 ≤ length left
+    → Writes written faults a b (spaced_chars done) → text ≡ 32 ∷ char_text_of (get_or left 0 d)
+    → Writes written faults b c text
+    → (more : List Char) × (chars ≡ more ++ take (length left - 1) (drop 1 left))
+    × Writes written faults a c (spaced_chars more)
 one_told {K} {written} {faults} {a} {b} {c} {text} done chars left d e some told is more =
     let first : Char = get_or left 0 d in
     let here = subst (Writes written faults b c) (is ∙ sym (spaced_chars-one first)) more in (
       done ++ first ∷ [],
-      e ∙ ap (λ l. done ++ l) (front_one left d some) ∙ sym (append_assoc done (first ∷ []) (take (length left - 1) (drop 1 left))),
-      rw (spaced_chars-append done (first ∷ [])) (Writes-then (spaced_chars done) (spaced_chars (first ∷ [])) told here),
+      e
+          ∙ ap (λ l. done ++ l) (front_one left d some)
+          ∙ sym (append_assoc done (first ∷ []) (take (length left - 1) (drop 1 left))),
+      rw (spaced_chars-append done (first ∷ []))
+          (Writes-then (spaced_chars done) (spaced_chars (first ∷ [])) told here),
     )
 
 pub loop-left-init : goal.loop-left-init
@@ -28,13 +35,20 @@ loop-left-preserved-then-run-gt0 g c =
     let h = c.loop-left.invariant in
     let left = c.loop-left.left.now in
     let run = c.data_run-run.result in
-    let Whole : List Char → Type 0 = λ done. Writes g.K.Sink.written g.K.Sink.faults c.args.self.now c.write_data.new.self (spaced_chars done) in (
+    let Whole : List Char → Type 0 =
+    λ done. Writes g.K.Sink.written g.K.Sink.faults c.args.self.now c.write_data.new.self
+    (spaced_chars done) in (
       h.0 ++ take run left,
-      h.1 ∙ ap (λ l. h.0 ++ l) (sym (take-append-drop run left)) ∙ sym (append_assoc h.0 (take run left) (drop run left)) ∙ ap (λ l. h.0 ++ take run left ++ l) (sym (take_rest left run)),
-      rw (spaced_chars-append h.0 (take run left)) (Writes-then (spaced_chars h.0) (spaced_chars (take run left)) h.2 c.write_data.ensures),
+      h.1
+          ∙ ap (λ l. h.0 ++ l) (sym (take-append-drop run left))
+          ∙ sym (append_assoc h.0 (take run left) (drop run left))
+          ∙ ap (λ l. h.0 ++ take run left ++ l) (sym (take_rest left run)),
+      rw (spaced_chars-append h.0 (take run left))
+          (Writes-then (spaced_chars h.0) (spaced_chars (take run left)) h.2 c.write_data.ensures),
     )
 
 pub loop-left-preserved : goal.loop-left-preserved
 loop-left-preserved g c =
     let h = c.loop-left.invariant in
-    one_told h.0 c.args.chars.now c.loop-left.left.now _ h.1 c.in-len1-up.len_at_least h.2 c.spaced_char.ensures c.write_short.ensures
+    one_told h.0 c.args.chars.now c.loop-left.left.now _ h.1 c.in-len1-up.len_at_least h.2
+    c.spaced_char.ensures c.write_short.ensures

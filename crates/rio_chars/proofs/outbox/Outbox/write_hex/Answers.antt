@@ -14,9 +14,12 @@ loop-rest-preserved g c =
     let call = c.write_hex_part in
     let done = loop.invariant.0 in
     let part = c.split_at.result.0.now in
-    let Whole : List ℕ → Type 0 = λ text. Writes g.K.Sink.written g.K.Sink.faults c.args.self.now call.new.self text in (
+    let Whole : List ℕ → Type 0 =
+    λ text. Writes g.K.Sink.written g.K.Sink.faults c.args.self.now call.new.self text in (
       done ++ part,
-      loop.invariant.1 ∙ ap (λ (l : List ℕ). done ++ l) c.split_at.ensures.by_index.0 ∙ sym (append_assoc done part c.split_at.result.1.now),
+      loop.invariant.1
+          ∙ ap (λ (l : List ℕ). done ++ l) c.split_at.ensures.by_index.0
+          ∙ sym (append_assoc done part c.split_at.result.1.now),
       subst Whole (sym (hex_of-append done part)) (Writes-then _ _ loop.invariant.2 call.ensures),
     )
 
@@ -25,6 +28,7 @@ returns g c =
     let loop = c.loop-rest in
     let call = c.write_hex_part-2 in
     let done = loop.invariant.0 in
-    let Whole : List ℕ → Type 0 = λ text. Writes g.K.Sink.written g.K.Sink.faults c.args.self.now call.new.self text in
+    let Whole : List ℕ → Type 0 =
+    λ text. Writes g.K.Sink.written g.K.Sink.faults c.args.self.now call.new.self text in
     subst Whole (sym (ap hex_of loop.invariant.1 ∙ hex_of-append done loop.rest.now))
     (Writes-then _ _ loop.invariant.2 call.ensures)

@@ -8,17 +8,24 @@ use Rattle.rio_framer.proofs.GivingLaws.{listed-front, paired-front, events_by-f
 use Rattle.rio_framer.proofs.framer.Framer.feed_run.Goals as goal
 use Rattle.rio_framer.proofs.framer.Framer.feed_run.Goals.{After-events}
 
-exact : (c : After-events) → c.events.result ≡ events_of (telling_front c.args.self.now.place c.args.chars.now).step.gives
+exact : (c : After-events)
+    → c.events.result ≡ events_of (telling_front c.args.self.now.place c.args.chars.now).step.gives
 exact c = c.events.ensures
-    ∙ ap (λ (f : Framing). events_by c.read_run-count.result.1 f.ended) c.read_run-count.ensures.state
-    ∙ ap (λ (t : Told). events_by t (framing_after (telling_front c.args.self.now.place c.args.chars.now).step).ended) c.read_run-count.ensures.told
+    ∙ ap (λ (f : Framing). events_by c.read_run-count.result.1 f.ended)
+    c.read_run-count.ensures.state
+    ∙ ap (λ (t : Told). events_by t (framing_after (telling_front c.args.self.now.place
+    c.args.chars.now).step).ended) c.read_run-count.ensures.told
     ∙ events_by-front c.args.self.now.place c.args.chars.now
 
 pub returns-clause-exact : goal.returns-clause-exact
 returns-clause-exact c = exact c
 
 pub returns-clause-gives : goal.returns-clause-gives
-returns-clause-gives c = ap (λ (e : Events). listed e.first e.second) (exact c) ∙ listed-front c.args.self.now.place c.args.chars.now
+returns-clause-gives c =
+    ap (λ (e : Events). listed e.first e.second) (exact c)
+    ∙ listed-front c.args.self.now.place c.args.chars.now
 
 pub returns-clause-paired : goal.returns-clause-paired
-returns-clause-paired c = subst (λ (e : Events). IsPaired e.first e.second) (sym (exact c)) (paired-front c.args.self.now.place c.args.chars.now)
+returns-clause-paired c =
+    subst (λ (e : Events). IsPaired e.first e.second) (sym (exact c))
+    (paired-front c.args.self.now.place c.args.chars.now)

@@ -9,13 +9,15 @@ use Rattle.rio_framer.proofs.framer.Framer.read_part.Goals as goal
 pub returns-in-Some : goal.returns-in-Some
 returns-in-Some c =
     let from = c.args.self.now.place in
-    part-eight from.text from.pending c.in-Some.bytes c.args.chars.now c.add_eight.new.self (c.takes_eight.ensures c.if-takes_eight.true)
+    part-eight from.text from.pending c.in-Some.bytes c.args.chars.now c.add_eight.new.self
+    (c.takes_eight.ensures c.if-takes_eight.true)
     c.in-Some.ensures.length c.in-Some.ensures.is c.add_eight.ensures
 
 pub returns-in-Some-whole_symbol : goal.returns-in-Some-whole_symbol
 returns-in-Some-whole_symbol c =
     let from = c.args.self.now.place in
-    part-symbol from.text from.pending c.in-Some-whole_symbol.delimiter c.in-Some-whole_symbol.x c.in-Some-whole_symbol.y c.in-Some-whole_symbol.z
+    part-symbol from.text from.pending c.in-Some-whole_symbol.delimiter c.in-Some-whole_symbol.x
+    c.in-Some-whole_symbol.y c.in-Some-whole_symbol.z
     c.args.chars.now _ _ (c.is_between.ensures c.if-is_between.true) c.in-Some-whole_symbol.ensures
     c.read_symbol-told.ensures.told c.read_symbol-told.ensures.state
 
@@ -23,5 +25,7 @@ pub returns : goal.returns
 returns c =
     let from = c.args.self.now.place in
     part-one from _ _ c.args.chars.now _ _ (drop-cons c.args.chars.now 0 _ c.requires.some)
-    (c.take-told.ensures.told ∙ ap (λ (k : Kind). told_of (step_by from.text from.pending k).gives) c.char_kind.ensures)
-    (c.take-told.ensures.state ∙ ap (λ (k : Kind). framing_after (step_by from.text from.pending k)) c.char_kind.ensures)
+    (c.take-told.ensures.told
+    ∙ ap (λ (k : Kind). told_of (step_by from.text from.pending k).gives) c.char_kind.ensures)
+    (c.take-told.ensures.state
+    ∙ ap (λ (k : Kind). framing_after (step_by from.text from.pending k)) c.char_kind.ensures)

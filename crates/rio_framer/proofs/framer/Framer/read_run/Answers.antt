@@ -14,7 +14,9 @@ loop-rest-preserved c =
     record {
       stands = quiet.0;
       within = omega arith;
-      front = part-quiet c.loop-rest.self.place _ c.loop-rest.rest.now _ (length c.args.chars.now) _ within part.within c.loop-rest.invariant.front quiet.1
+      front =
+          part-quiet c.loop-rest.self.place _ c.loop-rest.rest.now _ (length c.args.chars.now) _
+          within part.within c.loop-rest.invariant.front quiet.1
           _ c.split_at.ensures.back (omega arith);
     }
 
@@ -28,8 +30,12 @@ returns-in_default c =
     let rest = c.loop-rest.rest.now in
     let n = length c.args.chars.now - length rest in
     let size : n + length rest ≡ length c.args.chars.now = omega arith in
-    let is = part-tells c.loop-rest.self.place rest c.read_part-count.result.0 (length c.args.chars.now) n _ tells.0 c.loop-rest.invariant.front few size in
-    let count : length c.args.chars.now - length c.split_at.result.1.now ≡ n + c.read_part-count.result.0 = omega arith in
+    let is =
+    part-tells c.loop-rest.self.place rest c.read_part-count.result.0 (length c.args.chars.now)
+    n _ tells.0 c.loop-rest.invariant.front few size in
+    let count : length c.args.chars.now - length c.split_at.result.1.now
+    ≡ n + c.read_part-count.result.0 =
+    omega arith in
     record {
       count = count ∙ ap (λ (f : Front). f.count) is;
       told = tells.1 ∙ ap (λ (f : Front). told_of f.step.gives) is;
@@ -38,9 +44,15 @@ returns-in_default c =
       some = λ _. omega arith;
     }
 
-all : (c : goal.After-loop-rest) → record { count = length c.args.chars.now; step = record { place = c.loop-rest.self.place; gives = [] } } ≡ telling_front c.args.self.now.place c.args.chars.now
+all : (c : goal.After-loop-rest)
+    → record {
+      count = length c.args.chars.now;
+      step = record { place = c.loop-rest.self.place; gives = [] };
+    }
+    ≡ telling_front c.args.self.now.place c.args.chars.now
 all c = part-none c.loop-rest.self.place c.loop-rest.rest.now (length c.args.chars.now) _
-    (eqb-true (length c.loop-rest.rest.now) 0 (sym c.is_empty.ensures ∙ c.loop-rest-test.false)) c.loop-rest.invariant.within c.loop-rest.invariant.front
+    (eqb-true (length c.loop-rest.rest.now) 0 (sym c.is_empty.ensures ∙ c.loop-rest-test.false))
+    c.loop-rest.invariant.within c.loop-rest.invariant.front
 
 pub returns-clause-count : goal.returns-clause-count
 returns-clause-count c = ap (λ (f : Front). f.count) (all c)
@@ -49,4 +61,5 @@ pub returns-clause-told : goal.returns-clause-told
 returns-clause-told c = ap (λ (f : Front). told_of f.step.gives) (all c)
 
 pub returns-clause-state : goal.returns-clause-state
-returns-clause-state c = c.loop-rest.invariant.stands ∙ ap (λ (f : Front). framing_after f.step) (all c)
+returns-clause-state c =
+    c.loop-rest.invariant.stands ∙ ap (λ (f : Front). framing_after f.step) (all c)

@@ -8,7 +8,8 @@ abbrev pub invariant-loop-rest : goal.invariant-loop-rest
 invariant-loop-rest l = record {
   stands : l.self ≡ framing_at l.self.place;
   within : length l.rest ≤ length l.chars;
-  front : (n : ℕ) → n + length l.rest ≡ length l.chars → later n (telling_front l.self.place l.rest) ≡ telling_front l.fn.self.place l.chars;
+  front : (n : ℕ) → n + length l.rest ≡ length l.chars
+      → later n (telling_front l.self.place l.rest) ≡ telling_front l.fn.self.place l.chars;
 }
 
 abbrev pub decreases-loop-rest : goal.decreases-loop-rest

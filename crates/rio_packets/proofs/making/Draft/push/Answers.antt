@@ -10,5 +10,6 @@ invariant_of-self c =
     record {
       runs =
           c.run-self.ensures ∙ ap (λ r. fed_all r c.args.more.now) before.runs
-          ∙ sym (fed_all-append 0xffff before.bytes.items c.args.more.now) ∙ ap running (sym c.append.ensures);
+          ∙ sym (fed_all-append 0xffff before.bytes.items c.args.more.now)
+          ∙ ap running (sym c.append.ensures);
     }

@@ -1,0 +1,191 @@
+-- One packet is sent on a link of which both directions are at rest, and what comes of it.
+use Rattle.std.proofs.Common.{◌≡◌, ℕ, ◌<◌, ◌∷◌, [], Bool, true, List, slice_get, Some, refl, ap, ◌∙◌, subst, arith}
+use Rattle.rio_chars.specs.declared.chars.Char.{Char}
+use Rattle.rio_symbols.specs.Fields.{Fields}
+use Rattle.rio_packets.specs.Fields.{prio_of}
+use Rattle.rio_packets.specs.LinkForm.{Passes}
+use Rattle.link_buffers.specs.Queues.{list_at, room_for}
+use Rattle.link_buffers.specs.Priorities.{highest}
+use Rattle.link_model.specs.declared.reading_kinds.Pending.TheVariants.{Nothing}
+use Rattle.link_model.specs.Output.{Output}
+use Rattle.link_model.specs.Places.{Place, place, opened, at_rest}
+use Rattle.link_model.specs.Reading.{Text, Plain, Skipped, Within}
+use Rattle.link_model.specs.ReadingSpelt.{packet_chars_of}
+use Rattle.link_model.specs.Symbols.{start_of_packet, end_of_packet}
+use Rattle.link_port.specs.Ports.{PortState}
+use Rattle.link_port.specs.States.{expected_of}
+use Rattle.link_port.specs.Turns.{turn_sends, turns_to}
+use Rattle.link_watch.specs.declared.side.Side.{Side}
+use Rattle.link_machine.specs.States.{LinkState, from_end}
+use Rattle.link_machine.specs.Sound.{IsSoundLink}
+use Rattle.link_rest.specs.Led.{fed, answered, chars_of, AreAnswers}
+use Rattle.link_rest.specs.Acts.{Act, At, goes, OnState}
+use Rattle.link_rest.specs.Settling.{is_some, waits, TakesTurn}
+use Rattle.link_rest.specs.Rest.{IsAtRest}
+use Rattle.link_rest.proofs.Signals.{fed_none, answered_none, unbroken_leaves}
+use Rattle.link_rest.proofs.Packets.{answer_by, held_by, replied_by, one_out, packet_fed, answer_fed, turn_starts, turn_sends_packet}
+use Rattle.link_rest.proofs.Exchanges.{Exchanged}
+use Rattle.link_rest.proofs.Drains.{on_state, AreEmpty, answers_are}
+use Rattle.link_rest.proofs.Restarting.{rest_place, unended}
+use Rattle.link_rest.proofs.TurnLaws.{end_sound, third_answers, turn_goes}
+use Rattle.link_rest.proofs.Waiting.{First, first_waiting, waiting_all, All-first}
+
+-- ---- a round
+
+pub resting_open : (t : Text) → at_rest (place t Nothing) ≡ true
+    → at_rest (place (opened t) Nothing) ≡ true
+resting_open Plain rests = refl
+resting_open Skipped rests = refl
+resting_open (Within bytes) rests = absurd cc
+
+-- the ports after a packet was sent and its answer came back
+pub record Round (room : Bool) (ack : ℕ) (p q m_a m_b : PortState) : Type 0 where
+  pub prio : ℕ
+  pub packet : List ℕ
+  pub highest_is : highest p.queued ≡ Some prio
+  pub first : slice_get (list_at p.queued prio) 0 ≡ Some packet
+  pub has : room_for q.received (prio_of packet) ≡ room
+  pub a : m_a ≡ replied_by room ack prio (opened p.place.text) p
+  pub b : m_b ≡ held_by room ack packet q
+
+-- the port that takes a turn, and the other, both directions at rest, and a packet that waits
+record Ready (p q : PortState) : Type 0 where
+  out : IsAtRest p q
+  into : IsAtRest q p
+  packet_is : First p.queued
+  form : Passes packet_is.packet
+  near_below : expected_of p.input < 32
+  far_below : expected_of q.input < 32
+
+ready_ack : (p q : PortState) (r : Ready p q) → r.out.ack < 32
+ready_ack p q r =
+    let same = ap expected_of r.out.receiver_ok in let below = r.far_below in omega arith
+
+ready_chars : (p q : PortState) (r : Ready p q)
+    → (turn_sends p).chars ≡ packet_chars_of (start_of_packet (expected_of p.input)) r.out.ack
+    r.packet_is.packet (end_of_packet (expected_of p.input))
+ready_chars p q r =
+    turn_sends_packet p r.out.ack r.packet_is.prio r.packet_is.packet (ready_ack p q r)
+    r.out.sender_ok r.packet_is.highest_is r.packet_is.first
+
+-- the far port takes the packet, and the near one the answer
+record Answered (room : Bool) (p q : PortState) (cs : List Char) (r : Ready p q) : Type 0 where
+  far : fed q cs ≡ held_by room r.out.ack r.packet_is.packet q
+  answers : answered q cs ≡ answer_by room r.out.ack ∷ []
+  near : fed (turns_to p) (chars_of (answered q cs))
+      ≡ replied_by room r.out.ack r.packet_is.prio (opened p.place.text) p
+  none : answered (turns_to p) (chars_of (answered q cs)) ≡ []
+
+answered_by : (room : Bool) (p q : PortState) (r : Ready p q)
+    → room_for q.received (prio_of r.packet_is.packet) ≡ room
+    → Answered room p q (packet_chars_of (start_of_packet (expected_of p.input)) r.out.ack
+    r.packet_is.packet (end_of_packet (expected_of p.input))) r
+answered_by room p q r has =
+    let e = expected_of p.input in
+    let ack = r.out.ack in
+    let prio = r.packet_is.prio in
+    let cs = packet_chars_of (start_of_packet e) ack r.packet_is.packet (end_of_packet e) in
+    let far_place = rest_place q.place r.out.place in
+    let far_rests : at_rest (place q.place.text Nothing) ≡ true =
+    subst (λ (from : Place). at_rest from ≡ true) far_place r.out.place in
+    let does =
+    packet_fed q q.place.text e ack r.packet_is.packet room far_place far_rests r.near_below
+    (ready_ack p q r) r.form r.out.receiver_ok has in
+    let are = answers_are q cs r.far_below in
+    let one : AreAnswers (answer_by room ack ∷ []) =
+    subst (λ (ss : List Fields). AreAnswers ss) does.1 are in
+    let turn = turn_starts p ack prio (ready_ack p q r) r.out.sender_ok r.packet_is.highest_is in
+    let sent = record p { output = Output.Ok (one_out ack prio) } in
+    let near_place = rest_place p.place r.into.place in
+    record {
+      far = does.0;
+      answers = does.1;
+      near =
+          (λ i. fed (turn i) (chars_of (does.1 i)))
+          ∙ answer_fed room sent p.place.text ack prio refl near_place one;
+      none = (unbroken_leaves (turns_to p) p.place.text (answered q cs) near_place are).0.silent;
+    }
+
+round_silent : (room : Bool) (p q : PortState) (cs : List Char) (r : Ready p q)
+    → Answered room p q cs r → third_answers (turns_to p) q cs ≡ []
+unfolding chars_of
+round_silent room p q cs r h =
+    ap (λ (ss : List Fields). answered (fed q cs) (chars_of ss)) h.none ∙ answered_none (fed q cs)
+
+round_over : (room : Bool) (p q : PortState) (cs : List Char) (r : Ready p q) (m : LinkState)
+    → room_for q.received (prio_of r.packet_is.packet) ≡ room → Answered room p q cs r
+    → Exchanged (turns_to p) q cs m
+    → Round room r.out.ack p q m.a m.b
+unfolding chars_of
+round_over room p q cs r m has h x = record {
+  prio = r.packet_is.prio;
+  packet = r.packet_is.packet;
+  highest_is = r.packet_is.highest_is;
+  first = r.packet_is.first;
+  has = has;
+  a = x.a ∙ h.near;
+  b =
+      x.b
+      ∙ ap (λ (ss : List Fields). fed (fed q cs) (chars_of ss)) h.none
+      ∙ fed_none (fed q cs)
+      ∙ h.far;
+}
+
+-- ---- a link of which both directions are at rest
+
+pub record Quiet (near : Side) (m : LinkState) : Type 0 where
+  pub sound : IsSoundLink m
+  pub none : AreEmpty m
+  pub out : IsAtRest (from_end near m).a (from_end near m).b
+  pub into : IsAtRest (from_end near m).b (from_end near m).a
+
+-- a link after a round: it is sound and empty
+pub record AfterRound (near : Side) (s m : LinkState) : Type 0 where
+  pub sound : IsSoundLink m
+  pub none : AreEmpty m
+  pub room : Bool
+  pub ack : ℕ
+  pub round : Round room ack (from_end near s).a (from_end near s).b (from_end near m).a
+      (from_end near m).b
+
+ready : (near : Side) (s : LinkState) → Quiet near s → waits (from_end near s).a ≡ true
+    → Ready (from_end near s).a (from_end near s).b
+ready near s quiet some =
+    let t = from_end near s in
+    let l = end_sound near s quiet.sound in
+    let first =
+    first_waiting t.a.queued (highest t.a.queued) refl (subst
+    (λ (lists : List (List (List ℕ))). is_some (highest lists) ≡ true)
+    (waiting_all t.a quiet.out.ack quiet.out.sender_ok) some) in
+    record {
+      out = quiet.out;
+      into = quiet.into;
+      packet_is = first;
+      form =
+          All-first (list_at t.a.queued first.prio) first.packet
+          (l.port_a.sends.packets first.prio first.few) first.first;
+      near_below = l.port_a.expected_ack;
+      far_below = l.port_b.expected_ack;
+    }
+
+pub round_goes : (near : Side) (s : LinkState) (all : List Act) → Quiet near s
+    → waits (from_end near s).a ≡ true → TakesTurn near (At s) all
+    → OnState (AfterRound near s) (goes (At s) all)
+round_goes near s all quiet some turn =
+    let t = from_end near s in
+    let r = ready near s quiet some in
+    let room = room_for t.b.received (prio_of r.packet_is.packet) in
+    let cs =
+    packet_chars_of (start_of_packet (expected_of t.a.input)) r.out.ack r.packet_is.packet
+    (end_of_packet (expected_of t.a.input)) in
+    let h = answered_by room t.a t.b r refl in
+    on_state (goes (At s) all)
+    (λ m x. record {
+      sound = unended near m x.0.sound;
+      none = x.1;
+      room = room;
+      ack = r.out.ack;
+      round = round_over room t.a t.b cs r (from_end near m) refl h x.0;
+    })
+    (turn_goes near s all cs quiet.sound quiet.none (ready_chars t.a t.b r)
+    (round_silent room t.a t.b cs r h) turn)
