@@ -37,7 +37,7 @@ filter-push p (y ∷ xs) x b is = go (p y) (filter-push p xs x b is)
     go true rest = ap (λ l. y ∷ l) rest
     go false rest = rest
 
-map-push : {X Y : Type 0} (f : X → Y) (xs ys : List X) → map f (xs ++ ys) ≡ map f xs ++ map f ys
+pub map-push : {X Y : Type 0} (f : X → Y) (xs ys : List X) → map f (xs ++ ys) ≡ map f xs ++ map f ys
 map-push f [] ys = refl
 map-push f (x ∷ xs) ys = ap (λ l. f x ∷ l) (map-push f xs ys)
 

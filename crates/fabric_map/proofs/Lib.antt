@@ -8,6 +8,7 @@ pub mod Endpoints
 pub mod Steps
 pub mod Branches
 pub mod Few
+pub mod Growing
 pub mod Ways
 pub mod EntryLaws
 pub mod Worked
