@@ -21,3 +21,7 @@ pub mod Ending
 pub mod Worked
 pub mod Heard
 pub mod FreesRead
+pub mod Fronting
+pub mod Failing
+pub mod Resting
+pub mod Shows

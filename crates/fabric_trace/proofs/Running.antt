@@ -273,7 +273,7 @@ settle_made s port None block good none is settles = absurd settles
 settle_made s port (Some link) block good none is settles =
     made_by settles.lines (acts_reach settles.acts s link.0 link.1 good none (link_peers s.network.links port link good.proper is)).made
 
-block_made : (line : Line) (s : Seen) (block : List TraceLine) → IsGood s → s.unfaithful ≡ None → IsBlock s line block → Made (edited_by s (edit_of line)) block
+pub block_made : (line : Line) (s : Seen) (block : List TraceLine) → IsGood s → s.unfaithful ≡ None → IsBlock s line block → Made (edited_by s (edit_of line)) block
 block_made (Endpoint name id) s block good none is = absurd is
 block_made (Switch name ports) s block good none is = absurd is
 block_made (Link a b) s block good none is = absurd is

@@ -20,7 +20,7 @@ use Rattle.fabric_model.proofs.Freeing.{freed_after_held}
 use Rattle.fabric_model.proofs.Holding.{holding_exactly}
 use Rattle.fabric_model.proofs.Leaving.{once, unchanged}
 use Rattle.fabric_model.proofs.Order.{in_order}
-use Rattle.fabric_model.proofs.Peers.{set_up_proper}
+use Rattle.fabric_model.proofs.Peers.{ArePeers, set_up_proper}
 use Rattle.fabric_trace.specs.Lines.{TraceLine, steps_of}
 use Rattle.fabric_trace.specs.Views.{packets_in}
 use Rattle.fabric_trace.specs.Known.{Seen, peer_of, port_at, link_at}
@@ -106,7 +106,7 @@ begins_link net a b is =
     })
     (record { left = []; found = refl }) (record { left = []; found = refl })
 
-good_start : (net : Network) → IsSetUp net → IsGood (begins net)
+pub good_start : (net : Network) → IsSetUp net → IsGood (begins net)
 good_start net is = record {
   reached = record { start = net; steps = []; empty = is.empty; legal = refl };
   proper = is.proper;
@@ -121,19 +121,18 @@ made script lines may runs = runs_made script (start script) lines (good_start (
 pub legal : (net : Network) (lines : List TraceLine) → IsSetUp net → Made (begins net) lines → LegalFrom net (steps_of lines) (seen (begins net) lines).network
 legal net lines is all = (made_keeps (good_start net is) all).legal
 
+pub lawful_steps : (net : Network) (steps : List Step) (end : Network) → IsSetUp net → LegalFrom net steps end → Lawful net steps end
+lawful_steps net steps end is own = record {
+  legal = own;
+  holding_exactly = holding_exactly net steps end is.empty own;
+  once = once net steps end is.empty own;
+  unchanged = unchanged net steps end is.empty own;
+  freed_after_held = freed_after_held net steps end is.empty own;
+  in_order = in_order net steps end is.empty is.proper own;
+}
+
 pub lawful : (net : Network) (lines : List TraceLine) → IsSetUp net → Made (begins net) lines → Lawful net (steps_of lines) (seen (begins net) lines).network
-lawful net lines is all =
-    let steps = steps_of lines in
-    let end = (seen (begins net) lines).network in
-    let own = legal net lines is all in
-    record {
-      legal = own;
-      holding_exactly = holding_exactly net steps end is.empty own;
-      once = once net steps end is.empty own;
-      unchanged = unchanged net steps end is.empty own;
-      freed_after_held = freed_after_held net steps end is.empty own;
-      in_order = in_order net steps end is.empty is.proper own;
-    }
+lawful net lines is all = lawful_steps net (steps_of lines) _ is (legal net lines is all)
 
 pub links_sound : (net : Network) (lines : List TraceLine) → IsSetUp net → Made (begins net) lines → (seen (begins net) lines).unfaithful ≡ None → AreLinks (seen (begins net) lines)
 links_sound net lines is all none = (made_keeps (good_start net is) all).good.links none
@@ -151,18 +150,24 @@ settled_only : (to : Reached) → OnState (λ m. IsSoundLink m × IsSettled m) t
 settled_only (At m) both = both.1
 settled_only (FoundAt side e) both = tt
 
+pub settles_rest : (s : Seen) (a b : PortRef) (block : List TraceLine) → IsGood s → s.unfaithful ≡ None → ArePeers s.network.links a b → IsSettle s a b block
+    → (seen s block).unfaithful ≡ None → IsSettled (link_at (seen s block) a b)
+settles_rest s a b block good none peers settles still =
+    let reach = acts_reach settles.acts s a b good none peers in
+    let there : seen s block ≡ seen s (lines_of a b (acts_notes (At (link_at s a b)) settles.acts)) = ap (seen s) settles.lines in
+    subst (λ (x : Seen). IsSettled (link_at x a b)) (sym there)
+    (settled_by s a b _ (goes (At (link_at s a b)) settles.acts) reach (ap (λ (x : Seen). x.unfaithful) (sym there) ∙ still)
+    (settled_only _ (settling_rests (link_at s a b) settles.acts (good.links none a b peers.there).sound settles.settles)))
+
 pub settled : (net : Network) (before block : List TraceLine) (a b : PortRef) → IsSetUp net → Made (begins net) before → peer_of (seen (begins net) before) a ≡ Some b
     → (seen (begins net) before).unfaithful ≡ None → IsSettle (seen (begins net) before) a b block → (seen (begins net) (before ++ block)).unfaithful ≡ None
     → IsSettled (link_at (seen (begins net) (before ++ block)) a b)
 settled net before block a b is all peer none settles still =
     let s = seen (begins net) before in
     let good = (made_keeps (good_start net is) all).good in
-    let peers = good_peers a b good peer in
-    let reach = acts_reach settles.acts s a b good none peers in
-    let there : seen (begins net) (before ++ block) ≡ seen s (lines_of a b (acts_notes (At (link_at s a b)) settles.acts)) = seen-append (begins net) before block ∙ ap (seen s) settles.lines in
+    let there : seen (begins net) (before ++ block) ≡ seen s block = seen-append (begins net) before block in
     subst (λ (x : Seen). IsSettled (link_at x a b)) (sym there)
-    (settled_by s a b _ (goes (At (link_at s a b)) settles.acts) reach (ap (λ (x : Seen). x.unfaithful) (sym there) ∙ still)
-    (settled_only _ (settling_rests (link_at s a b) settles.acts (good.links none a b peer).sound settles.settles)))
+    (settles_rest s a b block good none (good_peers a b good peer) settles (ap (λ (x : Seen). x.unfaithful) (sym there) ∙ still))
 
 pub wires_fold : (net : Network) (lines : List TraceLine) → IsSetUp net → Made (begins net) lines → WireFold net.links (λ p. []) lines
 wires_fold net lines is all = made_fold net.links refl (good_start net is) all

@@ -1,5 +1,5 @@
 -- A small run is one, and the laws fail of lines that they must not allow.
-use Rattle.std.proofs.Common.{◌≡◌, ◌≢◌, List, [], ◌∷◌, ◌++◌, Some, refl, sym, subst, if◌then◌else◌, inl, inr, drop, arith, ap, ◌∙◌}
+use Rattle.std.proofs.Common.{◌≡◌, ◌≢◌, List, [], None, ◌∷◌, ◌++◌, Some, refl, sym, subst, if◌then◌else◌, inl, inr, drop, arith, ap, ◌∙◌}
 use Rattle.rio_chars.specs.declared.chars.Char.{Char}
 use Rattle.link_model.specs.declared.event.Event.{Event}
 use Rattle.link_rest.specs.Rest.{IsSettled}
@@ -16,6 +16,9 @@ use Rattle.fabric_trace.specs.Known.{link_at}
 use Rattle.fabric_trace.specs.Fold.{seen}
 use Rattle.fabric_trace.specs.Runs.{bare, begins, Runs}
 use Rattle.fabric_trace.specs.Faithful.{IsFaithful}
+use Rattle.fabric_trace.specs.Firsts.{FindsFirst}
+use Rattle.fabric_trace.specs.Settled.{Settled}
+use Rattle.fabric_trace.specs.Working.{NeverFail}
 use Rattle.rio_symbols.specs.Fields.{Fields}
 use Rattle.link_model.specs.declared.event.Event.TheVariants.{Ctl, Pkt, Bad}
 use Rattle.link_model.specs.Symbols.{packet_accepted}
@@ -23,7 +26,7 @@ use Rattle.fabric_trace.specs.Frees.{Acknowledges, Gotten, nothing_got, complete
 use Rattle.fabric_trace.specs.Holds.{HoldsCame}
 use Rattle.fabric_trace.specs.SetUps.{MaySetUpAll}
 use Rattle.fabric_trace.specs.Wires.{WireFold}
-use Rattle.fabric_trace.specs.Examples.{near, far, pair, idle_script, idle_trace, joined_with_itself, held_from_nowhere, freed, freed_twice, got_from_nowhere, got_another, still_under_way, acted_from_nowhere}
+use Rattle.fabric_trace.specs.Examples.{near, far, pair, idle_script, idle_trace, joined_with_itself, held_from_nowhere, freed, freed_twice, got_from_nowhere, got_another, still_under_way, acted_from_nowhere, not_settled, near_failed, found_before}
 use Rattle.fabric_trace.proofs.Folding.{says_none}
 
 pub idle_runs : Runs idle_script idle_trace
@@ -139,3 +142,12 @@ pub twice_breaks : (known : Gotten) → completed known ≡ Ctl (packet_accepted
 twice_breaks known one said =
     let second = said.1.0 refl in
     twice second.event (one_in second.among refl one) second.acknowledges
+
+pub rest_breaks : Settled (begins pair) None not_settled → ⊥
+rest_breaks settled = let rests : IsSettled (link_at (seen (begins pair) still_under_way) near far) = settled.1.1.0 (near, far) refl in moving_breaks rests
+
+pub failed_breaks : NeverFail near_failed [] → ⊥
+failed_breaks never = never near refl
+
+pub second_breaks : FindsFirst found_before got_from_nowhere → ⊥
+second_breaks first = absurd (cc first.0)

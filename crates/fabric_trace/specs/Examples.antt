@@ -1,14 +1,16 @@
 -- A small run, and lines of which the laws do not hold.
-use Rattle.std.specs.Prelude.{List, [], ◌∷◌}
+use Rattle.std.specs.Prelude.{List, [], ◌∷◌, Some}
 use Rattle.rio_chars.specs.declared.chars.Char.{Char}
 use Rattle.rio_chars.specs.declared.chars.Char.TheVariants.{Invalid}
 use Rattle.link_model.specs.declared.event.Event.TheVariants.{Pkt}
+use Rattle.link_model.specs.Output as out
 use Rattle.fabric_script.specs.declared.ports.PortRef.{PortRef}
-use Rattle.fabric_script.specs.declared.lines.Line.TheVariants.{Endpoint, Link, Pump, Deliver, Alter, Insert, Timeout, Collect}
+use Rattle.fabric_script.specs.declared.lines.Line.TheVariants.{Endpoint, Link, Pump, Deliver, Alter, Insert, Timeout, Settle, Collect}
 use Rattle.fabric_script.specs.declared.lines.Numbered.{Numbered}
 use Rattle.fabric_model.specs.Network.{Network, port_of}
 use Rattle.fabric_model.specs.Steps.{Hold, Free, Linked}
 use Rattle.fabric_trace.specs.Lines.{Empty, Short, Early, Sent, Got, Fired, TraceLine, Begun, Stepped, Signed, Lacked, Ended}
+use Rattle.fabric_trace.specs.Views.{new_half}
 use Rattle.fabric_trace.specs.Known.{Seen}
 use Rattle.fabric_trace.specs.Runs.{bare, set_up_all, begins}
 
@@ -89,3 +91,16 @@ still_under_way = Signed (Sent near (Invalid ∷ [])) ∷ []
 abbrev pub acted_from_nowhere : Seen
 acted_from_nowhere =
     record (begins pair) { wires = λ p. record { chars = []; sent = []; acted = Pkt 0 [] ∷ [] } }
+
+-- a link was to settle, and a character is still on its way at the end
+abbrev pub not_settled : List TraceLine
+not_settled = Begun (Settle near) ∷ Signed (Sent near (Invalid ∷ [])) ∷ Ended ∷ []
+
+-- a sender has failed
+abbrev pub near_failed : Seen
+near_failed = record (begins pair) { halves = λ p. record new_half { output = out.Output.Failed } }
+
+-- an event was found not to be sent
+abbrev pub found_before : Seen
+found_before =
+    record (begins pair) { unfaithful = Some (record { port = far; event = Pkt 0 [] }) }

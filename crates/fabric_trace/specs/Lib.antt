@@ -14,4 +14,8 @@ pub mod Faithful
 pub mod Holds
 pub mod Frees
 pub mod Ends
+pub mod Working
+pub mod Settled
+pub mod Firsts
+pub mod Shown
 pub mod Examples

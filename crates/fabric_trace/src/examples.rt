@@ -1,12 +1,13 @@
 //! A small run, and lines of which the laws do not hold.
 
-ghost use Rattle.std.specs.Prelude.{◌≡◌, ◌≢◌, [], ◌∷◌};
+ghost use Rattle.std.specs.Prelude.{◌≡◌, ◌≢◌, [], ◌∷◌, None};
 ghost use Rattle.rio_chars.specs.declared.chars.Char.{Char};
 ghost use Rattle.link_rest.specs.Rest.{IsSettled};
 ghost use Rattle.fabric_model.specs.Network.{Network};
 ghost use Rattle.fabric_model.specs.Steps.{LegalFrom};
-ghost use Rattle.fabric_trace.specs.Examples.{near, far, pair, idle_script, idle_trace, joined_with_itself, held_from_nowhere, freed, freed_twice, got_from_nowhere, got_another, still_under_way, acted_from_nowhere};
+ghost use Rattle.fabric_trace.specs.Examples.{near, far, pair, idle_script, idle_trace, joined_with_itself, held_from_nowhere, freed, freed_twice, got_from_nowhere, got_another, still_under_way, acted_from_nowhere, not_settled, near_failed, found_before};
 ghost use Rattle.fabric_trace.specs.Faithful.{IsFaithful};
+ghost use Rattle.fabric_trace.specs.Firsts.{FindsFirst};
 ghost use Rattle.fabric_trace.specs.Fold.{seen};
 ghost use Rattle.link_model.specs.Symbols.{packet_accepted};
 ghost use Rattle.link_model.specs.declared.event.Event.TheVariants.{Ctl};
@@ -16,7 +17,9 @@ ghost use Rattle.fabric_trace.specs.Known.{link_at};
 ghost use Rattle.fabric_trace.specs.Lines.{steps_of};
 ghost use Rattle.fabric_trace.specs.Runs.{bare, begins, Runs};
 ghost use Rattle.fabric_trace.specs.SetUps.{MaySetUpAll};
+ghost use Rattle.fabric_trace.specs.Settled.{Settled};
 ghost use Rattle.fabric_trace.specs.Wires.{WireFold};
+ghost use Rattle.fabric_trace.specs.Working.{NeverFail};
 
 /// The small run is a trace of its script.
 pub fn small_run()
@@ -26,7 +29,8 @@ pub fn small_run()
 /// The laws do not hold of these lines: a port is linked with itself; a packet is held that nobody sent; a packet is
 /// freed before it was accepted, or two are by one acceptance; a port gets a
 /// character that was not on the wire, or another one than was; a character is still on its way; an event was acted on
-/// that nobody sent.
+/// that nobody sent; a link is not at rest behind its `settle`; a sender has failed; a port gets characters behind an
+/// event that was found not to be sent.
 pub fn laws_can_fail()
     ensures joined { MaySetUpAll bare joined_with_itself → ⊥ }
     ensures held { (end : Network) → LegalFrom pair (steps_of held_from_nowhere) end → ⊥ }
@@ -39,4 +43,7 @@ pub fn laws_can_fail()
         → WireFold pair.links (λ p. []) (got_another sent other) → ⊥ }
     ensures moving { IsSettled (link_at (seen (begins pair) still_under_way) near far) → ⊥ }
     ensures acted { IsFaithful acted_from_nowhere near far [] → ⊥ }
+    ensures resting { Settled (begins pair) None not_settled → ⊥ }
+    ensures failed { NeverFail near_failed [] → ⊥ }
+    ensures second { FindsFirst found_before got_from_nowhere → ⊥ }
 {}

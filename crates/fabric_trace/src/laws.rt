@@ -21,6 +21,7 @@ ghost use Rattle.fabric_trace.specs.Links.{AreLinks};
 ghost use Rattle.fabric_trace.specs.Parts.{Made};
 ghost use Rattle.fabric_trace.specs.Runs.{Runs, Begins, bare, set_up_all, begins, start};
 ghost use Rattle.fabric_trace.specs.SetUps.{IsSetUp, MaySetUpAll};
+ghost use Rattle.fabric_trace.specs.Shown.{Shown};
 ghost use Rattle.fabric_trace.specs.Wires.{WireFold};
 
 /// A script has at most one trace.
@@ -123,4 +124,15 @@ pub fn a_trace_ends()
 /// event that is found not to be sent is none that could be added to it.
 pub fn acted_events_were_sent()
     ensures { (net : Network) (lines : List TraceLine) → Faithful (begins net) lines }
+{}
+
+/// All laws of a trace of a script that may be set up, and of each front of its lines; and of each front of the blocks
+/// of its first events, whether or not they have a rest.
+pub fn what_a_trace_shows()
+    ensures all { (script : List Numbered) (lines : List TraceLine) → MaySetUpAll bare script
+        → Runs script lines → Shown script lines }
+    ensures front { (script : List Numbered) (front rest : List TraceLine) → MaySetUpAll bare script
+        → Runs script (front ++ rest) → Shown script front }
+    ensures blocks { (script : List Numbered) (front rest : List TraceLine)
+        → MaySetUpAll bare script → Begins script (front ++ rest) → Shown script front }
 {}

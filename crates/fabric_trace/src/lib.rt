@@ -12,6 +12,8 @@
 //! - `Parts`: what may stand in a trace, whatever script it is of;
 //! - `Links`, `Wires`, `Holds`, `Frees`, `Faithful`, `Ends`: what is true of each link, of the characters that a port got, of the
 //!   packets that it holds, of the events that it acted on, and of the last line;
+//! - `Working`, `Settled`, `Firsts`: senders that never fail, links that are at rest where they were settled, and that what is
+//!   found not to be sent is the first; `Shown`: all laws of a trace together;
 //! - `Examples`: a small run, and lines that the laws do not allow.
 //!
 //! The functions state the laws, as contracts of empty bodies. They speak of every script, of each that passes, or of all
@@ -29,6 +31,6 @@ pub use laws::{
     a_trace_ends, acted_events_were_sent, first_blocks_are_a_front, links_stay_sound, one_trace,
     runs_are_made, set_up, settling_leaves_a_link_at_rest, steps_are_legal,
     what_a_port_frees_was_acknowledged, what_a_port_got_was_on_the_wire,
-    what_a_port_holds_came_to_it,
+    what_a_port_holds_came_to_it, what_a_trace_shows,
 };
 pub use scripts::{events_may_happen, ports_are_there, scripts_may_set_up};
