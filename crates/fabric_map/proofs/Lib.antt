@@ -9,6 +9,8 @@ pub mod Steps
 pub mod Branches
 pub mod Few
 pub mod Growing
+pub mod Given
+pub mod Fronts
 pub mod Ways
 pub mod EntryLaws
 pub mod Worked

@@ -41,7 +41,7 @@ empty-before (x ∷ path) port = tt
 
 -- a path with one port more, that is a path that goes on: the last port is the same, or its front
 -- goes on
-onward_further : (path base rest : List ℕ) (port : ℕ) → onward path port ≡ base ++ rest
+pub onward_further : (path base rest : List ℕ) (port : ℕ) → onward path port ≡ base ++ rest
     → (onward path port ≡ base) ⊎ ((on : List ℕ) × (path ≡ base ++ on) × (rest ≡ onward on port))
 onward_further path base rest port same = go (last_port rest)
   where

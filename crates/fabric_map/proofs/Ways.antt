@@ -92,7 +92,7 @@ followed-switch topology node port other less = go (node == topology.host) refl
     go false is (Some ports) same less = (ports, same)
 
 -- the first port of a path is the host's
-first_link : (topology : Topology) (first : ℕ) (at : PortRef)
+pub first_link : (topology : Topology) (first : ℕ) (at : PortRef)
     → behind topology topology.host first ≡ Some at
     → topology.peer (port_at topology.host 0) ≡ Some at
 first_link topology first at same =
