@@ -234,13 +234,14 @@ comes_none grew cut watch test P before old is =
 
 -- ---- by what a call answers
 
-pub did_next : {W : Type 0} (grew : W → List Note → W → Type 0) (cut : W → Note → W → Type 0)
-    → IsWatch grew cut → (P Q : Part) (before mid : LinkState) (old w new : W)
+pub did_next : {W : Type 0} {grew : W → List Note → W → Type 0} {cut : W → Note → W → Type 0}
+    → IsWatch grew cut → {P : Part} (Q : Part) {before mid : LinkState} {old w : W} (new : W)
     (result : Result (Unit {0}) LinkEnd) (next : LinkState) → Comes grew P before old (At mid) w
-    → Did grew cut Q mid w result next new → Did grew cut (NextOf goes P Q) before old result next new
-did_next grew cut watch P Q before mid old w new (Ok done) next first does =
+    → Did grew cut Q mid w result next new
+    → Did grew cut (NextOf goes P Q) before old result next new
+did_next watch {P} Q {before} {mid} {old} {w} new (Ok done) next first does =
     comes_next watch P Q before mid old w new (At next) first does
-did_next grew cut watch P Q before mid old w new (Err end) next first does =
+did_next {W} {grew} {cut} watch {P} Q {before} {mid} {old} {w} new (Err end) next first does =
     ends_next grew cut watch P Q before mid old w new end first does
 
 pub did_where : {W : Type 0} (grew : W → List Note → W → Type 0) (cut : W → Note → W → Type 0)
@@ -252,6 +253,23 @@ did_where grew cut test P before old new (Ok done) next is h =
     comes_where test P before old new (At next) is h
 did_where grew cut test P before old new (Err end) next is h =
     ends_where grew cut test P before old new end is h
+
+-- a call that is given up with what a call in it answered
+pub did_end : {W : Type 0} (grew : W → List Note → W → Type 0) (cut : W → Note → W → Type 0)
+    (P : Part) (before : LinkState) (old new : W) (end : LinkEnd)
+    (result : Result (Unit {0}) LinkEnd) (next : LinkState) → result ≡ Err end
+    → Ends grew cut P before old end new → Did grew cut P before old result next new
+did_end grew cut P before old new end result next same ends =
+    subst (λ r. Did grew cut P before old r next new) (sym same) ends
+
+pub did_early : {W : Type 0} {grew : W → List Note → W → Type 0} {cut : W → Note → W → Type 0}
+    → IsWatch grew cut → {P Q : Part} {before : LinkState} (old new : W) (end : LinkEnd)
+    (result : Result (Unit {0}) LinkEnd) (next : LinkState) → Follows P Q before
+    → result ≡ Err end → Ends grew cut P before old end new
+    → Did grew cut (NextOf goes P Q) before old result next new
+did_early {W} {grew} {cut} watch {P} {Q} {before} old new end result next follows same ends =
+    did_end grew cut (NextOf goes P Q) before old new end result next same
+    (ends_early grew cut watch P Q before old new end follows ends)
 
 -- ---- one call
 

@@ -1,5 +1,5 @@
 -- The loop in which what waits is sent, and what follows recovery.
-use Rattle.std.proofs.Common.{◌≡◌, ◌↔◌, ℕ, ◌<◌, Bool, true, false, MatchBool, IsTrue, IsSome, List, [], ◌++◌, length, Option, Some, None, refl, sym, ap, ◌∙◌, subst, arith}
+use Rattle.std.proofs.Common.{◌≡◌, ◌↔◌, ℕ, ◌<◌, Bool, true, false, MatchBool, IsTrue, IsSome, List, [], ◌++◌, length, Option, Some, None, Result, Ok, Err, refl, sym, ap, ◌∙◌, subst, arith}
 use Rattle.link_buffers.specs.Queues.{packet_count}
 use Rattle.link_buffers.specs.Priorities.{highest}
 use Rattle.link_buffers.proofs.PriorityLaws.{packet_count-highest}
@@ -20,8 +20,8 @@ use Rattle.link_rest.proofs.Recovery.{rests_test}
 use Rattle.link_rest.proofs.SendingRounds.{Quiet, AfterRound, round_goes}
 use Rattle.link_rest.proofs.Sending.{Sending}
 use Rattle.link_rest.proofs.Ends.{left_at, fewer_after, sound_of, turn_can, sending_can}
-use Rattle.link_law.specs.Does.{Comes, Ends}
-use Rattle.link_law.proofs.DoesLaws.{IsWatch, Follows, comes_where, ends_where, comes_next, ends_next, ends_early}
+use Rattle.link_law.specs.Does.{Comes, Ends, Did}
+use Rattle.link_law.proofs.DoesLaws.{IsWatch, Follows, comes_where, did_where, comes_next, ends_next, ends_early}
 use Rattle.link_law.proofs.DrainLaws.{comes_map, ends_map, Open, open_none, open_comes, open_ends, open_on}
 
 -- what follows a round: the last part, if the port is to restart, or more of the loop
@@ -139,7 +139,7 @@ as_after near mid is all turn =
     subst (λ (b : Bool). MatchBool b (TakesTurn near (At mid) all) (Sending near (At mid) all))
     (sym is) turn
 
-pub last_comes : {W : Type 0} {grew : W → List Note → W → Type 0} {cut : W → Note → W → Type 0}
+last_comes : {W : Type 0} {grew : W → List Note → W → Type 0} {cut : W → Note → W → Type 0}
     → IsWatch grew cut → (near : Side) (before now mid next : LinkState) (old w v new : W)
     → of_end near (λ link. waits link.a) (At now) ≡ true → Leaving near (At mid) ≡ true
     → Sent grew near before old now w → Comes grew (TakesTurn near) now w (At mid) v
@@ -152,7 +152,7 @@ last_comes watch near before now mid next old w v new busy last s first again =
     (comes_next watch (TakesTurn near) (After near) now mid w v new (At next) first
     (comes_map (TakesTurn near) (After near) mid v new (At next) (as_after near mid last) again)))
 
-pub last_ends : {W : Type 0} (grew : W → List Note → W → Type 0) (cut : W → Note → W → Type 0)
+last_ends : {W : Type 0} (grew : W → List Note → W → Type 0) (cut : W → Note → W → Type 0)
     → IsWatch grew cut
     → (near : Side) (before now mid : LinkState) (old w v new : W) (end : LinkEnd)
     → of_end near (λ link. waits link.a) (At now) ≡ true → Leaving near (At mid) ≡ true
@@ -165,6 +165,18 @@ last_ends grew cut watch near before now mid old w v new end busy last s first a
     (loop_of near now busy)
     (ends_next grew cut watch (TakesTurn near) (After near) now mid w v new end first
     (ends_map grew cut (TakesTurn near) (After near) mid v new end (as_after near mid last) again)))
+
+pub last_did : {W : Type 0} (grew : W → List Note → W → Type 0) (cut : W → Note → W → Type 0)
+    → IsWatch grew cut → (near : Side) (before now mid : LinkState) (old w v new : W)
+    (result : Result (Unit {0}) LinkEnd) (next : LinkState)
+    → of_end near (λ link. waits link.a) (At now) ≡ true → Leaving near (At mid) ≡ true
+    → Sent grew near before old now w → Comes grew (TakesTurn near) now w (At mid) v
+    → Did grew cut (TakesTurn near) mid v result next new
+    → Did grew cut (Sending near) before old result next new
+last_did grew cut watch near before now mid old w v new (Ok done) next busy last s first again =
+    last_comes watch near before now mid next old w v new busy last s first again
+last_did grew cut watch near before now mid old w v new (Err end) next busy last s first again =
+    last_ends grew cut watch near before now mid old w v new end busy last s first again
 
 -- a round that ended
 pub sent_ends : {W : Type 0} (grew : W → List Note → W → Type 0) (cut : W → Note → W → Type 0)
@@ -194,12 +206,12 @@ all_comes near before next old new quiet h =
     comes_where (of_end near first_rests) (Sending near) before old new (At next)
     (rests_test (from_end near before) quiet.out) h
 
-pub all_ends : {W : Type 0} (grew : W → List Note → W → Type 0) (cut : W → Note → W → Type 0)
-    (near : Side) (before : LinkState) (old new : W) (end : LinkEnd) → Quiet near before
-    → Ends grew cut (Sending near) before old end new
-    → Ends grew cut (SendsAll near) before old end new
-all_ends grew cut near before old new end quiet h =
-    ends_where grew cut (of_end near first_rests) (Sending near) before old new end
+pub all_did : {W : Type 0} (grew : W → List Note → W → Type 0) (cut : W → Note → W → Type 0)
+    (near : Side) (before : LinkState) (old new : W) (result : Result (Unit {0}) LinkEnd)
+    (next : LinkState) → Quiet near before → Did grew cut (Sending near) before old result next new
+    → Did grew cut (SendsAll near) before old result next new
+all_did grew cut near before old new result next quiet h =
+    did_where grew cut (of_end near first_rests) (Sending near) before old new result next
     (rests_test (from_end near before) quiet.out) h
 
 -- ---- whether a packet waits, by the call that counts

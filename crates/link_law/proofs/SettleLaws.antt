@@ -1,5 +1,5 @@
 -- The parts of settling, one after another.
-use Rattle.std.proofs.Common.{List, [], refl, sym, subst}
+use Rattle.std.proofs.Common.{List, [], Result, Ok, Err, OnOk, IfErr, refl, sym, subst}
 use Rattle.link_model.specs.declared.event.Event.{Event}
 use Rattle.link_watch.specs.declared.note.Note.{Note}
 use Rattle.link_watch.specs.declared.side.Side.{Side}
@@ -14,7 +14,8 @@ use Rattle.link_rest.proofs.Drains.{goes_none}
 use Rattle.link_rest.proofs.Settled.{Drained, FirstRests, BothRest, FirstDone, go_on, drains_lead, first_recovers, second_recovers, first_sends, settling_rests}
 use Rattle.link_rest.proofs.SendingRounds.{Quiet}
 use Rattle.link_rest.proofs.Ends.{Can, next_can, recovers_can, sends_can, sound_in, first_sound, second_quiet}
-use Rattle.link_law.specs.Does.{Comes}
+use Rattle.link_law.specs.declared.answers.LinkEnd.{LinkEnd}
+use Rattle.link_law.specs.Does.{Comes, Ends, Did}
 use Rattle.link_law.proofs.DoesLaws.{Follows}
 
 -- what is left of settling, from each part on
@@ -70,12 +71,35 @@ is_quiet s q = (
   },
 )
 
-pub settled_at : {W : Type 0} {grew : W → List Note → W → Type 0}
+settled_at : {W : Type 0} {grew : W → List Note → W → Type 0}
     → (before next : LinkState) (old new : W) → IsSoundLink before
     → Comes grew Settles before old (At next) new → IsSoundLink next × IsSettled next
 settled_at before next old new l h =
     leads_to (λ m. IsSoundLink m × IsSettled m) Settles before next old new h
     (settling_rests before h.acts l h.part)
+
+-- ---- what settling answers
+
+pub did_comes : {W : Type 0} (grew : W → List Note → W → Type 0) (cut : W → Note → W → Type 0)
+    (before : LinkState) (old new : W) (result : Result (Unit {0}) LinkEnd) (next : LinkState)
+    → Did grew cut Settles before old result next new
+    → OnOk result (Comes grew Settles before old (At next) new)
+did_comes grew cut before old new (Ok done) next h = h
+did_comes grew cut before old new (Err end) next h = tt
+
+pub did_settles : {W : Type 0} (grew : W → List Note → W → Type 0) (cut : W → Note → W → Type 0)
+    (before : LinkState) (old new : W) (result : Result (Unit {0}) LinkEnd) (next : LinkState)
+    → IsSoundLink before → Did grew cut Settles before old result next new
+    → OnOk result (IsSoundLink next × IsSettled next)
+did_settles grew cut before old new (Ok done) next l h = settled_at before next old new l h
+did_settles grew cut before old new (Err end) next l h = tt
+
+pub did_ends : {W : Type 0} (grew : W → List Note → W → Type 0) (cut : W → Note → W → Type 0)
+    (before : LinkState) (old new : W) (result : Result (Unit {0}) LinkEnd) (next : LinkState)
+    → Did grew cut Settles before old result next new
+    → IfErr result (λ end. Ends grew cut Settles before old end new)
+did_ends grew cut before old new (Ok done) next h = tt
+did_ends grew cut before old new (Err end) next h = h
 
 -- ---- what may follow
 

@@ -36,9 +36,7 @@ impl Link {
         let Ok(count) = u32::try_from(length) else {
             return Err(LinkEnd::NoMemory);
         };
-        if let Err(end) = self.deliver(alloc, from, count, a, b, watch) {
-            return Err(end);
-        }
+        self.deliver(alloc, from, count, a, b, watch)?;
         Ok(())
     }
 
@@ -54,13 +52,8 @@ impl Link {
             (link self.old a.old b.old) watch.old result (link self.new a.new b.new) watch.new }
         ensures counts { Counted result (W.faults watch.old) (W.faults watch.new) }
     {
-        if let Err(end) = self.empty(alloc, Side::A, a, b, watch) {
-            return Err(end);
-        }
-        if let Err(end) = self.empty(alloc, Side::B, a, b, watch) {
-            return Err(end);
-        }
-        Ok(())
+        self.empty(alloc, Side::A, a, b, watch)?;
+        self.empty(alloc, Side::B, a, b, watch)
     }
 
     /// Whether nothing stands on either wire.
@@ -87,9 +80,7 @@ impl Link {
             if self.is_idle() {
                 return Ok(());
             }
-            if let Err(end) = self.round(alloc, a, b, watch) {
-                return Err(end);
-            }
+            self.round(alloc, a, b, watch)?;
         }
         Ok(())
     }
@@ -127,13 +118,8 @@ impl Link {
             result (link self.new a.new b.new) watch.new }
         ensures counts { Counted result (W.faults watch.old) (W.faults watch.new) }
     {
-        if let Err(end) = self.pump_once(alloc, side, a, b, watch) {
-            return Err(end);
-        }
-        if let Err(end) = self.drain(alloc, a, b, watch) {
-            return Err(end);
-        }
-        Ok(())
+        self.pump_once(alloc, side, a, b, watch)?;
+        self.drain(alloc, a, b, watch)
     }
 }
 

@@ -40,22 +40,11 @@ impl Link {
             → Rose (W.faults watch.old) (W.faults watch.new) }
         ensures never_falls { W.faults watch.old ≤ W.faults watch.new }
     {
-        if let Err(end) = self.drain(alloc, a, b, watch) {
-            return Err(end);
-        }
-        if let Err(end) = self.recover(alloc, Side::A, a, b, watch) {
-            return Err(end);
-        }
-        if let Err(end) = self.recover(alloc, Side::B, a, b, watch) {
-            return Err(end);
-        }
-        if let Err(end) = self.send_all(alloc, Side::A, a, b, watch) {
-            return Err(end);
-        }
-        if let Err(end) = self.send_all(alloc, Side::B, a, b, watch) {
-            return Err(end);
-        }
-        Ok(())
+        self.drain(alloc, a, b, watch)?;
+        self.recover(alloc, Side::A, a, b, watch)?;
+        self.recover(alloc, Side::B, a, b, watch)?;
+        self.send_all(alloc, Side::A, a, b, watch)?;
+        self.send_all(alloc, Side::B, a, b, watch)
     }
 
     /// Sends a restart-from-retry, if one is owed.
@@ -75,10 +64,7 @@ impl Link {
         if !stands_back(near(side, a, b)) {
             return Ok(());
         }
-        if let Err(end) = self.take_turn(alloc, side, a, b, watch) {
-            return Err(end);
-        }
-        Ok(())
+        self.take_turn(alloc, side, a, b, watch)
     }
 
     /// Fires a time-out, if it may fire.
@@ -120,13 +106,8 @@ impl Link {
         if is_quiet(near(side, a, b), far(side, a, b)) {
             return Ok(());
         }
-        if let Err(end) = self.fire_if_due(alloc, side, a, b, watch) {
-            return Err(end);
-        }
-        if let Err(end) = self.take_turn(alloc, side, a, b, watch) {
-            return Err(end);
-        }
-        Ok(())
+        self.fire_if_due(alloc, side, a, b, watch)?;
+        self.take_turn(alloc, side, a, b, watch)
     }
 
     /// Brings the direction of one side to rest.
@@ -146,13 +127,8 @@ impl Link {
         if failed(near(side, a, b)) {
             return Ok(());
         }
-        if let Err(end) = self.restart(alloc, side, a, b, watch) {
-            return Err(end);
-        }
-        if let Err(end) = self.request(alloc, side, a, b, watch) {
-            return Err(end);
-        }
-        Ok(())
+        self.restart(alloc, side, a, b, watch)?;
+        self.request(alloc, side, a, b, watch)
     }
 
     /// Sends what waits at a side, packet by packet, of a link at rest. If one has no room, the
@@ -171,14 +147,9 @@ impl Link {
         ensures counts { Counted result (W.faults watch.old) (W.faults watch.new) }
     {
         while is_waiting(near(side, a, b)) {
-            if let Err(end) = self.take_turn(alloc, side, a, b, watch) {
-                return Err(end);
-            }
+            self.take_turn(alloc, side, a, b, watch)?;
             if stands_back(near(side, a, b)) {
-                if let Err(end) = self.take_turn(alloc, side, a, b, watch) {
-                    return Err(end);
-                }
-                return Ok(());
+                return self.take_turn(alloc, side, a, b, watch);
             }
         }
         Ok(())

@@ -1,71 +1,62 @@
-use Rattle.std.proofs.Common.{not, ap, ◌∙◌, arith}
+use Rattle.std.proofs.Common.{not, ap, ◌∙◌, arith, rules}
 use Rattle.link_machine.specs.States.{link}
+use Rattle.link_rest.specs.Settling.{Drains}
 use Rattle.link_law.proofs.DrainLaws.{drain_over, round_ends, draining_begins, draining_on, draining_ends}
-use Rattle.link_law.proofs.DoesLaws.{IsWatch}
+use Rattle.link_law.proofs.DoesLaws.{IsWatch, did_end}
+use Rattle.link_law.proofs.link.Link.drain.Given.{Over}
 use Rattle.link_law.proofs.link.Link.drain.Goals as goal
+
+is_watch : (g : Over) → IsWatch g.W.Watch.grew g.W.Watch.cut
+is_watch g = record {
+  none = g.met.W.Watch.grew_none;
+  on = g.met.W.Watch.grew_on;
+  cut_none = g.met.W.Watch.cut_none;
+}
 
 pub loop-init : goal.loop-init
 loop-init g c =
-    let watch : IsWatch g.W.Watch.grew g.W.Watch.cut = record {
-      none = g.met.W.Watch.grew_none;
-      on = g.met.W.Watch.grew_on;
-      cut_none = g.met.W.Watch.cut_none;
-    } in
     let s = link c.args.self.now c.args.a.now c.args.b.now in
-    (draining_begins {cut = g.W.Watch.cut} watch s c.args.watch.now c.requires, omega arith)
+    (draining_begins {cut = g.W.Watch.cut} (is_watch g) s c.args.watch.now c.requires, omega arith)
 
 pub returns-then-is_idle-clause-does : goal.returns-then-is_idle-clause-does
 returns-then-is_idle-clause-does g c =
-    let watch : IsWatch g.W.Watch.grew g.W.Watch.cut = record {
-      none = g.met.W.Watch.grew_none;
-      on = g.met.W.Watch.grew_on;
-      cut_none = g.met.W.Watch.cut_none;
-    } in
     let s = link c.args.self.now c.args.a.now c.args.b.now in
     let here = link c.loop.self c.loop.a c.loop.b in
-    drain_over {cut = g.W.Watch.cut} watch s here c.args.watch.now c.loop.watch (c.is_idle.ensures
+    drain_over {cut = g.W.Watch.cut} (is_watch g) s here c.args.watch.now c.loop.watch
+    (c.is_idle.ensures
     c.loop.a c.loop.b ∙ ap not c.if-is_idle.true) c.loop.invariant.0.way
 
-pub returns-in-Err-clause-does : goal.returns-in-Err-clause-does
-returns-in-Err-clause-does g c =
-    let watch : IsWatch g.W.Watch.grew g.W.Watch.cut = record {
-      none = g.met.W.Watch.grew_none;
-      on = g.met.W.Watch.grew_on;
-      cut_none = g.met.W.Watch.cut_none;
-    } in
+pub returns-in_err-round-clause-does : goal.returns-in_err-round-clause-does
+returns-in_err-round-clause-does g c =
     let s = link c.args.self.now c.args.a.now c.args.b.now in
     let here = link c.loop.self c.loop.a c.loop.b in
-    round_ends g.W.Watch.grew g.W.Watch.cut watch s here c.args.watch.now c.loop.watch
-    c.round.new.watch c.in-Err.end c.loop.invariant.0.sound (c.is_idle.ensures c.loop.a c.loop.b ∙
-    ap not c.if-is_idle.false) c.loop.invariant.0.way c.in-Err.ensures.does
+    let next = link c.round.new.self c.round.new.a c.round.new.b in
+    let end = c.in_err-round.field-0.0 in
+    did_end g.W.Watch.grew g.W.Watch.cut Drains s c.args.watch.now c.round.new.watch end
+    c.from_residual.result next (search rules)
+    (round_ends g.W.Watch.grew g.W.Watch.cut (is_watch g) s here c.args.watch.now c.loop.watch
+    c.round.new.watch end c.loop.invariant.0.sound
+    (c.is_idle.ensures c.loop.a c.loop.b ∙ ap not c.if-is_idle.false) c.loop.invariant.0.way
+    c.in_err-round.ensures.does)
 
 pub loop-preserved : goal.loop-preserved
 loop-preserved g c =
-    let watch : IsWatch g.W.Watch.grew g.W.Watch.cut = record {
-      none = g.met.W.Watch.grew_none;
-      on = g.met.W.Watch.grew_on;
-      cut_none = g.met.W.Watch.cut_none;
-    } in
     let s = link c.args.self.now c.args.a.now c.args.b.now in
     let here = link c.loop.self c.loop.a c.loop.b in
     let next = link c.round.new.self c.round.new.a c.round.new.b in (
-      draining_on {cut = g.W.Watch.cut} watch s here next c.args.watch.now c.loop.watch
+      draining_on {cut = g.W.Watch.cut} (is_watch g) s here next c.args.watch.now c.loop.watch
           c.round.new.watch c.loop.counter (omega arith)
-          (c.is_idle.ensures c.loop.a c.loop.b ∙ ap not
-          c.if-is_idle.false) c.loop.invariant.0 c.in_default.ensures.does,
-      (let before =
-          c.loop.invariant.1 in let then_on = c.in_default.ensures.counts.1 in omega arith),
+          (c.is_idle.ensures c.loop.a c.loop.b ∙ ap not c.if-is_idle.false)
+          c.loop.invariant.0 c.in_ok-round.ensures.does,
+      (let before = c.loop.invariant.1 in let then_on = c.in_ok-round.ensures.counts.1 in
+          omega arith),
     )
 
 pub returns-clause-does : goal.returns-clause-does
 returns-clause-does g c =
-    let watch : IsWatch g.W.Watch.grew g.W.Watch.cut = record {
-      none = g.met.W.Watch.grew_none;
-      on = g.met.W.Watch.grew_on;
-      cut_none = g.met.W.Watch.cut_none;
-    } in
     let s = link c.args.self.now c.args.a.now c.args.b.now in
     let here = link c.loop.self c.loop.a c.loop.b in
-    drain_over {cut = g.W.Watch.cut} watch s here c.args.watch.now c.loop.watch (draining_ends s
+    drain_over {cut = g.W.Watch.cut} (is_watch g) s here c.args.watch.now c.loop.watch
+    (draining_ends s
     here c.args.watch.now c.loop.watch c.loop.counter (omega arith) c.loop.invariant.0)
     c.loop.invariant.0.way

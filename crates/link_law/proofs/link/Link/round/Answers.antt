@@ -1,44 +1,27 @@
-use Rattle.link_watch.specs.declared.side.Side.TheVariants.{A, B}
+use Rattle.std.proofs.Common.{rules}
+use Rattle.link_watch.specs.declared.side.Side.TheVariants.{B}
 use Rattle.link_machine.specs.States.{link}
-use Rattle.link_rest.specs.Acts.{At}
 use Rattle.link_rest.specs.Settling.{Empties}
-use Rattle.link_law.proofs.DoesLaws.{IsWatch, ends_early, ends_next, comes_next, empties_follow}
+use Rattle.link_law.proofs.DoesLaws.{IsWatch, did_next, did_early, empties_follow}
+use Rattle.link_law.proofs.link.Link.round.Given.{Over}
 use Rattle.link_law.proofs.link.Link.round.Goals as goal
 
-pub returns-in-Err-clause-does : goal.returns-in-Err-clause-does
-returns-in-Err-clause-does g c =
-    let watch : IsWatch g.W.Watch.grew g.W.Watch.cut = record {
-      none = g.met.W.Watch.grew_none;
-      on = g.met.W.Watch.grew_on;
-      cut_none = g.met.W.Watch.cut_none;
-    } in
-    let s = link c.args.self.now c.args.a.now c.args.b.now in
-    ends_early g.W.Watch.grew g.W.Watch.cut watch (Empties A) (Empties B) s c.args.watch.now
-    c.empty.new.watch c.in-Err.end (empties_follow s) c.in-Err.ensures.does
+is_watch : (g : Over) → IsWatch g.W.Watch.grew g.W.Watch.cut
+is_watch g = record {
+  none = g.met.W.Watch.grew_none;
+  on = g.met.W.Watch.grew_on;
+  cut_none = g.met.W.Watch.cut_none;
+}
 
-pub returns-in-Err-empty-clause-does : goal.returns-in-Err-empty-clause-does
-returns-in-Err-empty-clause-does g c =
-    let watch : IsWatch g.W.Watch.grew g.W.Watch.cut = record {
-      none = g.met.W.Watch.grew_none;
-      on = g.met.W.Watch.grew_on;
-      cut_none = g.met.W.Watch.cut_none;
-    } in
+pub returns-in_err-empty-clause-does : goal.returns-in_err-empty-clause-does
+returns-in_err-empty-clause-does g c =
     let s = link c.args.self.now c.args.a.now c.args.b.now in
-    let mid = link c.empty.new.self c.empty.new.a c.empty.new.b in
-    ends_next g.W.Watch.grew g.W.Watch.cut watch (Empties A) (Empties B) s mid c.args.watch.now
-    c.empty.new.watch c.empty-2.new.watch c.in-Err-empty.end c.in_default.ensures.does
-    c.in-Err-empty.ensures.does
+    let first = link c.empty.new.self c.empty.new.a c.empty.new.b in
+    did_early (is_watch g) c.args.watch.now c.empty.new.watch c.in_err-empty.field-0.0
+    c.from_residual.result first (empties_follow s) (search rules) c.in_err-empty.ensures.does
 
 pub returns-clause-does : goal.returns-clause-does
 returns-clause-does g c =
-    let watch : IsWatch g.W.Watch.grew g.W.Watch.cut = record {
-      none = g.met.W.Watch.grew_none;
-      on = g.met.W.Watch.grew_on;
-      cut_none = g.met.W.Watch.cut_none;
-    } in
-    let s = link c.args.self.now c.args.a.now c.args.b.now in
-    let mid = link c.empty.new.self c.empty.new.a c.empty.new.b in
-    let next = link c.empty-2.new.self c.empty-2.new.a c.empty-2.new.b in
-    comes_next {cut = g.W.Watch.cut} watch (Empties A) (Empties B) s mid c.args.watch.now
-    c.empty.new.watch c.empty-2.new.watch (At next) c.in_default.ensures.does
-    c.in_default-empty.ensures.does
+    let both = link c.empty-2.new.self c.empty-2.new.a c.empty-2.new.b in
+    did_next (is_watch g) (Empties B) c.empty-2.new.watch c.empty-2.result both
+    c.in_ok-empty.ensures.does c.empty-2.ensures.does

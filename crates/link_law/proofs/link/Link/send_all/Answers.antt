@@ -1,20 +1,25 @@
-use Rattle.std.proofs.Common.{refl, sym, ap, ◌∙◌, arith}
+use Rattle.std.proofs.Common.{refl, sym, ap, ◌∙◌, arith, rules}
 use Rattle.link_port.specs.Ports.{PortState}
 use Rattle.link_machine.specs.States.{link}
 use Rattle.link_rest.specs.Settling.{waits, is_retry_stopped}
-use Rattle.link_law.proofs.SendLaws.{quiet_first, sent_none, sent_on, sent_over, sent_ends, last_comes, last_ends, sound_round, all_comes, all_ends}
-use Rattle.link_law.proofs.DoesLaws.{IsWatch}
+use Rattle.link_rest.proofs.Sending.{Sending}
+use Rattle.link_law.proofs.SendLaws.{quiet_first, sent_none, sent_on, sent_over, sent_ends, last_did, sound_round, all_comes, all_did}
+use Rattle.link_law.proofs.DoesLaws.{IsWatch, did_end}
+use Rattle.link_law.proofs.link.Link.send_all.Given.{Over}
 use Rattle.link_law.proofs.link.Link.send_all.Goals as goal
+
+is_watch : (g : Over) → IsWatch g.W.Watch.grew g.W.Watch.cut
+is_watch g = record {
+  none = g.met.W.Watch.grew_none;
+  on = g.met.W.Watch.grew_on;
+  cut_none = g.met.W.Watch.cut_none;
+}
 
 pub loop-alloc-init : goal.loop-alloc-init
 loop-alloc-init g c =
-    let watch : IsWatch g.W.Watch.grew g.W.Watch.cut = record {
-      none = g.met.W.Watch.grew_none;
-      on = g.met.W.Watch.grew_on;
-      cut_none = g.met.W.Watch.cut_none;
-    } in
     let s = link c.args.self.now c.args.a.now c.args.b.now in (
-      sent_none {cut = g.W.Watch.cut} watch c.args.side s c.args.watch.now (quiet_first c.args.side
+      sent_none {cut = g.W.Watch.cut} (is_watch g) c.args.side s c.args.watch.now
+          (quiet_first c.args.side
           s c.requires),
       omega arith,
       refl,
@@ -24,20 +29,23 @@ pub take_turn-requires : goal.take_turn-requires
 take_turn-requires g c =
     c.loop-alloc.invariant.0.quiet.sound
 
-pub returns-in-Err-clause-does : goal.returns-in-Err-clause-does
-returns-in-Err-clause-does g c =
-    let watch : IsWatch g.W.Watch.grew g.W.Watch.cut = record {
-      none = g.met.W.Watch.grew_none;
-      on = g.met.W.Watch.grew_on;
-      cut_none = g.met.W.Watch.cut_none;
-    } in
+pub returns-in_err-take_turn-clause-does : goal.returns-in_err-take_turn-clause-does
+returns-in_err-take_turn-clause-does g c =
     let s = link c.args.self.now c.args.a.now c.args.b.now in
     let here = link c.loop-alloc.self c.loop-alloc.a c.loop-alloc.b in
-    all_ends g.W.Watch.grew g.W.Watch.cut c.args.side s c.args.watch.now c.take_turn.new.watch
-    c.in-Err.end (quiet_first c.args.side s c.requires) (sent_ends g.W.Watch.grew g.W.Watch.cut
-    watch c.args.side s here c.args.watch.now c.loop-alloc.watch c.take_turn.new.watch
-    c.in-Err.end (ap (λ (p : PortState). waits p) (sym (c.near.ensures c.loop-alloc.self)) ∙ sym
-    c.is_waiting.ensures ∙ c.loop-alloc-test.true) c.loop-alloc.invariant.0 c.in-Err.ensures.does)
+    let next = link c.take_turn.new.self c.take_turn.new.a c.take_turn.new.b in
+    let end = c.in_err-take_turn.field-0.0 in
+    let busy =
+    ap (λ (p : PortState). waits p) (sym (c.near.ensures c.loop-alloc.self))
+    ∙ sym c.is_waiting.ensures
+    ∙ c.loop-alloc-test.true in
+    all_did g.W.Watch.grew g.W.Watch.cut c.args.side s c.args.watch.now c.take_turn.new.watch
+    c.from_residual.result next (quiet_first c.args.side s c.requires)
+    (did_end g.W.Watch.grew g.W.Watch.cut (Sending c.args.side) s c.args.watch.now
+    c.take_turn.new.watch end c.from_residual.result next (search rules)
+    (sent_ends g.W.Watch.grew g.W.Watch.cut (is_watch g) c.args.side s here c.args.watch.now
+    c.loop-alloc.watch c.take_turn.new.watch end busy c.loop-alloc.invariant.0
+    c.in_err-take_turn.ensures.does))
 
 pub take_turn-requires-then-stands_back : goal.take_turn-requires-then-stands_back
 take_turn-requires-then-stands_back g c =
@@ -46,98 +54,67 @@ take_turn-requires-then-stands_back g c =
     sound_round c.args.side here next c.loop-alloc.watch c.take_turn.new.watch
     c.loop-alloc.invariant.0.quiet (ap (λ (p : PortState). waits p) (sym (c.near.ensures
     c.loop-alloc.self)) ∙ sym c.is_waiting.ensures ∙ c.loop-alloc-test.true)
-    c.in_default.ensures.does
-
-pub returns-in-Err-take_turn-clause-does : goal.returns-in-Err-take_turn-clause-does
-returns-in-Err-take_turn-clause-does g c =
-    let watch : IsWatch g.W.Watch.grew g.W.Watch.cut = record {
-      none = g.met.W.Watch.grew_none;
-      on = g.met.W.Watch.grew_on;
-      cut_none = g.met.W.Watch.cut_none;
-    } in
-    let s = link c.args.self.now c.args.a.now c.args.b.now in
-    let here = link c.loop-alloc.self c.loop-alloc.a c.loop-alloc.b in
-    let next = link c.take_turn.new.self c.take_turn.new.a c.take_turn.new.b in
-    all_ends g.W.Watch.grew g.W.Watch.cut c.args.side s c.args.watch.now
-    c.take_turn-then-stands_back.new.watch c.in-Err-take_turn.end (quiet_first c.args.side s
-    c.requires) (last_ends g.W.Watch.grew g.W.Watch.cut watch c.args.side s here next
-    c.args.watch.now c.loop-alloc.watch c.take_turn.new.watch
-    c.take_turn-then-stands_back.new.watch c.in-Err-take_turn.end (ap (λ (p : PortState). waits p)
-    (sym (c.near.ensures c.loop-alloc.self)) ∙ sym c.is_waiting.ensures ∙ c.loop-alloc-test.true)
-    (ap (λ (p : PortState). is_retry_stopped p.output) (sym (c.near-in-loop-alloc.ensures
-    c.take_turn.new.self)) ∙ sym c.stands_back.ensures ∙ c.if-stands_back.true)
-    c.loop-alloc.invariant.0 c.in_default.ensures.does c.in-Err-take_turn.ensures.does)
+    c.in_ok-take_turn.ensures.does
 
 pub returns-then-stands_back-clause-does : goal.returns-then-stands_back-clause-does
 returns-then-stands_back-clause-does g c =
-    let watch : IsWatch g.W.Watch.grew g.W.Watch.cut = record {
-      none = g.met.W.Watch.grew_none;
-      on = g.met.W.Watch.grew_on;
-      cut_none = g.met.W.Watch.cut_none;
-    } in
     let s = link c.args.self.now c.args.a.now c.args.b.now in
     let here = link c.loop-alloc.self c.loop-alloc.a c.loop-alloc.b in
     let next = link c.take_turn.new.self c.take_turn.new.a c.take_turn.new.b in
-    let last = link c.take_turn-then-stands_back.new.self c.take_turn-then-stands_back.new.a
+    let last =
+    link c.take_turn-then-stands_back.new.self c.take_turn-then-stands_back.new.a
     c.take_turn-then-stands_back.new.b in
-    all_comes c.args.side s last c.args.watch.now c.take_turn-then-stands_back.new.watch
-    (quiet_first c.args.side s c.requires) (last_comes {cut = g.W.Watch.cut} watch c.args.side s
-    here next last c.args.watch.now c.loop-alloc.watch c.take_turn.new.watch
-    c.take_turn-then-stands_back.new.watch (ap (λ (p : PortState). waits p) (sym (c.near.ensures
-    c.loop-alloc.self)) ∙ sym c.is_waiting.ensures ∙ c.loop-alloc-test.true) (ap (λ (p :
-    PortState). is_retry_stopped p.output) (sym (c.near-in-loop-alloc.ensures
-    c.take_turn.new.self)) ∙ sym c.stands_back.ensures ∙ c.if-stands_back.true)
-    c.loop-alloc.invariant.0 c.in_default.ensures.does c.in_default-take_turn.ensures.does)
+    let busy =
+    ap (λ (p : PortState). waits p) (sym (c.near.ensures c.loop-alloc.self))
+    ∙ sym c.is_waiting.ensures
+    ∙ c.loop-alloc-test.true in
+    let leaves =
+    ap (λ (p : PortState). is_retry_stopped p.output)
+    (sym (c.near-in-loop-alloc.ensures c.take_turn.new.self))
+    ∙ sym c.stands_back.ensures
+    ∙ c.if-stands_back.true in
+    all_did g.W.Watch.grew g.W.Watch.cut c.args.side s c.args.watch.now
+    c.take_turn-then-stands_back.new.watch c.take_turn-then-stands_back.result last
+    (quiet_first c.args.side s c.requires)
+    (last_did g.W.Watch.grew g.W.Watch.cut (is_watch g) c.args.side s here next c.args.watch.now
+    c.loop-alloc.watch c.take_turn.new.watch c.take_turn-then-stands_back.new.watch
+    c.take_turn-then-stands_back.result last busy leaves c.loop-alloc.invariant.0
+    c.in_ok-take_turn.ensures.does c.take_turn-then-stands_back.ensures.does)
 
 pub loop-alloc-smaller : goal.loop-alloc-smaller
 loop-alloc-smaller g c =
-    let watch : IsWatch g.W.Watch.grew g.W.Watch.cut = record {
-      none = g.met.W.Watch.grew_none;
-      on = g.met.W.Watch.grew_on;
-      cut_none = g.met.W.Watch.cut_none;
-    } in
     let s = link c.args.self.now c.args.a.now c.args.b.now in
     let here = link c.loop-alloc.self c.loop-alloc.a c.loop-alloc.b in
     let next = link c.take_turn.new.self c.take_turn.new.a c.take_turn.new.b in
-    (sent_on {cut = g.W.Watch.cut} watch c.args.side s here next c.args.watch.now
+    (sent_on {cut = g.W.Watch.cut} (is_watch g) c.args.side s here next c.args.watch.now
     c.loop-alloc.watch c.take_turn.new.watch (ap (λ (p : PortState). waits p) (sym (c.near.ensures
     c.loop-alloc.self)) ∙ sym c.is_waiting.ensures ∙ c.loop-alloc-test.true) (ap (λ (p :
     PortState). is_retry_stopped p.output) (sym (c.near-in-loop-alloc.ensures
     c.take_turn.new.self)) ∙ sym c.stands_back.ensures ∙ c.if-stands_back.false)
-    c.loop-alloc.invariant.0 c.in_default.ensures.does).1
+    c.loop-alloc.invariant.0 c.in_ok-take_turn.ensures.does).1
 
 pub loop-alloc-preserved : goal.loop-alloc-preserved
 loop-alloc-preserved g c =
-    let watch : IsWatch g.W.Watch.grew g.W.Watch.cut = record {
-      none = g.met.W.Watch.grew_none;
-      on = g.met.W.Watch.grew_on;
-      cut_none = g.met.W.Watch.cut_none;
-    } in
     let s = link c.args.self.now c.args.a.now c.args.b.now in
     let here = link c.loop-alloc.self c.loop-alloc.a c.loop-alloc.b in
     let next = link c.take_turn.new.self c.take_turn.new.a c.take_turn.new.b in (
-      (sent_on {cut = g.W.Watch.cut} watch c.args.side s here next c.args.watch.now
+      (sent_on {cut = g.W.Watch.cut} (is_watch g) c.args.side s here next c.args.watch.now
           c.loop-alloc.watch c.take_turn.new.watch
           (ap (λ (p : PortState). waits p) (sym (c.near.ensures
           c.loop-alloc.self)) ∙ sym c.is_waiting.ensures ∙ c.loop-alloc-test.true) (ap (λ (p :
           PortState). is_retry_stopped p.output) (sym (c.near-in-loop-alloc.ensures
           c.take_turn.new.self)) ∙ sym c.stands_back.ensures ∙ c.if-stands_back.false)
-          c.loop-alloc.invariant.0 c.in_default.ensures.does).0,
+          c.loop-alloc.invariant.0 c.in_ok-take_turn.ensures.does).0,
       (let before = c.loop-alloc.invariant.1
-          in let then_on = c.in_default.ensures.counts.1 in omega arith),
+          in let then_on = c.in_ok-take_turn.ensures.counts.1 in omega arith),
       refl,
     )
 
 pub returns-clause-does : goal.returns-clause-does
 returns-clause-does g c =
-    let watch : IsWatch g.W.Watch.grew g.W.Watch.cut = record {
-      none = g.met.W.Watch.grew_none;
-      on = g.met.W.Watch.grew_on;
-      cut_none = g.met.W.Watch.cut_none;
-    } in
     let s = link c.args.self.now c.args.a.now c.args.b.now in
     let here = link c.loop-alloc.self c.loop-alloc.a c.loop-alloc.b in
     all_comes c.args.side s here c.args.watch.now c.loop-alloc.watch (quiet_first c.args.side s
-    c.requires) (sent_over {cut = g.W.Watch.cut} watch c.args.side s here c.args.watch.now
+    c.requires) (sent_over {cut = g.W.Watch.cut} (is_watch g) c.args.side s here c.args.watch.now
     c.loop-alloc.watch (ap (λ (p : PortState). waits p) (sym (c.near.ensures c.loop-alloc.self)) ∙
     sym c.is_waiting.ensures ∙ c.loop-alloc-test.false) c.loop-alloc.invariant.0)
