@@ -12,7 +12,8 @@ use Rattle.trace_lines.specs.Watching.{WritesNotes}
 use Rattle.trace_lines.specs.declared.watching.LinkLines.{LinkLines}
 
 -- no notes have no lines
-pub writes_no_notes : {K : Type 0} (written : K → Option (List ℕ)) (faults : K → ℕ) (watch : LinkLines K) → WritesNotes written faults watch [] watch
+pub writes_no_notes : {K : Type 0} (written : K → Option (List ℕ)) (faults : K → ℕ)
+    (watch : LinkLines K) → WritesNotes written faults watch [] watch
 writes_no_notes written faults watch = record {
   outbox = refl;
   names = refl;
@@ -23,17 +24,24 @@ writes_no_notes written faults watch = record {
 
 -- the lines of more notes stand behind those of the first
 lines_on : (names : List (List ℕ)) (a b : PortRef) (first rest : List Note)
-    → trace_text names (lines_of a b first) ++ trace_text names (lines_of a b rest) ≡ trace_text names (lines_of a b (first ++ rest))
+    → trace_text names (lines_of a b first) ++ trace_text names (lines_of a b rest)
+    ≡ trace_text names (lines_of a b (first ++ rest))
 lines_on names a b first rest =
-    sym (flat_map-append _ (lines_of a b first) (lines_of a b rest)) ∙ ap (trace_text names) (sym (map-append (line_of a b) first rest))
+    sym (flat_map-append _ (lines_of a b first) (lines_of a b rest))
+    ∙ ap (trace_text names) (sym (map-append (line_of a b) first rest))
 
-pub writes_more_notes : {K : Type 0} (written : K → Option (List ℕ)) (faults : K → ℕ) (watch next last : LinkLines K) (first rest : List Note)
-    → WritesNotes written faults watch first next → WritesNotes written faults next rest last → WritesNotes written faults watch (first ++ rest) last
+-- notes that are taken in behind others are written behind them
+pub writes_more_notes : {K : Type 0} (written : K → Option (List ℕ)) (faults : K → ℕ)
+    (watch next last : LinkLines K) (first rest : List Note)
+    → WritesNotes written faults watch first next → WritesNotes written faults next rest last
+    → WritesNotes written faults watch (first ++ rest) last
 writes_more_notes written faults watch next last first rest once more = record {
   outbox = more.outbox ∙ once.outbox;
   names = more.names ∙ once.names;
   first_end = more.first_end ∙ once.first_end;
   second_end = more.second_end ∙ once.second_end;
-  lines = subst (Writes written faults watch.outbox.now last.outbox.now) (lines_on watch.names.now watch.a watch.b first rest)
-      (Writes-then _ _ once.lines (rw (sym once.names, sym once.first_end, sym once.second_end) more.lines));
+  lines = subst (Writes written faults watch.outbox.now last.outbox.now)
+      (lines_on watch.names.now watch.a watch.b first rest)
+      (Writes-then _ _ once.lines
+      (rw (sym once.names, sym once.first_end, sym once.second_end) more.lines));
 }

@@ -1,18 +1,28 @@
 //! The lines of a trace over ports, written to an outbox.
 //!
-//! Whoever writes a trace calls `trace_lines` once a line, and hands a link a [`LinkLines`].
-//!
 //! Promised: each function writes the text of one line, with its line feed; the watch writes the
 //! line of each note, in order.
 //!
 //! Left out: which lines a trace has.
+//!
+//! - `write_begun`: the line with which an event begins
+//! - `write_take` to `write_early`: the lines of an event
+//! - [`LinkLines`]: a watch of a link, which writes its notes
+//! - `write_end`, `write_undetected`: the last line
 #![tactic(auto)]
 
+mod begun;
+#[cfg(test)]
+mod begun_tests;
 #[cfg(test)]
 mod tests;
+mod undetected;
 mod watching;
+mod words;
 mod writing;
 
+pub use begun::write_begun;
+pub use undetected::write_undetected;
 pub use watching::LinkLines;
 pub use writing::{
     write_early, write_empty, write_end, write_fire, write_free, write_full, write_got, write_hold,

@@ -24,9 +24,9 @@ const SYMBOL: [Char; 4] = [
     Char::Data(0x16),
 ];
 
-const NEAR: PortRef = PortRef { node: 0, port: 0 };
+pub(crate) const NEAR: PortRef = PortRef { node: 0, port: 0 };
 
-const FAR: PortRef = PortRef { node: 1, port: 0 };
+pub(crate) const FAR: PortRef = PortRef { node: 1, port: 0 };
 
 const LINES: &[u8] = b"take A 000f0201cafe0001a9bb0000\nfire A.0\nsent B.0 k1c d00 dff d16\n\
 got A.0 k1c d00 dff d16\nhold B.0 000f0201cafe0001a9bb0000\nfree A.0 000f0201cafe0001a9bb0000\n\
@@ -37,7 +37,7 @@ hold B.0 000f0201cafe0001a9bb0000\nsent B.0 k1c d00 dff d16\ngot A.0 k1c d00 dff
 free A.0 000f0201cafe0001a9bb0000\n";
 
 /// The names of the two endpoints.
-fn two_names(rt: &impl Abort, alloc: Global) -> Result<Vec<Name>, Fail>
+pub(crate) fn two_names(rt: &impl Abort, alloc: Global) -> Result<Vec<Name>, Fail>
     ensures two { IfOk result (λ names. length names.items ≡ 2) }
 {
     let (Some(first), Some(second)) = (read_name(b"A"), read_name(b"B")) else {
@@ -47,7 +47,7 @@ fn two_names(rt: &impl Abort, alloc: Global) -> Result<Vec<Name>, Fail>
 }
 
 /// The packet of these bytes.
-fn a_packet(rt: &impl Abort) -> Packet {
+pub(crate) fn a_packet(rt: &impl Abort) -> Packet {
     let Ok((_, packet)) = check(&FORM) else {
         panic!(rt; "no packet");
     };
@@ -59,6 +59,19 @@ fn a_symbol(alloc: Global) -> Result<Chars, Fail> {
     let mut items = Vec::new(alloc);
     items.extend_from_slice(&SYMBOL)?;
     Ok(Chars::new(items))
+}
+
+/// The notes of a packet that is sent, held and acknowledged, after a time-out.
+fn notes_of_a_packet(rt: &impl Abort, alloc: Global) -> Result<Vec<Note>, Fail> {
+    Ok(vec![in alloc;
+        Note::Fire(Side::A),
+        Note::Sent(Side::A, a_symbol(alloc)?),
+        Note::Got(Side::B, a_symbol(alloc)?),
+        Note::Hold(Side::B, a_packet(rt)),
+        Note::Sent(Side::B, a_symbol(alloc)?),
+        Note::Got(Side::A, a_symbol(alloc)?),
+        Note::Free(Side::A, a_packet(rt)),
+    ]?)
 }
 
 /// Writes the lines of notes, as whoever works a link does.
@@ -117,15 +130,7 @@ fn lines_are_those_of_a_trace(rt: HostRuntime) -> Result<(), Fail> {
 fn notes_are_written_in_order(rt: HostRuntime) -> Result<(), Fail> {
     let alloc = rt.alloc();
     let names = two_names(&rt, alloc)?;
-    let notes = vec![in alloc;
-        Note::Fire(Side::A),
-        Note::Sent(Side::A, a_symbol(alloc)?),
-        Note::Got(Side::B, a_symbol(alloc)?),
-        Note::Hold(Side::B, a_packet(&rt)),
-        Note::Sent(Side::B, a_symbol(alloc)?),
-        Note::Got(Side::A, a_symbol(alloc)?),
-        Note::Free(Side::A, a_packet(&rt)),
-    ]?;
+    let notes = notes_of_a_packet(&rt, alloc)?;
     let mut sink = MemSink::new(alloc, 512, 64, Vec::new(alloc))?;
     let mut buffer = TextBuffer::new(alloc)?;
     let mut outbox = Outbox::new(&mut buffer, &mut sink);
@@ -136,5 +141,24 @@ fn notes_are_written_in_order(rt: HostRuntime) -> Result<(), Fail> {
     outbox.flush();
     assert!(rt; !outbox.failed());
     assert_eq!(rt; sink.written(), NOTES);
+    Ok(())
+}
+
+#[test]
+fn notes_behind_a_failed_write_are_dropped(rt: HostRuntime) -> Result<(), Fail> {
+    let alloc = rt.alloc();
+    let names = two_names(&rt, alloc)?;
+    let notes = notes_of_a_packet(&rt, alloc)?;
+    let mut sink = MemSink::new(alloc, 512, 64, vec![in alloc; 0]?)?;
+    let mut buffer = TextBuffer::new(alloc)?;
+    let mut outbox = Outbox::new(&mut buffer, &mut sink);
+    write_full(&mut outbox);
+    outbox.flush();
+    assert!(rt; outbox.failed());
+    let told = write_notes(&mut outbox, alloc, &names, NEAR, FAR, &notes);
+    assert_eq!(rt; told, Ok(()));
+    outbox.flush();
+    assert!(rt; outbox.failed());
+    assert!(rt; sink.written().is_empty());
     Ok(())
 }

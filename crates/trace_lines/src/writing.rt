@@ -143,7 +143,7 @@ fn write_packet<K: Sink>(outbox: &mut Outbox<K>, packet: &Packet)
 }
 
 /// Writes the name of a node.
-fn write_name<K: Sink>(outbox: &mut Outbox<K>, names: &[Name], node: u8)
+pub(crate) fn write_name<K: Sink>(outbox: &mut Outbox<K>, names: &[Name], node: u8)
     requires { node < length names.now }
     ensures { Writes K.written K.faults outbox.old outbox.new (name_of names.now node) }
 {
@@ -151,7 +151,7 @@ fn write_name<K: Sink>(outbox: &mut Outbox<K>, names: &[Name], node: u8)
 }
 
 /// Writes a port.
-fn write_port<K: Sink>(outbox: &mut Outbox<K>, names: &[Name], port: PortRef)
+pub(crate) fn write_port<K: Sink>(outbox: &mut Outbox<K>, names: &[Name], port: PortRef)
     requires { port.node < length names.now }
     ensures { Writes K.written K.faults outbox.old outbox.new (port_text names.now port) }
 {

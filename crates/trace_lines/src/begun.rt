@@ -1,0 +1,164 @@
+//! The line with which an event begins.
+ghost use Rattle.std.specs.Prelude.{◌≡◌, ◌<◌, ◌++◌, ◌∷◌, [], true, length, map, codes};
+ghost use Rattle.std.specs.Fmt.{decimal};
+ghost use Rattle.rio_chars.specs.Written.{Writes};
+ghost use Rattle.fabric_script.specs.Forms.{keyword_of};
+ghost use Rattle.fabric_script.specs.Texts.{value_text, digits_text};
+ghost use Rattle.fabric_script.specs.Lines.{form_of, values_of, new_name, line_text};
+ghost use Rattle.fabric_script.specs.LineTexts.{AreNamed, gives_packet};
+ghost use Rattle.fabric_trace.specs.Lines.{Begun};
+ghost use Rattle.fabric_trace.specs.Text.{trace_line_text};
+ghost use Rattle.trace_lines.specs.Words.{spaced_words};
+
+use crate::words::{
+    put_bytes, put_char, put_digits, put_node, put_node_number, put_number, put_numbers, put_port,
+    put_port_number,
+};
+use fabric_script::{Line, Name};
+use rio_chars::{Outbox, Sink};
+
+/// Writes the line with which an event begins. It may be any line of a script whose nodes have
+/// names.
+pub fn write_begun<K: Sink>(outbox: &mut Outbox<K>, names: &[Name], line: &Line)
+    requires { AreNamed names.now line.now }
+    ensures { Writes K.written K.faults outbox.old outbox.new
+        (trace_line_text names.now (Begun line.now) ++ codes "\n") }
+{
+    outbox.write(b"> ");
+    write_line(outbox, names, line);
+    outbox.write(b"\n");
+}
+
+/// Writes a line of a script, without its line feed.
+fn write_line<K: Sink>(outbox: &mut Outbox<K>, names: &[Name], line: &Line)
+    requires { AreNamed names.now line.now }
+    ensures { Writes K.written K.faults outbox.old outbox.new (line_text names.now line.now) }
+{
+    outbox.write(keyword(line));
+    put_words(outbox, names, line);
+}
+
+/// The keyword of a line.
+fn keyword(line: &Line) -> &'static [u8]
+    ensures { result.now ≡ keyword_of (form_of line.now) }
+{
+    match line {
+        Line::Endpoint { .. } => b"endpoint",
+        Line::Switch { .. } => b"switch",
+        Line::Link { .. } => b"link",
+        Line::Buffers { .. } => b"buffers",
+        Line::Route { .. } => b"route",
+        Line::Default { .. } => b"default",
+        Line::Lock { .. } => b"lock",
+        Line::Send { .. } => b"send",
+        Line::Read { .. } => b"read",
+        Line::Write { .. } => b"write",
+        Line::Pump { .. } => b"pump",
+        Line::Deliver { .. } => b"deliver",
+        Line::Alter { .. } => b"alter",
+        Line::Insert { .. } => b"insert",
+        Line::Erase { .. } => b"erase",
+        Line::Timeout { .. } => b"timeout",
+        Line::Settle { .. } => b"settle",
+        Line::Move { .. } => b"move",
+        Line::Collect { .. } => b"collect",
+        Line::Run { .. } => b"run",
+    }
+}
+
+/// The words behind the keyword.
+fn put_words<K: Sink>(outbox: &mut Outbox<K>, names: &[Name], line: &Line)
+    requires { AreNamed names.now line.now }
+    ensures { Writes K.written K.faults outbox.old outbox.new (spaced_words
+        (map (value_text names.now) (values_of (new_name names.now line.now) line.now))) }
+{
+    match line {
+        Line::Endpoint { name, id } => put_node_number(outbox, names, *name, u32::from(*id)),
+        Line::Switch { name, ports } => put_node_number(outbox, names, *name, u32::from(*ports)),
+        Line::Link { a, b } => {
+            put_port(outbox, names, *a);
+            put_port(outbox, names, *b);
+        }
+        Line::Buffers { port, n } => put_port_number(outbox, names, *port, u32::from(*n)),
+        Line::Route { node, id, p } => {
+            put_node(outbox, names, *node);
+            put_numbers(outbox, u32::from(*id), u32::from(*p));
+        }
+        Line::Default { node, p } => put_node_number(outbox, names, *node, u32::from(*p)),
+        Line::Lock { node, id } => put_node_number(outbox, names, *node, u32::from(*id)),
+        Line::Send { .. } | Line::Read { .. } | Line::Write { .. } => {
+            put_packet(outbox, names, line);
+        }
+        Line::Pump { port, n } | Line::Deliver { port, n } => {
+            put_port_number(outbox, names, *port, *n);
+        }
+        Line::Alter { port, place, ch } | Line::Insert { port, place, ch } => {
+            put_port_number(outbox, names, *port, *place);
+            put_char(outbox, *ch);
+        }
+        Line::Erase { port, place, n } => {
+            put_port(outbox, names, *port);
+            put_numbers(outbox, *place, *n);
+        }
+        Line::Timeout { port } | Line::Settle { port } => put_port(outbox, names, *port),
+        Line::Move { node } | Line::Collect { node } => put_node(outbox, names, *node),
+        Line::Run { n } => put_number(outbox, *n),
+    }
+}
+
+/// The words of a packet that is given to an endpoint.
+fn put_packet<K: Sink>(outbox: &mut Outbox<K>, names: &[Name], line: &Line)
+    requires named { AreNamed names.now line.now }
+    requires packet { gives_packet line.now ≡ true }
+    ensures { Writes K.written K.faults outbox.old outbox.new (spaced_words
+        (map (value_text names.now) (values_of (new_name names.now line.now) line.now))) }
+{
+    match line {
+        Line::Send {
+            node,
+            prio,
+            ftype,
+            dest,
+            hex,
+        } => {
+            put_node_number(outbox, names, *node, u32::from(*prio));
+            put_numbers(outbox, u32::from(*ftype), u32::from(*dest));
+            put_bytes(outbox, hex.as_slice());
+        }
+        Line::Read {
+            node,
+            prio,
+            dest,
+            hop,
+            tid,
+            offset,
+        } => {
+            put_node_number(outbox, names, *node, u32::from(*prio));
+            put_access(outbox, *dest, *hop, *tid, *offset);
+        }
+        Line::Write {
+            node,
+            prio,
+            dest,
+            hop,
+            tid,
+            offset,
+            value,
+        } => {
+            put_node_number(outbox, names, *node, u32::from(*prio));
+            put_access(outbox, *dest, *hop, *tid, *offset);
+            put_digits(outbox, 8, *value);
+        }
+        _ => {}
+    }
+}
+
+/// Where a maintenance request goes, its number, and the register that it asks for.
+fn put_access<K: Sink>(outbox: &mut Outbox<K>, dest: u8, hop: u8, tid: u8, offset: u32)
+    ensures { Writes K.written K.faults outbox.old outbox.new (spaced_words
+        (decimal dest ∷ decimal hop ∷ decimal tid ∷ digits_text 6 offset ∷ [])) }
+{
+    put_numbers(outbox, u32::from(dest), u32::from(hop));
+    put_number(outbox, u32::from(tid));
+    put_digits(outbox, 6, offset);
+}
