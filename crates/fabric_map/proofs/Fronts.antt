@@ -1,5 +1,5 @@
 -- Fronts of paths: each front of a path of a walk is one of its paths.
-use Rattle.std.proofs.Common.{◌≡◌, ℕ, zero, suc, List, [], ◌∷◌, ◌++◌, length, Contains, arith, ◌⊎◌, inl, inr, subst, sym, refl, ap, ◌∙◌, append_assoc, append-nil, length-append}
+use Rattle.std.proofs.Common.{◌≡◌, ◌≢◌, ℕ, zero, suc, List, [], ◌∷◌, ◌++◌, length, Contains, arith, ◌⊎◌, inl, inr, subst, sym, refl, ap, ◌∙◌, append_assoc, append-nil, length-append}
 use Rattle.fabric_map.specs.Topology.{Topology}
 use Rattle.fabric_map.specs.Walked.{Before, onward, Walked}
 use Rattle.fabric_map.specs.Locked.{IsNext}
@@ -62,3 +62,8 @@ passed_listed topology paths bound path front later port walked (inr last) same 
         ∙ (ap (λ l. front_of l) whole ∙ front_of-onward (front ++ end.0) end.1) in
         front_listed topology paths bound front (length end.0) end.0 refl walked
         (subst (Contains paths) equal last.2)
+
+-- the path of a device that is not the host is not empty
+pub some_port : (path : List ℕ) (port : ℕ) → onward path port ≢ []
+some_port [] port same = absurd (cc)
+some_port (x ∷ path) port same = absurd (cc)

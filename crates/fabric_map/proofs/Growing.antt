@@ -1,5 +1,6 @@
 -- Lists of devices as they grow, and the paths of their devices.
 use Rattle.std.proofs.Common.{◌≡◌, ◌≢◌, ℕ, List, [], ◌∷◌, ◌++◌, Option, Some, None, option_map, Contains, arith, ◌⊎◌, inl, inr, subst, sym, refl, ap, ◌∙◌, append-nil, append_assoc}
+use Rattle.std.proofs.lemmas.Option.{same_Some}
 use Rattle.fabric_script.specs.declared.ports.PortRef.{PortRef}
 use Rattle.fabric_map.specs.declared.map.Kind.{Kind}
 use Rattle.fabric_map.specs.declared.map.Kind.TheVariants.{Endpoint, Switch}
@@ -149,3 +150,36 @@ host-first topology host_id first devices endpoint described is =
     go None (Endpoint id) none same shown = ap (λ n. Endpoint n) shown
     go None (Switch ports entry) none same shown = absurd shown
     go (Some n) kind none same shown = absurd (cc)
+
+-- a device of the list that is a switch is listed as one
+pub listed-switch : (topology : Topology) (host_id : ℕ) (devices : List Device) (path : List ℕ)
+    (at : PortRef) (ports : ℕ)
+    → AreDescribed topology host_id [] devices → Contains (paths_of devices) path
+    → entered topology path ≡ Some at → topology.switch_ports at.node ≡ Some ports
+    → (member : Device) × Contains devices member × (member.path ≡ path)
+    × (member.kind ≡ Switch ports at.port)
+listed-switch topology host_id devices path at ports described listed enters is =
+    let found = device_on devices path listed in
+    let earlier = described-listed topology host_id [] devices found.0 described found.1 in
+    let same : earlier.1.at ≡ at =
+    same_Some earlier.1.at at (sym earlier.1.path
+    ∙ (ap (λ l. entered topology l) found.2 ∙ enters)) in (
+      found.0,
+      found.1,
+      found.2,
+      go earlier.0 found.0.kind
+          (subst (λ (p : PortRef). IsKindAt host_id earlier.0 p (topology.switch_ports p.node)
+          found.0.kind) same earlier.1.kind),
+    )
+  where
+    with_ports : (earlier : List Device) (kind : Kind)
+        → IsKindAt host_id earlier at (Some ports) kind → kind ≡ Switch ports at.port
+    with_ports earlier (Endpoint id) shown = absurd shown
+    with_ports earlier (Switch n entry) shown =
+        ap (λ k. Switch k entry) shown.0 ∙ ap (λ k. Switch ports k) shown.1
+
+    go : (earlier : List Device) (kind : Kind)
+        → IsKindAt host_id earlier at (topology.switch_ports at.node) kind
+        → kind ≡ Switch ports at.port
+    go earlier kind shown = with_ports earlier kind
+        (subst (λ o. IsKindAt host_id earlier at o kind) is shown)

@@ -11,6 +11,8 @@ pub mod Few
 pub mod Growing
 pub mod Given
 pub mod Fronts
+pub mod Routing
+pub mod Tabled
 pub mod Ways
 pub mod EntryLaws
 pub mod Worked
