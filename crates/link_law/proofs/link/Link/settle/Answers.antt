@@ -1,7 +1,8 @@
 use Rattle.std.proofs.Common.{rules}
 use Rattle.link_machine.specs.States.{link}
-use Rattle.link_rest.specs.Settling.{SendsAll}
+use Rattle.link_rest.specs.Settling.{SendsAll, Settles}
 use Rattle.link_watch.specs.declared.side.Side.TheVariants.{B}
+use Rattle.link_law.specs.Does.{Did}
 use Rattle.link_law.proofs.DoesLaws.{IsWatch, did_next, did_early}
 use Rattle.link_law.proofs.SettleLaws.{Sends, SecondOn, FirstOn, drained_at, first_at, second_at, sent_at, is_quiet, did_comes, did_settles, did_ends, first_follows, second_follows, sends_follow, send_follows}
 use Rattle.link_law.proofs.link.Link.settle.Given.{Over}
@@ -123,50 +124,38 @@ send_all-requires-2 g c =
     c.in_ok-drain.ensures.does) c.in_ok-recover.ensures.does)
     c.in_ok-recover-2.ensures.does) c.in_ok-send_all.ensures.does).0
 
-pub returns-clause-done : goal.returns-clause-done
-returns-clause-done g c =
-    let s = link c.args.self.now c.args.a.now c.args.b.now in
+settles : (g : Over) (c : goal.After-send_all-2 g)
+    → Did g.W.Watch.grew g.W.Watch.cut Settles (link c.args.self.now c.args.a.now c.args.b.now)
+    c.args.watch.now c.send_all-2.result
+    (link c.send_all-2.new.self c.send_all-2.new.a c.send_all-2.new.b) c.send_all-2.new.watch
+settles g c =
     let last = link c.send_all-2.new.self c.send_all-2.new.a c.send_all-2.new.b in
-    did_comes g.W.Watch.grew g.W.Watch.cut s c.args.watch.now c.send_all-2.new.watch
-    c.send_all-2.result last
-    (did_next (is_watch g) FirstOn c.send_all-2.new.watch c.send_all-2.result last
+    did_next (is_watch g) FirstOn c.send_all-2.new.watch c.send_all-2.result last
     c.in_ok-drain.ensures.does
     (did_next (is_watch g) SecondOn c.send_all-2.new.watch c.send_all-2.result last
     c.in_ok-recover.ensures.does
     (did_next (is_watch g) Sends c.send_all-2.new.watch c.send_all-2.result last
     c.in_ok-recover-2.ensures.does
     (did_next (is_watch g) (SendsAll B) c.send_all-2.new.watch c.send_all-2.result last
-    c.in_ok-send_all.ensures.does
-    c.send_all-2.ensures.does))))
+    c.in_ok-send_all.ensures.does c.send_all-2.ensures.does)))
+
+pub returns-clause-done : goal.returns-clause-done
+returns-clause-done g c =
+    let s = link c.args.self.now c.args.a.now c.args.b.now in
+    let last = link c.send_all-2.new.self c.send_all-2.new.a c.send_all-2.new.b in
+    did_comes g.W.Watch.grew g.W.Watch.cut s c.args.watch.now c.send_all-2.new.watch
+    c.send_all-2.result last (settles g c)
 
 pub returns-clause-rest : goal.returns-clause-rest
 returns-clause-rest g c =
     let s = link c.args.self.now c.args.a.now c.args.b.now in
     let last = link c.send_all-2.new.self c.send_all-2.new.a c.send_all-2.new.b in
     did_settles g.W.Watch.grew g.W.Watch.cut s c.args.watch.now c.send_all-2.new.watch
-    c.send_all-2.result last c.requires
-    (did_next (is_watch g) FirstOn c.send_all-2.new.watch c.send_all-2.result last
-    c.in_ok-drain.ensures.does
-    (did_next (is_watch g) SecondOn c.send_all-2.new.watch c.send_all-2.result last
-    c.in_ok-recover.ensures.does
-    (did_next (is_watch g) Sends c.send_all-2.new.watch c.send_all-2.result last
-    c.in_ok-recover-2.ensures.does
-    (did_next (is_watch g) (SendsAll B) c.send_all-2.new.watch c.send_all-2.result last
-    c.in_ok-send_all.ensures.does
-    c.send_all-2.ensures.does))))
+    c.send_all-2.result last c.requires (settles g c)
 
 pub returns-clause-ended : goal.returns-clause-ended
 returns-clause-ended g c =
     let s = link c.args.self.now c.args.a.now c.args.b.now in
     let last = link c.send_all-2.new.self c.send_all-2.new.a c.send_all-2.new.b in
     did_ends g.W.Watch.grew g.W.Watch.cut s c.args.watch.now c.send_all-2.new.watch
-    c.send_all-2.result last
-    (did_next (is_watch g) FirstOn c.send_all-2.new.watch c.send_all-2.result last
-    c.in_ok-drain.ensures.does
-    (did_next (is_watch g) SecondOn c.send_all-2.new.watch c.send_all-2.result last
-    c.in_ok-recover.ensures.does
-    (did_next (is_watch g) Sends c.send_all-2.new.watch c.send_all-2.result last
-    c.in_ok-recover-2.ensures.does
-    (did_next (is_watch g) (SendsAll B) c.send_all-2.new.watch c.send_all-2.result last
-    c.in_ok-send_all.ensures.does
-    c.send_all-2.ensures.does))))
+    c.send_all-2.result last (settles g c)
