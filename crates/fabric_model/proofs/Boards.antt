@@ -1,30 +1,47 @@
--- A step as what it does to the places where items stand: one comes to a place, goes from a place to another, or none
--- moves.
-use Rattle.std.proofs.Common.{◌≡◌, ℕ, ◌+◌, Bool, true, false, eqb, List, [], ◌∷◌, ◌++◌, Some, sym, ap, ap₂, subst, refl, cond, append-nil}
+-- A step as what it does to the places where items stand: none moves, one comes to a place, one goes from a place to
+-- another, or one goes and then one comes.
+use Rattle.std.proofs.Common.{◌≡◌, ℕ, ◌+◌, Bool, true, false, eqb, List, [], ◌∷◌, ◌++◌, map, Some, sym, ap, ap₂, ◌∙◌, subst, refl, cond, append-nil}
 use Rattle.std.specs.List.{AllByRecursion}
 use Rattle.std.proofs.lemmas.Bool.{and_parts, eqb-true}
-use Rattle.rio_packets.specs.Fields.{prio_of}
+use Rattle.rio_packets.specs.Fields.{prio_of, dest_of, is_request}
+use Rattle.rio_packets.specs.LinkForm.{Passes}
+use Rattle.maint_packets.specs.declared.next_hop.Next.TheVariants.{Nowhere, Port}
+use Rattle.maint_packets.specs.NextHops.{moved}
 use Rattle.fabric_script.specs.declared.ports.PortRef.{PortRef}
-use Rattle.fabric_model.specs.Network.{Item, Network, same_port, port_of, peer_in, first_packet}
-use Rattle.fabric_model.specs.Steps.{Hold, Free, Take, Leave, Step, Linked, AtNode, Needs, only_first, behind_first, after_hold, after}
-use Rattle.fabric_model.specs.Laws.History.{IsEmptyNetwork, taken_by, left_by}
-use Rattle.fabric_model.specs.Laws.Holding.{Place, Received, Waiting, Left, same_place, items_at}
+use Rattle.fabric_model.specs.Network.{Item, Network, same_port, port_of, peer_in, first_packet, IsEndpoint}
+use Rattle.fabric_model.specs.Serving.{next_at}
+use Rattle.fabric_model.specs.Steps.{Hold, Free, Take, Leave, Move, Drop, Answer, Step, Linked, AtNode, ByDevice, Needs, IsForRegisters, only_first, behind_first, moved_item, without_first, item_of, after_hold, after}
+use Rattle.fabric_model.specs.Laws.History.{IsEmptyNetwork, End, Left, Dropped, Answered, same_end, taken_by, ended_by}
+use Rattle.fabric_model.specs.Laws.Holding.{Place, Received, Waiting, Over, same_place, items_at}
+use Rattle.fabric_model.specs.Laws.Leaving.{IsLoweredFrom}
 use Rattle.fabric_model.proofs.Peers.{port_is}
+use Rattle.fabric_model.proofs.Moving.{moves_on, named_goes, sent_by}
+
+end_is : (e f : End) → same_end e f ≡ true → e ≡ f
+end_is Left Left same = refl
+end_is Dropped Dropped same = refl
+end_is Answered Answered same = refl
+end_is Left Dropped same = absurd (cc)
+end_is Left Answered same = absurd (cc)
+end_is Dropped Left same = absurd (cc)
+end_is Dropped Answered same = absurd (cc)
+end_is Answered Left same = absurd (cc)
+end_is Answered Dropped same = absurd (cc)
 
 pub place_is : (a b : Place) → same_place a b ≡ true → a ≡ b
 place_is (Received p r) (Received q s) same =
     let parts = and_parts (same_port p q) (eqb r s) same in
     ap₂ Received (port_is p q parts.0) (eqb-true r s parts.1)
 place_is (Received p r) (Waiting q s) same = absurd (cc)
-place_is (Received p r) Left same = absurd (cc)
+place_is (Received p r) (Over f) same = absurd (cc)
 place_is (Waiting p r) (Received q s) same = absurd (cc)
 place_is (Waiting p r) (Waiting q s) same =
     let parts = and_parts (same_port p q) (eqb r s) same in
     ap₂ Waiting (port_is p q parts.0) (eqb-true r s parts.1)
-place_is (Waiting p r) Left same = absurd (cc)
-place_is Left (Received q s) same = absurd (cc)
-place_is Left (Waiting q s) same = absurd (cc)
-place_is Left Left same = refl
+place_is (Waiting p r) (Over f) same = absurd (cc)
+place_is (Over e) (Received q s) same = absurd (cc)
+place_is (Over e) (Waiting q s) same = absurd (cc)
+place_is (Over e) (Over f) same = ap Over (end_is e f same)
 
 -- what stands where
 abbrev pub Board : Type 0
@@ -38,57 +55,191 @@ put old to item place = cond (same_place place to) (old to ++ item ∷ []) (old 
 abbrev pub cut : Board → Place → List Item → Board
 cut old from rest place = cond (same_place place from) rest (old place)
 
--- the item that is taken at a port
-abbrev pub item_of : Network → PortRef → List ℕ → Item
-item_of net p packet = record { number = net.given; port = p; taken = packet; now = packet }
+-- Which goings are allowed: from which place to which, of an item as it was and as it then is.
+pub data Allowed (net : Network) : Place → Place → Item → Item → Type 0 where
+  Crosses : (p q : PortRef) (r : ℕ) (item : Item) → peer_in net.links q ≡ Some p → Allowed net (Waiting p r) (Received q r) item item
+  Turns : (p q : PortRef) (item : Item) → q.node ≡ p.node → next_at net p.node item.now ≡ Some (Port q.port) → Allowed net (Received p (prio_of item.now)) (Waiting q (prio_of item.now)) item (moved_item item)
+  Leaves : (n : ℕ) (item : Item) → IsEndpoint net n → is_request item.now ≡ false → Allowed net (Received (port_of n) (prio_of item.now)) (Over Left) item item
+  Falls : (p : PortRef) (item : Item) → next_at net p.node item.now ≡ Some Nowhere → Allowed net (Received p (prio_of item.now)) (Over Dropped) item item
+  IsHeard : (p : PortRef) (item : Item) → IsForRegisters net p item.now → Allowed net (Received p (prio_of item.now)) (Over Answered) item item
 
--- What a step makes of a network, with the items that it takes and those that leave by it.
-pub data StepOn (net next : Network) (made left : List Item) (old new : Board) : Type 0 where
-  Stays : made ≡ [] → left ≡ [] → next.given ≡ net.given → ((place : Place) → new place ≡ old place) → StepOn net next made left old new
-  Comes : (p : PortRef) (packet : List ℕ) → made ≡ item_of net p packet ∷ [] → left ≡ [] → next.given ≡ net.given + 1 → ((place : Place) → new place ≡ put old (Waiting p (prio_of packet)) (item_of net p packet) place) → StepOn net next made left old new
-  Passes : (p q : PortRef) (r : ℕ) (item : Item) (rest : List Item) → made ≡ [] → left ≡ [] → next.given ≡ net.given → peer_in net.links q ≡ Some p → old (Waiting p r) ≡ item ∷ rest → ((place : Place) → new place ≡ put (cut old (Waiting p r) rest) (Received q r) item place) → StepOn net next made left old new
-  Leaves : (p : PortRef) (r : ℕ) (item : Item) (rest : List Item) → made ≡ [] → left ≡ item ∷ [] → next.given ≡ net.given → old (Received p r) ≡ item ∷ rest → ((place : Place) → new place ≡ put (cut old (Received p r) rest) Left item place) → StepOn net next made left old new
+-- what stays of an item that goes
+pub record Along (item moved : Item) : Type 0 where
+  pub number : moved.number ≡ item.number
+  pub port : moved.port ≡ item.port
+  pub taken : moved.taken ≡ item.taken
+  pub passes : Passes moved.now
+  pub lowered : IsLoweredFrom item.taken item.now → IsLoweredFrom moved.taken moved.now
+  pub prio : prio_of moved.now ≡ prio_of item.now
+  pub dest : dest_of moved.now ≡ dest_of item.now
+
+as_is : (item : Item) → Passes item.now → Along item item
+as_is item passes = record { number = refl; port = refl; taken = refl; passes = passes; lowered = λ from. from; prio = refl; dest = refl }
+
+pub allowed_along : (net : Network) (from to : Place) (item moved : Item) → Allowed net from to item moved → Passes item.now → Along item moved
+allowed_along net from to item moved (Crosses p q r item2 peer) passes = as_is item passes
+allowed_along net from to item moved2 (Turns p q item2 same named) passes =
+    let s = sent_by net p.node item.now (Port q.port) named in
+    let on = moves_on item.now passes (named_goes s.device item.now q.port s.sends) in
+    record { number = refl; port = refl; taken = refl; passes = on.passes; lowered = λ from. on.lowered item.taken from; prio = on.prio; dest = on.dest }
+allowed_along net from to item moved (Leaves n item2 endpoint other) passes = as_is item passes
+allowed_along net from to item moved (Falls p item2 named) passes = as_is item passes
+allowed_along net from to item moved (IsHeard p item2 heard) passes = as_is item passes
+
+-- the first item of a place goes to another
+pub record Goes (net : Network) (old new : Board) : Type 0 where
+  pub from : Place
+  pub to : Place
+  pub item : Item
+  pub moved : Item
+  pub rest : List Item
+  pub allowed : Allowed net from to item moved
+  pub was : old from ≡ item ∷ rest
+  pub becomes : (place : Place) → new place ≡ put (cut old from rest) to moved place
+
+-- the next number is given to an item at a port
+pub record Comes (net : Network) (taken : List Item) (old new : Board) : Type 0 where
+  pub port : PortRef
+  pub packet : List ℕ
+  pub made : taken ≡ item_of net port packet ∷ []
+  pub passes : Passes packet
+  pub becomes : (place : Place) → new place ≡ put old (Waiting port (prio_of packet)) (item_of net port packet) place
+
+-- what a step makes of a network, with the items that it takes
+pub data StepOn (net next : Network) (made : List Item) (old new : Board) : Type 0 where
+  Stays : made ≡ [] → next.given ≡ net.given → ((place : Place) → new place ≡ old place) → StepOn net next made old new
+  IsTaken : next.given ≡ net.given + 1 → Comes net made old new → StepOn net next made old new
+  IsMoved : made ≡ [] → next.given ≡ net.given → Goes net old new → StepOn net next made old new
+  IsAnswered : (mid : Board) → next.given ≡ net.given + 1 → Goes net old mid → Comes net made mid new → StepOn net next made old new
 
 -- a list with a first packet has a first item
-pub first_item : (items : List Item) (packet : List ℕ) → first_packet items ≡ Some packet → (item : Item) × (items ≡ item ∷ behind_first items) × (only_first items ≡ item ∷ []) × (item.now ≡ packet)
+pub record First (items : List Item) (packet : List ℕ) : Type 0 where
+  pub item : Item
+  pub whole : items ≡ item ∷ behind_first items
+  pub only : only_first items ≡ item ∷ []
+  pub now : item.now ≡ packet
+
+pub first_item : (items : List Item) (packet : List ℕ) → first_packet items ≡ Some packet → First items packet
 first_item [] packet first = absurd (cc)
-first_item (item ∷ items) packet first = (item, refl, refl, cc)
+first_item (item ∷ items) packet first = record { item = item; whole = refl; only = refl; now = cc }
 
-holds_on : (net : Network) (left : List Item) (q p : PortRef) (r : ℕ) (item : Item) → only_first (net.waiting p r) ≡ item ∷ [] → (place : Place) → items_at (after_hold net q (Some p) r) (left ++ []) place ≡ put (cut (items_at net left) (Waiting p r) (behind_first (net.waiting p r))) (Received q r) item place
-holds_on net left q p r item first (Received s t) = rw first refl
-holds_on net left q p r item first (Waiting s t) = refl
-holds_on net left q p r item first Left = append-nil left
+-- with these items among those that have ended in a way
+abbrev pub ending : (End → List Item) → End → List Item → End → List Item
+ending out end items e = out e ++ cond (same_end e end) items []
 
-takes_on : (net : Network) (left : List Item) (n : ℕ) (packet : List ℕ) → (place : Place) → items_at (after net (AtNode (Take n packet))) (left ++ []) place ≡ put (items_at net left) (Waiting (port_of n) (prio_of packet)) (item_of net (port_of n) packet) place
-takes_on net left n packet (Received s t) = refl
-takes_on net left n packet (Waiting s t) = refl
-takes_on net left n packet Left = append-nil left
+module _ (net : Network) (out : End → List Item) where
+  holds_on : (q p : PortRef) (r : ℕ) (item : Item) → only_first (net.waiting p r) ≡ item ∷ [] → (place : Place) → items_at (after_hold net q (Some p) r) (λ e. out e ++ []) place ≡ put (cut (items_at net out) (Waiting p r) (behind_first (net.waiting p r))) (Received q r) item place
+  holds_on q p r item only (Received s t) = rw only refl
+  holds_on q p r item only (Waiting s t) = refl
+  holds_on q p r item only (Over e) = append-nil (out e)
 
-leaves_on : (net : Network) (left : List Item) (n : ℕ) (packet : List ℕ) (item : Item) → only_first (net.received (port_of n) (prio_of packet)) ≡ item ∷ [] → (place : Place) → items_at (after net (AtNode (Leave n packet))) (left ++ only_first (net.received (port_of n) (prio_of packet))) place ≡ put (cut (items_at net left) (Received (port_of n) (prio_of packet)) (behind_first (net.received (port_of n) (prio_of packet)))) Left item place
-leaves_on net left n packet item first (Received s t) = refl
-leaves_on net left n packet item first (Waiting s t) = refl
-leaves_on net left n packet item first Left = ap (λ x. left ++ x) first
+  frees_on : (p : PortRef) (packet : List ℕ) (place : Place) → items_at (after net (Linked (Free p packet))) (λ e. out e ++ []) place ≡ items_at net out place
+  frees_on p packet (Received s t) = refl
+  frees_on p packet (Waiting s t) = refl
+  frees_on p packet (Over e) = append-nil (out e)
 
-frees_on : (net : Network) (left : List Item) (p : PortRef) (packet : List ℕ) → (place : Place) → items_at (after net (Linked (Free p packet))) (left ++ []) place ≡ items_at net left place
-frees_on net left p packet (Received s t) = refl
-frees_on net left p packet (Waiting s t) = refl
-frees_on net left p packet Left = append-nil left
+  takes_on : (n : ℕ) (packet : List ℕ) (place : Place) → items_at (after net (AtNode (Take n packet))) (λ e. out e ++ []) place ≡ put (items_at net out) (Waiting (port_of n) (prio_of packet)) (item_of net (port_of n) packet) place
+  takes_on n packet (Received s t) = refl
+  takes_on n packet (Waiting s t) = refl
+  takes_on n packet (Over e) = append-nil (out e)
 
--- each step is one of these, whatever has left before
-pub step_on : (net : Network) (left : List Item) (step : Step) → Needs net step → StepOn net (after net step) (taken_by net step) (left_by net step) (items_at net left) (items_at (after net step) (left ++ left_by net step))
-step_on net left (Linked (Hold q packet)) needs =
-    let r = prio_of packet in
-    let first = first_item (net.waiting needs.0 r) packet needs.2 in
-    subst (λ x. StepOn net (after_hold net q x r) [] [] (items_at net left) (items_at (after_hold net q x r) (left ++ []))) (sym needs.1)
-    (Passes needs.0 q r first.0 (behind_first (net.waiting needs.0 r)) refl refl refl needs.1 first.1 (holds_on net left q needs.0 r first.0 first.2))
-step_on net left (Linked (Free p packet)) needs = Stays refl refl refl (frees_on net left p packet)
-step_on net left (AtNode (Take n packet)) needs = Comes (port_of n) packet refl refl refl (takes_on net left n packet)
-step_on net left (AtNode (Leave n packet)) needs =
-    let lane = net.received (port_of n) (prio_of packet) in
-    let first = first_item lane packet needs.1 in
-    Leaves (port_of n) (prio_of packet) first.0 (behind_first lane) refl first.2 refl first.1 (leaves_on net left n packet first.0 first.2)
+  -- an item ends
+  ends_on : (p : PortRef) (r : ℕ) (end : End) (item : Item) → only_first (net.received p r) ≡ item ∷ [] → (place : Place) → items_at (without_first net p r) (ending out end (only_first (net.received p r))) place ≡ put (cut (items_at net out) (Received p r) (behind_first (net.received p r))) (Over end) item place
+  ends_on p r end item only (Received s t) = refl
+  ends_on p r end item only (Waiting s t) = refl
+  ends_on p r end item only (Over e) = rw only (go (same_end e end) refl)
+    where
+      go : (t : Bool) → same_end e end ≡ t → out e ++ cond t (item ∷ []) [] ≡ cond t (out end ++ item ∷ []) (out e)
+      go true same = ap (λ x. out x ++ item ∷ []) (end_is e end same)
+      go false apart = append-nil (out e)
 
--- What holds of each item at each place.
+  turns_on : (p q : PortRef) (packet : List ℕ) (item : Item) → only_first (map moved_item (net.received p (prio_of packet))) ≡ moved_item item ∷ [] → (place : Place) → items_at (after net (ByDevice (Move p q packet))) (λ e. out e ++ []) place ≡ put (cut (items_at net out) (Received p (prio_of packet)) (behind_first (net.received p (prio_of packet)))) (Waiting q (prio_of packet)) (moved_item item) place
+  turns_on p q packet item only (Received s t) = refl
+  turns_on p q packet item only (Waiting s t) = rw only refl
+  turns_on p q packet item only (Over e) = append-nil (out e)
+
+  answers_on : (p : PortRef) (packet response : List ℕ) (place : Place) → items_at (after net (ByDevice (Answer p packet response))) (ending out Answered (only_first (net.received p (prio_of packet)))) place ≡ put (items_at (without_first net p (prio_of packet)) (ending out Answered (only_first (net.received p (prio_of packet))))) (Waiting p (prio_of response)) (item_of net p response) place
+  answers_on p packet response (Received s t) = refl
+  answers_on p packet response (Waiting s t) = refl
+  answers_on p packet response (Over e) = refl
+
+  -- the first item of what a port has received goes
+  goes_from : (p : PortRef) (packet : List ℕ) (to : Place) (new : Board) (moves : Item → Item) (first : First (net.received p (prio_of packet)) packet) → Allowed net (Received p (prio_of first.item.now)) to first.item (moves first.item) → ((place : Place) → new place ≡ put (cut (items_at net out) (Received p (prio_of packet)) (behind_first (net.received p (prio_of packet)))) to (moves first.item) place) → Goes net (items_at net out) new
+  goes_from p packet to new moves first allowed becomes = record {
+    from = Received p (prio_of packet);
+    to = to;
+    item = first.item;
+    moved = moves first.item;
+    rest = behind_first (net.received p (prio_of packet));
+    allowed = subst (λ r. Allowed net (Received p r) to first.item (moves first.item)) (ap prio_of first.now) allowed;
+    was = first.whole;
+    becomes = becomes;
+  }
+
+  -- it ends
+  ends_goes : (p : PortRef) (packet : List ℕ) (end : End) (first : First (net.received p (prio_of packet)) packet) → Allowed net (Received p (prio_of first.item.now)) (Over end) first.item first.item → Goes net (items_at net out) (items_at (without_first net p (prio_of packet)) (ending out end (only_first (net.received p (prio_of packet)))))
+  ends_goes p packet end first allowed = goes_from p packet (Over end) _ (λ x. x) first allowed (ends_on p (prio_of packet) end first.item first.only)
+
+  -- what a step makes of what stands where
+  abbrev pub OnBoard : Step → Type 0
+  OnBoard step = StepOn net (after net step) (taken_by net step) (items_at net out) (items_at (after net step) (λ e. out e ++ ended_by e net step))
+
+  held_on : (q : PortRef) (packet : List ℕ) → Needs net (Linked (Hold q packet)) → OnBoard (Linked (Hold q packet))
+  held_on q packet needs =
+      let r = prio_of packet in
+      let first = first_item (net.waiting needs.0 r) packet needs.2 in
+      subst (λ x. StepOn net (after_hold net q x r) [] (items_at net out) (items_at (after_hold net q x r) (λ e. out e ++ []))) (sym needs.1)
+      (IsMoved refl refl (record {
+        from = Waiting needs.0 r;
+        to = Received q r;
+        item = first.item;
+        moved = first.item;
+        rest = behind_first (net.waiting needs.0 r);
+        allowed = Crosses needs.0 q r first.item needs.1;
+        was = first.whole;
+        becomes = holds_on q needs.0 r first.item first.only;
+      }))
+
+  moved_on : (p q : PortRef) (packet : List ℕ) → Needs net (ByDevice (Move p q packet)) → OnBoard (ByDevice (Move p q packet))
+  moved_on p q packet needs =
+      let r = prio_of packet in
+      let first = first_item (net.received p r) packet needs.1 in
+      let only : only_first (map moved_item (net.received p r)) ≡ moved_item first.item ∷ [] = ap (λ xs. only_first (map moved_item xs)) first.whole in
+      let named : next_at net p.node first.item.now ≡ Some (Port q.port) = ap (next_at net p.node) first.now ∙ needs.2 in
+      let turns : Allowed net (Received p (prio_of first.item.now)) (Waiting q r) first.item (moved_item first.item) =
+      subst (λ s. Allowed net (Received p (prio_of first.item.now)) (Waiting q s) first.item (moved_item first.item)) (ap prio_of first.now) (Turns p q first.item needs.0 named) in
+      IsMoved refl refl (goes_from p packet (Waiting q r) _ moved_item first turns (turns_on p q packet first.item only))
+
+  dropped_on : (p : PortRef) (packet : List ℕ) → Needs net (ByDevice (Drop p packet)) → OnBoard (ByDevice (Drop p packet))
+  dropped_on p packet needs =
+      let first = first_item (net.received p (prio_of packet)) packet needs.0 in
+      IsMoved refl refl (ends_goes p packet Dropped first (Falls p first.item (ap (next_at net p.node) first.now ∙ needs.1)))
+
+  left_on : (n : ℕ) (packet : List ℕ) → Needs net (AtNode (Leave n packet)) → OnBoard (AtNode (Leave n packet))
+  left_on n packet needs =
+      let first = first_item (net.received (port_of n) (prio_of packet)) packet needs.1 in
+      IsMoved refl refl (ends_goes (port_of n) packet Left first (Leaves n first.item needs.0 (ap is_request first.now ∙ needs.2)))
+
+  answered_on : (p : PortRef) (packet response : List ℕ) → Needs net (ByDevice (Answer p packet response)) → OnBoard (ByDevice (Answer p packet response))
+  answered_on p packet response needs =
+      let first = first_item (net.received p (prio_of packet)) packet needs.0 in
+      let heard = IsHeard p first.item (subst (IsForRegisters net p) (sym first.now) needs.1) in
+      IsAnswered (items_at (without_first net p (prio_of packet)) (ending out Answered (only_first (net.received p (prio_of packet))))) refl
+      (ends_goes p packet Answered first heard)
+      (record { port = p; packet = response; made = refl; passes = needs.3; becomes = answers_on p packet response })
+
+  -- each step is one of these, whatever has ended before
+  pub step_on : (step : Step) → Needs net step → OnBoard step
+  step_on (Linked (Hold q packet)) needs = held_on q packet needs
+  step_on (Linked (Free p packet)) needs = Stays refl refl (frees_on p packet)
+  step_on (AtNode (Take n packet)) needs = IsTaken refl (record { port = port_of n; packet = packet; made = refl; passes = needs.1; becomes = takes_on n packet })
+  step_on (AtNode (Leave n packet)) needs = left_on n packet needs
+  step_on (ByDevice (Move p q packet)) needs = moved_on p q packet needs
+  step_on (ByDevice (Drop p packet)) needs = dropped_on p packet needs
+  step_on (ByDevice (Answer p packet response)) needs = answered_on p packet response needs
+
+-- ---- what holds of each item at each place
+
 abbrev pub AllOn : (Place → Item → Type 0) → Board → Type 0
 AllOn Holds board = (place : Place) → AllByRecursion (Holds place) (board place)
 
@@ -120,26 +271,29 @@ AllOn-cut Holds old from item rest all was = (whole.0, λ place. go place (same_
     go place true same = subst (λ x. AllByRecursion (Holds x) rest) (sym (place_is place from same)) whole.1
     go place false apart = all place
 
--- what holds of an item where it comes, and goes with it, holds of all after a step
-pub AllOn-step : (Holds : Place → Item → Type 0) (net next : Network) (made left : List Item) (old new : Board) → StepOn net next made left old new → ((p : PortRef) (packet : List ℕ) → Holds (Waiting p (prio_of packet)) (item_of net p packet)) → ((p q : PortRef) (r : ℕ) (item : Item) → peer_in net.links q ≡ Some p → Holds (Waiting p r) item → Holds (Received q r) item) → ((q : PortRef) (r : ℕ) (item : Item) → Holds (Received q r) item → Holds Left item) → AllOn Holds old → AllOn Holds new
-AllOn-step Holds net next made left old new (Stays none stays given same) comes passes leaves all = AllOn-same Holds old new same all
-AllOn-step Holds net next made left old new (Comes p packet one stays given is) comes passes leaves all =
-    AllOn-same Holds (put old (Waiting p (prio_of packet)) (item_of net p packet)) new is
-    (AllOn-put Holds old (Waiting p (prio_of packet)) (item_of net p packet) all (comes p packet))
-AllOn-step Holds net next made left old new (Passes p q r item rest none stays given peer was is) comes passes leaves all =
-    let parts = AllOn-cut Holds old (Waiting p r) item rest all was in
-    AllOn-same Holds (put (cut old (Waiting p r) rest) (Received q r) item) new is
-    (AllOn-put Holds (cut old (Waiting p r) rest) (Received q r) item parts.1 (passes p q r item peer parts.0))
-AllOn-step Holds net next made left old new (Leaves q r item rest none goes given was is) comes passes leaves all =
-    let parts = AllOn-cut Holds old (Received q r) item rest all was in
-    AllOn-same Holds (put (cut old (Received q r) rest) Left item) new is
-    (AllOn-put Holds (cut old (Received q r) rest) Left item parts.1 (leaves q r item parts.0))
+-- What holds of an item where it comes, and of an item as it goes if it held of it before, holds of all after a step.
+module _ (Holds : Place → Item → Type 0) (net : Network) where
+  pub AllOn-goes : (old new : Board) → (g : Goes net old new) → (Holds g.from g.item → Holds g.to g.moved) → AllOn Holds old → AllOn Holds new
+  AllOn-goes old new g goes all =
+      let parts = AllOn-cut Holds old g.from g.item g.rest all g.was in
+      AllOn-same Holds (put (cut old g.from g.rest) g.to g.moved) new g.becomes (AllOn-put Holds (cut old g.from g.rest) g.to g.moved parts.1 (goes parts.0))
+
+  pub AllOn-comes : (made : List Item) (old new : Board) → (c : Comes net made old new) → Holds (Waiting c.port (prio_of c.packet)) (item_of net c.port c.packet) → AllOn Holds old → AllOn Holds new
+  AllOn-comes made old new c comes all =
+      AllOn-same Holds (put old (Waiting c.port (prio_of c.packet)) (item_of net c.port c.packet)) new c.becomes (AllOn-put Holds old (Waiting c.port (prio_of c.packet)) (item_of net c.port c.packet) all comes)
+
+  pub AllOn-step : (next : Network) (made : List Item) (old new : Board) → StepOn net next made old new → ((p : PortRef) (packet : List ℕ) → Passes packet → Holds (Waiting p (prio_of packet)) (item_of net p packet)) → ((from to : Place) (item moved : Item) → Allowed net from to item moved → Holds from item → Holds to moved) → AllOn Holds old → AllOn Holds new
+  AllOn-step next made old new (Stays none given same) comes goes all = AllOn-same Holds old new same all
+  AllOn-step next made old new (IsTaken given c) comes goes all = AllOn-comes made old new c (comes c.port c.packet c.passes) all
+  AllOn-step next made old new (IsMoved none given g) comes goes all = AllOn-goes old new g (goes g.from g.to g.item g.moved g.allowed) all
+  AllOn-step next made old new (IsAnswered mid given g c) comes goes all =
+      AllOn-comes made mid new c (comes c.port c.packet c.passes) (AllOn-goes old mid g (goes g.from g.to g.item g.moved g.allowed) all)
 
 -- nothing stands anywhere in an empty network
-pub nothing_at : (net : Network) → IsEmptyNetwork net → (place : Place) → items_at net [] place ≡ []
+pub nothing_at : (net : Network) → IsEmptyNetwork net → (place : Place) → items_at net (λ e. []) place ≡ []
 nothing_at net empty (Received p r) = empty.received p r
 nothing_at net empty (Waiting p r) = empty.waiting p r
-nothing_at net empty Left = refl
+nothing_at net empty (Over e) = refl
 
-pub AllOn-empty : (Holds : Place → Item → Type 0) (net : Network) → IsEmptyNetwork net → AllOn Holds (items_at net [])
+pub AllOn-empty : (Holds : Place → Item → Type 0) (net : Network) → IsEmptyNetwork net → AllOn Holds (items_at net (λ e. []))
 AllOn-empty Holds net empty place = subst (AllByRecursion (Holds place)) (sym (nothing_at net empty place)) tt

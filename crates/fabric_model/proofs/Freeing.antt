@@ -5,7 +5,7 @@ use Rattle.std.proofs.lemmas.List.{map-append}
 use Rattle.rio_packets.specs.Fields.{prio_of}
 use Rattle.fabric_script.specs.declared.ports.PortRef.{PortRef}
 use Rattle.fabric_model.specs.Network.{Item, Network, same_port, first_packet}
-use Rattle.fabric_model.specs.Steps.{Hold, Free, Take, Leave, Step, Linked, AtNode, Needs, only_first, behind_first, after_hold, after, after_all, LegalFrom}
+use Rattle.fabric_model.specs.Steps.{Hold, Free, Take, Leave, Move, Drop, Answer, Step, Linked, AtNode, ByDevice, Needs, only_first, behind_first, after_hold, after, after_all, LegalFrom}
 use Rattle.fabric_model.specs.Laws.History.{IsEmptyNetwork, gathered}
 use Rattle.fabric_model.specs.Laws.Freeing.{is_port, held_from, freed_at, IsFront, FreedAfterHeld}
 use Rattle.fabric_model.proofs.Joining.{legal_parts, queued}
@@ -48,6 +48,9 @@ lent_step p net (Linked (Free q packet)) needs =
     freed_step (same_port p q) (net.lent p) (net.lent q) packet (λ same. ap net.lent (port_is p q same)) needs
 lent_step p net (AtNode (Take n packet)) needs = append-nil (packets (net.lent p))
 lent_step p net (AtNode (Leave n packet)) needs = append-nil (packets (net.lent p))
+lent_step p net (ByDevice (Move q t packet)) needs = append-nil (packets (net.lent p))
+lent_step p net (ByDevice (Drop q packet)) needs = append-nil (packets (net.lent p))
+lent_step p net (ByDevice (Answer q packet response)) needs = append-nil (packets (net.lent p))
 
 -- what is freed and what is then lent is what was held
 freed_front : (start : Network) (steps : List Step) (end : Network) → IsEmptyNetwork start → LegalFrom start steps end → (done later : List Step) → steps ≡ done ++ later → (p : PortRef) → IsFront (gathered (freed_at p) start done) (gathered (held_from p) start done)

@@ -2,19 +2,20 @@
 use Rattle.std.proofs.Common.{◌≡◌, ℕ, zero, suc, ◌+◌, ◌<◌, ◌≤◌, Bool, true, false, eqb, List, [], ◌∷◌, ◌++◌, length, Some, slice_get, sym, ap, ◌∙◌, subst, refl, cond, append-nil, arith, length-append, ◌⊎◌, inl, inr}
 use Rattle.std.proofs.lemmas.Bool.{ne_eqb, eq-eqb, cases_eq}
 use Rattle.rio_packets.specs.Fields.{prio_of}
-use Rattle.fabric_script.specs.declared.ports.PortRef.{PortRef}
+use Rattle.rio_packets.specs.LinkForm.{Passes}
 use Rattle.fabric_model.specs.Network.{Item, Network}
-use Rattle.fabric_model.specs.Steps.{Step, after, LegalFrom}
-use Rattle.fabric_model.specs.Laws.History.{IsEmptyNetwork, taken_by, left_by, taken, gone, WasTaken}
-use Rattle.fabric_model.specs.Laws.Holding.{Place, Received, Waiting, Left, same_place, items_at, how_often, StandsAt, HoldingExactly}
+use Rattle.fabric_model.specs.Steps.{Step, item_of, after, LegalFrom}
+use Rattle.fabric_model.specs.Laws.History.{IsEmptyNetwork, End, taken_by, ended_by, taken, ended, WasTaken}
+use Rattle.fabric_model.specs.Laws.Holding.{Place, Waiting, same_place, items_at, how_often, StandsAt, HoldingExactly}
+use Rattle.fabric_model.specs.Laws.Leaving.{IsLoweredFrom, AsItWas}
 use Rattle.fabric_model.proofs.Joining.{carried}
-use Rattle.fabric_model.proofs.Boards.{place_is, Board, put, cut, item_of, StepOn, Stays, Comes, Passes, Leaves, step_on, AllOn, all_weaker, AllOn-same, AllOn-put, AllOn-cut, nothing_at, AllOn-empty}
+use Rattle.fabric_model.proofs.Boards.{place_is, Board, put, cut, Allowed, allowed_along, Goes, Comes, StepOn, Stays, IsTaken, IsMoved, IsAnswered, step_on, AllOn, all_weaker, AllOn-same, AllOn-put, AllOn-cut, AllOn-goes, nothing_at, AllOn-empty}
 
 -- how often a number is the one item's
 abbrev one : ℕ → Item → ℕ
 one n item = cond (eqb item.number n) 1 0
 
-how_often-append : (n : ℕ) (xs ys : List Item) → how_often n (xs ++ ys) ≡ how_often n xs + how_often n ys
+pub how_often-append : (n : ℕ) (xs ys : List Item) → how_often n (xs ++ ys) ≡ how_often n xs + how_often n ys
 how_often-append n [] ys = omega arith
 how_often-append n (x ∷ xs) ys = omega (arith, how_often-append n xs ys)
 
@@ -79,17 +80,16 @@ Standing-put given board to item standing own = record { placed = placed; fresh 
     fresh : (n : ℕ) → given + 1 ≤ n → (place : Place) → how_often n (put board to item place) ≡ 0
     fresh n above place = away n (λ e. omega arith) place ∙ standing.fresh n (omega arith) place
 
--- the first item of a place goes to another
-Standing-move : (given : ℕ) (board : Board) (from to : Place) (item : Item) (rest : List Item) → Standing given board → board from ≡ item ∷ rest → Standing given (put (cut board from rest) to item)
-Standing-move given board from to item rest standing was = record { placed = placed; fresh = fresh }
+-- the first item of a place goes to another, under its number
+Standing-move : (given : ℕ) (board : Board) (from to : Place) (item moved : Item) (rest : List Item) → moved.number ≡ item.number → Standing given board → board from ≡ item ∷ rest → Standing given (put (cut board from rest) to moved)
+Standing-move given board from to item moved rest same standing was = record { placed = placed; fresh = fresh }
   where
-    new : Board
-    new = put (cut board from rest) to item
+    count : (n : ℕ) (place : Place) → how_often n (put (cut board from rest) to moved place) + cond (same_place place from) (one n item) 0 ≡ how_often n (board place) + cond (same_place place to) (one n item) 0
+    count n place =
+        let own = ap {B = ℕ} (λ k. cond (same_place place to) (cond (eqb k n) 1 0) 0) same in
+        omega (arith, how_often-put n (cut board from rest) to moved place, how_often-cut n board from item rest was place, own)
 
-    count : (n : ℕ) (place : Place) → how_often n (put (cut board from rest) to item place) + cond (same_place place from) (one n item) 0 ≡ how_often n (board place) + cond (same_place place to) (one n item) 0
-    count n place = omega (arith, how_often-put n (cut board from rest) to item place, how_often-cut n board from item rest was place)
-
-    away : (n : ℕ) → (item.number ≡ n → ⊥) → (place : Place) → how_often n (put (cut board from rest) to item place) ≡ how_often n (board place)
+    away : (n : ℕ) → (item.number ≡ n → ⊥) → (place : Place) → how_often n (put (cut board from rest) to moved place) ≡ how_often n (board place)
     away n other place =
         let all = rw (one_other n item other, cond_zero (same_place place from), cond_zero (same_place place to)) at (count n place) in
         omega (arith, all)
@@ -97,7 +97,7 @@ Standing-move given board from to item rest standing was = record { placed = pla
     there : (n : ℕ) → item.number ≡ n → 0 < how_often n (board from)
     there n own = omega (arith, ap (how_often n) was, one_own n item own)
 
-    placed : (n : ℕ) → n < given → (place : Place) × StandsAt (put (cut board from rest) to item) n place
+    placed : (n : ℕ) → n < given → (place : Place) × StandsAt (put (cut board from rest) to moved) n place
     placed n below = ⊎_cases (cases_eq item.number n) (standing.placed n below)
       where
         from_there : (place : Place) → StandsAt board n place → item.number ≡ n → place ≡ from
@@ -107,7 +107,7 @@ Standing-move given board from to item rest standing was = record { placed = pla
             true_if true pos = refl
             true_if false pos = absurd (omega arith)
 
-        ⊎_cases : ((item.number ≡ n) ⊎ (item.number ≡ n → ⊥)) → ((place : Place) × StandsAt board n place) → (place : Place) × StandsAt (put (cut board from rest) to item) n place
+        ⊎_cases : ((item.number ≡ n) ⊎ (item.number ≡ n → ⊥)) → ((place : Place) × StandsAt board n place) → (place : Place) × StandsAt (put (cut board from rest) to moved) n place
         ⊎_cases (inl own) at =
             let here = subst (StandsAt board n) (from_there at.0 at.1 own) at.1 in (
               to,
@@ -117,7 +117,7 @@ Standing-move given board from to item rest standing was = record { placed = pla
             )
         ⊎_cases (inr other) at = (at.0, λ place. away n other place ∙ at.1 place)
 
-    fresh : (n : ℕ) → given ≤ n → (place : Place) → how_often n (put (cut board from rest) to item place) ≡ 0
+    fresh : (n : ℕ) → given ≤ n → (place : Place) → how_often n (put (cut board from rest) to moved place) ≡ 0
     fresh n above place = away n (λ own. omega (arith, there n own, standing.fresh n above from)) place ∙ standing.fresh n above place
 
 slice_get-append : (xs ys : List Item) (k : ℕ) (x : Item) → slice_get xs k ≡ Some x → slice_get (xs ++ ys) k ≡ Some x
@@ -129,68 +129,82 @@ slice_get-last : (xs : List Item) (x : Item) → slice_get (xs ++ x ∷ []) (len
 slice_get-last [] x = refl
 slice_get-last (y ∷ xs) x = slice_get-last xs x
 
--- the item is as it was taken, and was taken under its number
-abbrev pub AsTaken : List Item → Item → Type 0
-AsTaken made item = (item.now ≡ item.taken) × (slice_get made item.number ≡ Some (record item { now = item.taken }))
+-- the item is what was taken under its number, but for the hop count
+pub record AsTaken (made : List Item) (item : Item) : Type 0 where
+  pub passes : Passes item.now
+  pub lowered : IsLoweredFrom item.taken item.now
+  pub known : slice_get made item.number ≡ Some (record item { now = item.taken })
 
--- what holds of a network all along, with the items taken and gone so far
-pub record Held (net : Network) (made left : List Item) : Type 0 where
-  pub counted : net.given ≡ length made
-  pub standing : Standing net.given (items_at net left)
-  pub known : AllOn (λ place. AsTaken made) (items_at net left)
+-- what holds of a network all along, with the items taken and what stands where
+pub record HeldOn (given : ℕ) (made : List Item) (board : Board) : Type 0 where
+  pub counted : given ≡ length made
+  pub standing : Standing given board
+  pub known : AllOn (λ place. AsTaken made) board
 
-Held-same : (net next : Network) (made left left2 : List Item) → next.given ≡ net.given → Standing net.given (items_at next left2) → AllOn (λ place. AsTaken made) (items_at next left2) → Held net made left → Held next (made ++ []) left2
-Held-same net next made left left2 given standing known held = record {
-  counted = given ∙ (held.counted ∙ ap length (sym (append-nil made)));
-  standing = subst (λ x. Standing x (items_at next left2)) (sym given) standing;
-  known = rw append-nil known;
+abbrev pub Held : Network → List Item → (End → List Item) → Type 0
+Held net made out = HeldOn net.given made (items_at net out)
+
+HeldOn-same : (given : ℕ) (made : List Item) (old new : Board) → ((place : Place) → new place ≡ old place) → HeldOn given made old → HeldOn given made new
+HeldOn-same given made old new same held = record {
+  counted = held.counted;
+  standing = Standing-same given old new held.standing same;
+  known = AllOn-same (λ place. AsTaken made) old new same held.known;
 }
 
-Held-move : (net next : Network) (made left left2 : List Item) (from to : Place) (item : Item) (rest : List Item) → next.given ≡ net.given → items_at net left from ≡ item ∷ rest → ((place : Place) → items_at next left2 place ≡ put (cut (items_at net left) from rest) to item place) → Held net made left → Held next (made ++ []) left2
-Held-move net next made left left2 from to item rest given was new held =
-    let old = items_at net left in
-    let parts = AllOn-cut (λ place. AsTaken made) old from item rest held.known was in
-    Held-same net next made left left2 given
-    (Standing-same net.given (put (cut old from rest) to item) (items_at next left2) (Standing-move net.given old from to item rest held.standing was) new)
-    (AllOn-same (λ place. AsTaken made) (put (cut old from rest) to item) (items_at next left2) new (AllOn-put (λ place. AsTaken made) (cut old from rest) to item parts.1 parts.0))
-    held
+goes_as_taken : (net : Network) (from to : Place) (item moved : Item) (made : List Item) → Allowed net from to item moved → AsTaken made item → AsTaken made moved
+goes_as_taken net from to item moved made allowed was =
+    let along = allowed_along net from to item moved allowed was.passes in
+    let same : Some (record item { now = item.taken }) ≡ Some (record moved { now = moved.taken }) =
+    λ i. Some (record { number = sym along.number i; port = sym along.port i; taken = sym along.taken i; now = sym along.taken i }) in
+    record {
+      passes = along.passes;
+      lowered = along.lowered was.lowered;
+      known = ap (slice_get made) along.number ∙ (was.known ∙ same);
+    }
 
-Held-put : (net next : Network) (made left left2 : List Item) (p : PortRef) (packet : List ℕ) → next.given ≡ net.given + 1 → ((place : Place) → items_at next left2 place ≡ put (items_at net left) (Waiting p (prio_of packet)) (item_of net p packet) place) → Held net made left → Held next (made ++ item_of net p packet ∷ []) left2
-Held-put net next made left left2 p packet given new held = record {
-  counted = omega (arith, given, held.counted, length-append made (item_of net p packet ∷ []));
-  standing = subst (λ x. Standing x (items_at next left2)) (sym given) (Standing-same (net.given + 1) (put old to item) (items_at next left2) (Standing-put net.given old to item held.standing refl) new);
-  known = AllOn-same (λ place. AsTaken more) (put old to item) (items_at next left2) new (AllOn-put (λ place. AsTaken more) old to item before own);
-}
+HeldOn-goes : (given : ℕ) (made : List Item) (net : Network) (old new : Board) → Goes net old new → HeldOn given made old → HeldOn given made new
+HeldOn-goes given made net old new g held =
+    let parts = AllOn-cut (λ place. AsTaken made) old g.from g.item g.rest held.known g.was in
+    let along = allowed_along net g.from g.to g.item g.moved g.allowed parts.0.passes in
+    record {
+      counted = held.counted;
+      standing = Standing-same given (put (cut old g.from g.rest) g.to g.moved) new (Standing-move given old g.from g.to g.item g.moved g.rest along.number held.standing g.was) g.becomes;
+      known = AllOn-goes (λ place. AsTaken made) net old new g (goes_as_taken net g.from g.to g.item g.moved made g.allowed) held.known;
+    }
+
+HeldOn-comes : (made more : List Item) (net : Network) (old new : Board) → Comes net more old new → HeldOn net.given made old → HeldOn (net.given + 1) (made ++ more) new
+HeldOn-comes made more net old new c held = subst (λ x. HeldOn (net.given + 1) (made ++ x) new) (sym c.made) (record {
+  counted = omega (arith, held.counted, length-append made (item ∷ []));
+  standing = Standing-same (net.given + 1) (put old to item) new (Standing-put net.given old to item held.standing refl) c.becomes;
+  known = AllOn-same (λ place. AsTaken (made ++ item_of net c.port c.packet ∷ [])) (put old to item) new c.becomes (AllOn-put (λ place. AsTaken (made ++ item_of net c.port c.packet ∷ [])) old to item before own);
+})
   where
-    old : Board
-    old = items_at net left
-
     to : Place
-    to = Waiting p (prio_of packet)
+    to = Waiting c.port (prio_of c.packet)
 
     item : Item
-    item = item_of net p packet
+    item = item_of net c.port c.packet
 
-    more : List Item
-    more = made ++ item_of net p packet ∷ []
+    before : AllOn (λ place. AsTaken (made ++ item_of net c.port c.packet ∷ [])) old
+    before place = all_weaker (AsTaken made) (AsTaken (made ++ item_of net c.port c.packet ∷ [])) (λ x was. record { passes = was.passes; lowered = was.lowered; known = slice_get-append made (item_of net c.port c.packet ∷ []) x.number (record x { now = x.taken }) was.known }) (old place) (held.known place)
 
-    before : AllOn (λ place. AsTaken (made ++ item_of net p packet ∷ [])) (items_at net left)
-    before place = all_weaker (AsTaken made) (AsTaken (made ++ item_of net p packet ∷ [])) (λ x was. (was.0, slice_get-append made (item_of net p packet ∷ []) x.number (record x { now = x.taken }) was.1)) (items_at net left place) (held.known place)
+    own : AsTaken (made ++ item_of net c.port c.packet ∷ []) (item_of net c.port c.packet)
+    own = record {
+      passes = c.passes;
+      lowered = AsItWas;
+      known = subst (λ k. slice_get (made ++ item_of net c.port c.packet ∷ []) k ≡ Some (item_of net c.port c.packet)) (sym held.counted) (slice_get-last made (item_of net c.port c.packet));
+    }
 
-    own : AsTaken (made ++ item_of net p packet ∷ []) (item_of net p packet)
-    own = (refl, subst (λ k. slice_get (made ++ item_of net p packet ∷ []) k ≡ Some (item_of net p packet)) (sym held.counted) (slice_get-last made (item_of net p packet)))
+held_on : (net next : Network) (made more : List Item) (old new : Board) → StepOn net next more old new → HeldOn net.given made old → HeldOn next.given (made ++ more) new
+held_on net next made more old new (Stays none given same) held =
+    rw (none, given, append-nil made) (HeldOn-same net.given made old new same held)
+held_on net next made more old new (IsTaken given c) held = rw given (HeldOn-comes made more net old new c held)
+held_on net next made more old new (IsMoved none given g) held =
+    rw (none, given, append-nil made) (HeldOn-goes net.given made net old new g held)
+held_on net next made more old new (IsAnswered mid given g c) held =
+    rw given (HeldOn-comes made more net mid new c (HeldOn-goes net.given made net old mid g held))
 
-held_on : (net next : Network) (made more left gone_now : List Item) → StepOn net next more gone_now (items_at net left) (items_at next (left ++ gone_now)) → Held net made left → Held next (made ++ more) (left ++ gone_now)
-held_on net next made more left now (Stays none stays given same) held =
-    rw none (Held-same net next made left (left ++ now) given (Standing-same net.given (items_at net left) (items_at next (left ++ now)) held.standing same) (AllOn-same (λ place. AsTaken made) (items_at net left) (items_at next (left ++ now)) same held.known) held)
-held_on net next made more left now (Comes p packet one_more stays given new) held =
-    rw one_more (Held-put net next made left (left ++ now) p packet given new held)
-held_on net next made more left now (Passes p q r item rest none stays given peer was new) held =
-    rw none (Held-move net next made left (left ++ now) (Waiting p r) (Received q r) item rest given was new held)
-held_on net next made more left now (Leaves p r item rest none leaves given was new) held =
-    rw none (Held-move net next made left (left ++ now) (Received p r) Left item rest given was new held)
-
-Held-empty : (net : Network) → IsEmptyNetwork net → Held net [] []
+Held-empty : (net : Network) → IsEmptyNetwork net → Held net [] (λ e. [])
 Held-empty net empty = record {
   counted = empty.given;
   standing = record { placed = λ n below. absurd (omega (arith, empty.given)); fresh = λ n above place. ap (how_often n) (nothing_at net empty place) };
@@ -198,9 +212,9 @@ Held-empty net empty = record {
 }
 
 -- along all legal steps from an empty network
-pub held_along : (start : Network) (steps : List Step) (end : Network) → IsEmptyNetwork start → LegalFrom start steps end → Held end (taken start steps) (gone start steps)
+pub held_along : (start : Network) (steps : List Step) (end : Network) → IsEmptyNetwork start → LegalFrom start steps end → Held end (taken start steps) (ended start steps)
 held_along start steps end empty legal =
-    carried Held (λ net made left step needs held. held_on net (after net step) made (taken_by net step) left (left_by net step) (step_on net left step needs) held) start [] [] steps end (Held-empty start empty) legal
+    carried Held (λ net made out step needs held. held_on net (after net step) made (taken_by net step) (items_at net out) (items_at (after net step) (λ e. out e ++ ended_by e net step)) (step_on net out step needs) held) start [] (λ e. []) steps end (Held-empty start empty) legal
 
 pub holding_exactly : (start : Network) (steps : List Step) (end : Network) → IsEmptyNetwork start → LegalFrom start steps end → HoldingExactly start steps end
 holding_exactly start steps end empty legal =
@@ -208,5 +222,5 @@ holding_exactly start steps end empty legal =
     record {
       counted = held.counted;
       placed = held.standing.placed;
-      known = λ place. all_weaker (AsTaken (taken start steps)) (WasTaken start steps) (λ item was. was.1) (items_at end (gone start steps) place) (held.known place);
+      known = λ place. all_weaker (AsTaken (taken start steps)) (WasTaken start steps) (λ item was. was.known) (items_at end (ended start steps) place) (held.known place);
     }

@@ -3,9 +3,9 @@ use Rattle.std.proofs.Common.{◌≡◌, List, [], ◌∷◌, ◌++◌, Option, 
 use Rattle.rio_packets.specs.Fields.{prio_of}
 use Rattle.fabric_script.specs.declared.ports.PortRef.{PortRef}
 use Rattle.fabric_model.specs.Network.{Item, Network, peer_in}
-use Rattle.fabric_model.specs.Steps.{Hold, Free, Take, Leave, Step, Linked, AtNode, Needs, after_hold, after, after_all, LegalFrom}
+use Rattle.fabric_model.specs.Steps.{Hold, Free, Take, Leave, Move, Drop, Answer, Step, Linked, AtNode, ByDevice, Needs, after_hold, after, after_all, LegalFrom}
 use Rattle.fabric_model.specs.Lines.{TraceLine, Begun, Stepped, Lacked, Ended, steps_of}
-use Rattle.fabric_model.specs.Laws.History.{gathered, taken_by, left_by, taken, gone}
+use Rattle.fabric_model.specs.Laws.History.{End, gathered, taken_by, ended_by, taken, ended}
 
 pub steps_of-append : (a b : List TraceLine) → steps_of (a ++ b) ≡ steps_of a ++ steps_of b
 steps_of-append [] b = refl
@@ -34,14 +34,17 @@ pub legal_joined : (net : Network) (a b : List Step) (mid end : Network) → Leg
 legal_joined net [] b mid end p q = subst (λ x. LegalFrom x b end) p q
 legal_joined net (step ∷ a) b mid end p q = (p.0, legal_joined (after net step) a b mid end p.1 q)
 
--- What each step keeps, of the network and of the items taken and gone so far, is kept along all steps.
-pub carried : (Kept : Network → List Item → List Item → Type 0) → ((net : Network) (made left : List Item) (step : Step) → Needs net step → Kept net made left → Kept (after net step) (made ++ taken_by net step) (left ++ left_by net step)) → (net : Network) (made left : List Item) (steps : List Step) (end : Network) → Kept net made left → LegalFrom net steps end → Kept end (made ++ taken net steps) (left ++ gone net steps)
-carried Kept keeps net made left [] end kept legal =
-    rw (append-nil made, append-nil left) (subst (λ x. Kept x made left) (sym legal) kept)
-carried Kept keeps net made left (step ∷ steps) end kept legal =
-    let after_step = keeps net made left step legal.0 kept in
-    let whole = carried Kept keeps (after net step) (made ++ taken_by net step) (left ++ left_by net step) steps end after_step legal.1 in
-    rw (append_assoc made (taken_by net step) (taken (after net step) steps), append_assoc left (left_by net step) (gone (after net step) steps)) at whole
+-- What each step keeps, of the network and of the items taken and ended so far, is kept along all steps.
+pub carried : (Kept : Network → List Item → (End → List Item) → Type 0) → ((net : Network) (made : List Item) (out : End → List Item) (step : Step) → Needs net step → Kept net made out → Kept (after net step) (made ++ taken_by net step) (λ e. out e ++ ended_by e net step)) → (net : Network) (made : List Item) (out : End → List Item) (steps : List Step) (end : Network) → Kept net made out → LegalFrom net steps end → Kept end (made ++ taken net steps) (λ e. out e ++ ended net steps e)
+carried Kept keeps net made out [] end kept legal =
+    let none : (λ (e : End). out e) ≡ (λ (e : End). out e ++ []) = λ i e. sym (append-nil (out e)) i in
+    rw (append-nil made) (subst (λ (o : End → List Item). Kept end made o) none (subst (λ x. Kept x made out) (sym legal) kept))
+carried Kept keeps net made out (step ∷ steps) end kept legal =
+    let after_step = keeps net made out step legal.0 kept in
+    let whole = carried Kept keeps (after net step) (made ++ taken_by net step) (λ e. out e ++ ended_by e net step) steps end after_step legal.1 in
+    let joined : (λ (e : End). (out e ++ ended_by e net step) ++ ended (after net step) steps e) ≡ (λ (e : End). out e ++ (ended_by e net step ++ ended (after net step) steps e)) =
+    λ i e. append_assoc (out e) (ended_by e net step) (ended (after net step) steps e) i in
+    subst (λ (o : End → List Item). Kept end (made ++ taken net (step ∷ steps)) o) joined (rw (append_assoc made (taken_by net step) (taken (after net step) steps)) at whole)
 
 -- A queue along the steps: what stands in it and what comes in is what goes out and what then stands in it.
 pub queued : {A : Type 0} (Kept : Network → Type 0) (comes goes : Network → Step → List A) (queue : Network → List A) → ((net : Network) (step : Step) → Needs net step → Kept net → Kept (after net step)) → ((net : Network) (step : Step) → Needs net step → Kept net → queue net ++ comes net step ≡ goes net step ++ queue (after net step)) → (net : Network) (steps : List Step) (end : Network) → Kept net → LegalFrom net steps end → queue net ++ gathered comes net steps ≡ gathered goes net steps ++ queue end
@@ -65,3 +68,6 @@ links_stay net (Linked (Hold q packet)) = held_links (peer_in net.links q)
 links_stay net (Linked (Free p packet)) = refl
 links_stay net (AtNode (Take n packet)) = refl
 links_stay net (AtNode (Leave n packet)) = refl
+links_stay net (ByDevice (Move p q packet)) = refl
+links_stay net (ByDevice (Drop p packet)) = refl
+links_stay net (ByDevice (Answer p packet response)) = refl

@@ -1,25 +1,46 @@
 -- Each list of a network holds packets of its own priority alone.
 use Rattle.std.proofs.Common.{◌≡◌, List, [], ◌++◌, refl}
 use Rattle.std.specs.Bool.{⊤}
+use Rattle.std.specs.List.{AllByRecursion}
 use Rattle.rio_packets.specs.Fields.{prio_of}
+use Rattle.rio_packets.specs.LinkForm.{Passes}
 use Rattle.fabric_model.specs.Network.{Item, Network}
 use Rattle.fabric_model.specs.Steps.{Step, after, LegalFrom}
-use Rattle.fabric_model.specs.Laws.History.{IsEmptyNetwork, taken_by, left_by, gone}
+use Rattle.fabric_model.specs.Laws.History.{IsEmptyNetwork, taken_by, ended_by, ended}
 use Rattle.fabric_model.specs.Laws.Priorities.{ByPriority}
-use Rattle.fabric_model.specs.Laws.Holding.{Place, Received, Waiting, Left, items_at}
+use Rattle.fabric_model.specs.Laws.Holding.{Place, Received, Waiting, Over, items_at}
 use Rattle.fabric_model.proofs.Joining.{carried}
-use Rattle.fabric_model.proofs.Boards.{step_on, AllOn, AllOn-step, AllOn-empty}
+use Rattle.fabric_model.proofs.Boards.{Allowed, Crosses, Turns, Leaves, Falls, IsHeard, Along, allowed_along, step_on, AllOn, AllOn-step, AllOn-empty, all_weaker}
 
 -- the priority of the list where an item stands
 abbrev HasPriority : Place → Item → Type 0
 HasPriority (Received p r) item = prio_of item.now ≡ r
 HasPriority (Waiting p r) item = prio_of item.now ≡ r
-HasPriority Left item = ⊤
+HasPriority (Over e) item = ⊤
+
+-- and a packet in its link form
+abbrev StandsWell : Place → Item → Type 0
+StandsWell place item = Passes item.now × HasPriority place item
+
+goes_to : (net : Network) (from to : Place) (item moved : Item) → Allowed net from to item moved → Along item moved → HasPriority from item → HasPriority to moved
+goes_to net from to item moved (Crosses p q r item2 peer) along own = own
+goes_to net from to item moved (Turns p q item2 same named) along own = along.prio
+goes_to net from to item moved (Leaves n item2 endpoint other) along own = tt
+goes_to net from to item moved (Falls p item2 named) along own = tt
+goes_to net from to item moved (IsHeard p item2 heard) along own = tt
+
+goes_well : (net : Network) (from to : Place) (item moved : Item) → Allowed net from to item moved → StandsWell from item → StandsWell to moved
+goes_well net from to item moved allowed well =
+    let along = allowed_along net from to item moved allowed well.0 in
+    (along.passes, goes_to net from to item moved allowed along well.1)
 
 pub by_priority : (start : Network) (steps : List Step) (end : Network) → IsEmptyNetwork start → LegalFrom start steps end → ByPriority end
-by_priority start steps end empty legal = record { received = λ p r. all (Received p r); waiting = λ p r. all (Waiting p r) }
+by_priority start steps end empty legal = record { received = λ p r. only (Received p r); waiting = λ p r. only (Waiting p r) }
   where
-    all : AllOn HasPriority (items_at end (gone start steps))
-    all = carried (λ net made left. AllOn HasPriority (items_at net left))
-        (λ net made left step needs held. AllOn-step HasPriority net (after net step) (taken_by net step) (left_by net step) (items_at net left) (items_at (after net step) (left ++ left_by net step)) (step_on net left step needs) (λ p packet. refl) (λ p q r item peer own. own) (λ q r item own. tt) held)
-        start [] [] steps end (AllOn-empty HasPriority start empty) legal
+    all : AllOn StandsWell (items_at end (ended start steps))
+    all = carried (λ net made out. AllOn StandsWell (items_at net out))
+        (λ net made out step needs held. AllOn-step StandsWell net (after net step) (taken_by net step) (items_at net out) (items_at (after net step) (λ e. out e ++ ended_by e net step)) (step_on net out step needs) (λ p packet passes. (passes, refl)) (goes_well net) held)
+        start [] (λ e. []) steps end (AllOn-empty StandsWell start empty) legal
+
+    only : (place : Place) → AllByRecursion (HasPriority place) (items_at end (ended start steps) place)
+    only place = all_weaker (StandsWell place) (HasPriority place) (λ item well. well.1) (items_at end (ended start steps) place) (all place)

@@ -10,7 +10,8 @@ use Rattle.fabric_model.proofs.Peers.{set_up_is_empty}
 use Rattle.fabric_model.proofs.Holding.{holding_exactly}
 use Rattle.fabric_model.proofs.Leaving.{once, unchanged}
 use Rattle.fabric_model.proofs.Freeing.{freed_after_held}
-use Rattle.fabric_model.proofs.Order.{in_order}
+use Rattle.fabric_model.proofs.Tables.{by_tables}
+use Rattle.fabric_model.proofs.Flows.{in_order}
 
 pub lawful : (script : List Numbered) (steps : List Step) (end : Network) → AreProper (set_up_all bare script).links → LegalFrom (set_up_all bare script) steps end → Lawful (set_up_all bare script) steps end
 lawful script steps end proper legal =
@@ -21,5 +22,6 @@ lawful script steps end proper legal =
       once = once _ steps end empty legal;
       unchanged = unchanged _ steps end empty legal;
       freed_after_held = freed_after_held _ steps end empty legal;
+      by_tables = by_tables _ steps end legal;
       in_order = in_order _ steps end empty proper legal;
     }

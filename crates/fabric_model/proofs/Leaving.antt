@@ -4,28 +4,35 @@ use Rattle.std.proofs.lemmas.Bool.{cases_lt}
 use Rattle.std.proofs.lemmas.List.{length-map}
 use Rattle.rio_packets.specs.Fields.{prio_of}
 use Rattle.fabric_model.specs.Network.{Network, port_of}
-use Rattle.fabric_model.specs.Steps.{Take, Leave, Step, Linked, AtNode, Needs, after, LegalFrom}
-use Rattle.fabric_model.specs.Laws.History.{IsEmptyNetwork, left_by, taken, gone}
-use Rattle.fabric_model.specs.Laws.Holding.{Left, same_place, how_often}
-use Rattle.fabric_model.specs.Laws.Leaving.{packet_left, packets_left, Once, Unchanged}
+use Rattle.fabric_model.specs.Steps.{Take, Leave, Move, Drop, Answer, Step, Linked, AtNode, ByDevice, Needs, after, LegalFrom}
+use Rattle.fabric_model.specs.Laws.History.{IsEmptyNetwork, Left, ended_by, taken, ended, gone, WasTaken}
+use Rattle.fabric_model.specs.Laws.Holding.{Over, same_place, how_often}
+use Rattle.fabric_model.specs.Laws.Leaving.{packet_left, packets_left, IsLoweredFrom, Once, Unchanged}
 use Rattle.fabric_model.proofs.Freeing.{packets, packets-append, packets-only_first}
-use Rattle.fabric_model.proofs.Holding.{Held, held_along}
+use Rattle.fabric_model.proofs.Boards.{all_weaker}
+use Rattle.fabric_model.proofs.Holding.{AsTaken, Held, held_along}
 
-left_shown : (net : Network) (step : Step) → Needs net step → packet_left step ≡ packets (left_by net step)
+left_shown : (net : Network) (step : Step) → Needs net step → packet_left step ≡ packets (ended_by Left net step)
 left_shown net (Linked step) needs = refl
 left_shown net (AtNode (Take n packet)) needs = refl
 left_shown net (AtNode (Leave n packet)) needs = sym (packets-only_first (net.received (port_of n) (prio_of packet)) packet needs.1)
+left_shown net (ByDevice (Move p q packet)) needs = refl
+left_shown net (ByDevice (Drop p packet)) needs = refl
+left_shown net (ByDevice (Answer p packet response)) needs = refl
 
 gone_shown : (net : Network) (steps : List Step) (end : Network) → LegalFrom net steps end → packets_left steps ≡ packets (gone net steps)
 gone_shown net [] end legal = refl
 gone_shown net (step ∷ steps) end legal =
     ap₂ ◌++◌ (left_shown net step legal.0) (gone_shown (after net step) steps end legal.1)
-    ∙ sym (packets-append (left_by net step) (gone (after net step) steps))
+    ∙ sym (packets-append (ended_by Left net step) (gone (after net step) steps))
 
 pub unchanged : (start : Network) (steps : List Step) (end : Network) → IsEmptyNetwork start → LegalFrom start steps end → Unchanged start steps
 unchanged start steps end empty legal =
     let held = held_along start steps end empty legal in
-    record { shown = gone_shown start steps end legal; same = held.known Left }
+    record {
+      shown = gone_shown start steps end legal;
+      same = all_weaker (AsTaken (taken start steps)) (λ item. IsLoweredFrom item.taken item.now × WasTaken start steps item) (λ item was. (was.lowered, was.known)) (gone start steps) (held.known (Over Left));
+    }
 
 at_most_one : (t : Bool) (n : ℕ) → n ≡ cond t 1 0 → n ≤ 1
 at_most_one true n e = omega arith
@@ -37,11 +44,11 @@ once start steps end empty legal = record {
   never_twice = λ n. go n (cases_lt n end.given);
 }
   where
-    held : Held end (taken start steps) (gone start steps)
+    held : Held end (taken start steps) (ended start steps)
     held = held_along start steps end empty legal
 
     go : (n : ℕ) → ((n < end.given) ⊎ (end.given ≤ n)) → how_often n (gone start steps) ≤ 1
     go n (inl below) =
         let at = held.standing.placed n below in
-        at_most_one (same_place Left at.0) (how_often n (gone start steps)) (at.1 Left)
-    go n (inr above) = omega (arith, held.standing.fresh n above Left)
+        at_most_one (same_place (Over Left) at.0) (how_often n (gone start steps)) (at.1 (Over Left))
+    go n (inr above) = omega (arith, held.standing.fresh n above (Over Left))

@@ -6,10 +6,15 @@ pub mod Freeing
 pub mod Boards
 pub mod Holding
 pub mod Leaving
-pub mod Paths
+pub mod Moving
+pub mod Tables
+pub mod Courses
+pub mod Journal
 pub mod Order
+pub mod Flows
 pub mod Lanes
 pub mod Room
 pub mod Settling
 pub mod Worked
+pub mod Around
 pub mod Lawfulness

@@ -1,108 +1,372 @@
--- In order per flow.
-use Rattle.std.proofs.Common.{◌≡◌, ℕ, zero, suc, ◌+◌, ◌<◌, ◌≤◌, Bool, true, false, eqb, List, [], ◌∷◌, ◌++◌, map, filter, Option, Some, None, slice_get, sym, ap, ◌∙◌, subst, refl, cond, append_assoc, arith, ◌⊎◌, inl, inr}
-use Rattle.std.specs.Bool.{⊤}
-use Rattle.std.proofs.lemmas.Bool.{and_from, eq-eqb}
-use Rattle.rio_packets.specs.Fields.{prio_of}
+-- In order per flow: of two items of one course the older has passed no fewer places, wherever they stand.
+use Rattle.std.proofs.Common.{◌≡◌, ◌⊎◌, inl, inr, ℕ, zero, suc, ◌+◌, ◌≤◌, ◌<◌, ◌==◌, Bool, true, false, leb, List, [], ◌∷◌, ◌++◌, sym, ap, ◌∙◌, subst, refl, arith, le-leb, leb-true}
+use Rattle.std.specs.List.{AllByRecursion}
+use Rattle.std.proofs.lemmas.Bool.{cases_eq, false≢true, false_from_ne_true}
+use Rattle.rio_packets.specs.Fields.{prio_of, ftype_of, dest_of, hop_of}
+use Rattle.rio_packets.specs.LinkForm.{Passes}
 use Rattle.fabric_script.specs.declared.ports.PortRef.{PortRef}
-use Rattle.fabric_model.specs.Network.{Item, Network, same_port, port_of, peer_in}
-use Rattle.fabric_model.specs.Steps.{Hold, Free, Take, Leave, Step, Linked, AtNode, after_hold, after, LegalFrom}
-use Rattle.fabric_model.specs.Laws.History.{IsEmptyNetwork, taken, gone, WasTaken}
-use Rattle.fabric_model.specs.Laws.Holding.{how_often, items_at}
-use Rattle.fabric_model.specs.Laws.Flows.{SamePriority, EarlierFirst, InOrder}
+use Rattle.fabric_model.specs.Network.{Item, Network}
+use Rattle.fabric_model.specs.Steps.{item_of}
+use Rattle.fabric_model.specs.Laws.History.{End, Answered}
+use Rattle.fabric_model.specs.Laws.Holding.{Place, Waiting, Over, same_place}
+use Rattle.fabric_model.specs.Laws.Flows.{SameCourse}
 use Rattle.fabric_model.specs.Laws.Proper.{AreProper}
-use Rattle.fabric_model.proofs.Peers.{same_port-refl}
-use Rattle.fabric_model.proofs.Boards.{item_of}
-use Rattle.fabric_model.proofs.Paths.{is_of, numbers, numbers-append, along, in_line}
+use Rattle.fabric_model.proofs.Boards.{place_is, Board, cut, all-append, all_weaker, AllOn, AllOn-cut, Allowed, Crosses, Turns, Leaves, Falls, IsHeard, Along, allowed_along, Goes, Comes, StepOn, Stays, IsTaken, IsMoved, IsAnswered}
+use Rattle.fabric_model.proofs.Moving.{key_of}
+use Rattle.fabric_model.proofs.Courses.{Chart, chart_of, Spot, onward, course, Fits, Stands, Ends, fits_open, allowed_next}
+use Rattle.fabric_model.proofs.Journal.{Entry, Pairs, pairs-without, pairs-append, all-without, all-both, Elsewhere, FirstAt, first_at, since, AreLanes, lanes-comes, lanes-older, lanes-cut, lanes-cut_older}
 
--- each number is above the one before it, and the first at least this
-abbrev Rises : ℕ → List ℕ → Type 0
-Rises low [] = ⊤
-Rises low (x ∷ xs) = (low ≤ x) × Rises (x + 1) xs
+-- the entry of an item that is taken
+abbrev taken_entry : Network → PortRef → List ℕ → Entry
+taken_entry net port packet = record { item = item_of net port packet; place = Waiting port (prio_of packet); passed = zero }
 
-Rises-lower : (low high : ℕ) (xs : List ℕ) → low ≤ high → Rises high xs → Rises low xs
-Rises-lower low high [] le rises = tt
-Rises-lower low high (x ∷ xs) le rises = (omega (arith, rises.0), rises.1)
+-- some entry is such a one
+abbrev pub Some_of : (Entry → Type 0) → List Entry → Type 0
+Some_of P [] = ⊥
+Some_of P (e ∷ es) = P e ⊎ Some_of P es
 
--- the number is one of these
-abbrev Among : ℕ → List ℕ → Type 0
-Among n [] = ⊥
-Among n (x ∷ xs) = (x ≡ n) ⊎ Among n xs
+pub some_left : (P : Entry → Type 0) (xs ys : List Entry) → Some_of P xs → Some_of P (xs ++ ys)
+some_left P [] ys some = absurd some
+some_left P (x ∷ xs) ys (inl own) = inl own
+some_left P (x ∷ xs) ys (inr more) = inr (some_left P xs ys more)
 
-Rises-among : (low n : ℕ) (xs : List ℕ) → Rises low xs → Among n xs → low ≤ n
-Rises-among low n [] rises among = absurd among
-Rises-among low n (x ∷ xs) rises (inl same) = omega (arith, rises.0, same)
-Rises-among low n (x ∷ xs) rises (inr more) = omega (arith, rises.0, Rises-among (x + 1) n xs rises.1 more)
+pub some_right : (P : Entry → Type 0) (xs ys : List Entry) → Some_of P ys → Some_of P (xs ++ ys)
+some_right P [] ys some = some
+some_right P (x ∷ xs) ys some = inr (some_right P xs ys some)
 
--- what is below one of them stands before it
-stands_before : (low m n : ℕ) (xs ys : List ℕ) → Rises low (xs ++ m ∷ ys) → n < m → Among n (xs ++ m ∷ ys) → Among n xs
-stands_before low m n [] ys rises less (inl same) = absurd (omega (arith, same))
-stands_before low m n [] ys rises less (inr more) = absurd (omega (arith, Rises-among (m + 1) n ys rises.1 more))
-stands_before low m n (x ∷ xs) ys rises less (inl same) = inl same
-stands_before low m n (x ∷ xs) ys rises less (inr more) = inr (stands_before (x + 1) m n xs ys rises.1 less more)
-
-numbers-cons : (test : Item → Bool) (x : Item) (xs : List Item) → test x ≡ true → numbers test (x ∷ xs) ≡ x.number ∷ numbers test xs
-numbers-cons test x xs passes = rw passes refl
-
-taken_among : (test : Item → Bool) (xs : List Item) (k : ℕ) (x : Item) → slice_get xs k ≡ Some x → test x ≡ true → Among x.number (numbers test xs)
-taken_among test [] k x found passes = absurd (cc)
-taken_among test (y ∷ xs) zero x found passes =
-    let here : y ≡ x = cc in
-    subst (λ z. Among x.number (numbers test (z ∷ xs))) (sym here) (rw (numbers-cons test x xs passes) (inl refl))
-taken_among test (y ∷ xs) (suc k) x found passes = go (test y) (taken_among test xs k x found passes)
+-- it is the one between, or one of the others
+pub some_without : (P : Entry → Type 0) (xs ys : List Entry) (x : Entry) → Some_of P (xs ++ x ∷ ys) → P x ⊎ Some_of P (xs ++ ys)
+some_without P [] ys x some = some
+some_without P (z ∷ xs) ys x (inl own) = inr (inl own)
+some_without P (z ∷ xs) ys x (inr more) = go (some_without P xs ys x more)
   where
-    go : (t : Bool) → Among x.number (numbers test xs) → Among x.number (map (λ (z : Item). z.number) (cond t (y ∷ filter test xs) (filter test xs)))
-    go true more = inr more
-    go false more = more
+    go : P x ⊎ Some_of P (xs ++ ys) → P x ⊎ Some_of P (z ∷ (xs ++ ys))
+    go (inl one) = inl one
+    go (inr others) = inr (inr others)
 
-among_counts : (test : Item → Bool) (n : ℕ) (xs : List Item) → Among n (numbers test xs) → 0 < how_often n xs
-among_counts test n [] among = absurd among
-among_counts test n (x ∷ xs) among = go (test x) among (among_counts test n xs)
-  where
-    go : (t : Bool) → Among n (map (λ (z : Item). z.number) (cond t (x ∷ filter test xs) (filter test xs))) → (Among n (numbers test xs) → 0 < how_often n xs) → 0 < cond (eqb x.number n) 1 0 + how_often n xs
-    go true (inl same) more = rw (eq-eqb x.number n same) (omega arith)
-    go true (inr later) more = omega (arith, more later)
-    go false later more = omega (arith, more later)
+-- the one between put in again
+pub some_with : (P : Entry → Type 0) (xs ys : List Entry) (x : Entry) → Some_of P (xs ++ ys) → Some_of P (xs ++ x ∷ ys)
+some_with P [] ys x some = inr some
+some_with P (z ∷ xs) ys x (inl own) = inl own
+some_with P (z ∷ xs) ys x (inr more) = inr (some_with P xs ys x more)
 
--- the numbers of the items that are taken rise
-taken_rises : (test : Item → Bool) (net : Network) (steps : List Step) → Rises net.given (numbers test (taken net steps))
-taken_rises test net [] = tt
-taken_rises test net (Linked (Hold q packet) ∷ steps) = subst (λ low. Rises low (numbers test (taken (after net (Linked (Hold q packet))) steps))) (given_stays (peer_in net.links q)) (taken_rises test (after net (Linked (Hold q packet))) steps)
-  where
-    given_stays : (o : Option PortRef) → (after_hold net q o (prio_of packet)).given ≡ net.given
-    given_stays None = refl
-    given_stays (Some p) = refl
-taken_rises test net (Linked (Free p packet) ∷ steps) = taken_rises test (after net (Linked (Free p packet))) steps
-taken_rises test net (AtNode (Take n packet) ∷ steps) = go (test (item_of net (port_of n) packet)) (taken_rises test (after net (AtNode (Take n packet))) steps)
-  where
-    later : List Item
-    later = taken (after net (AtNode (Take n packet))) steps
+pub some_both : (P Q S : Entry → Type 0) → ((e : Entry) → P e → Q e → S e) → (es : List Entry) → Some_of P es → AllByRecursion Q es → Some_of S es
+some_both P Q S both [] some all = absurd some
+some_both P Q S both (e ∷ es) (inl own) all = inl (both e own all.0)
+some_both P Q S both (e ∷ es) (inr more) all = inr (some_both P Q S both es more all.1)
 
-    go : (t : Bool) → Rises (net.given + 1) (numbers test (taken (after net (AtNode (Take n packet))) steps)) → Rises net.given (map (λ (z : Item). z.number) (cond t (item_of net (port_of n) packet ∷ filter test later) (filter test later)))
-    go true rises = (omega arith, rises)
-    go false rises = Rises-lower net.given (net.given + 1) (numbers test (taken (after net (AtNode (Take n packet))) steps)) (omega arith) rises
-taken_rises test net (AtNode (Leave n packet) ∷ steps) = taken_rises test (after net (AtNode (Leave n packet))) steps
+pub leb_of : (m n : ℕ) → m ≤ n → leb m n ≡ true
+leb_of m n le = le-leb m n le
 
-earlier_first : (start : Network) (steps : List Step) (end : Network) → IsEmptyNetwork start → AreProper start.links → LegalFrom start steps end → (x y : Item) (before later : List Item) → WasTaken start steps x → gone start steps ≡ before ++ y ∷ later → SamePriority x y → x.number < y.number → 0 < how_often x.number before
-earlier_first start steps end empty proper legal x y before later was parts same less =
-    let p = y.port in
-    let r = prio_of y.taken in
-    let test = is_of p r in
-    let of_y : test y ≡ true = and_from (same_port p p) (eqb r r) (same_port-refl p) (eq-eqb r r refl) in
-    let of_x : test x ≡ true = and_from (same_port p x.port) (eqb r (prio_of x.taken)) (subst (λ q. same_port p q ≡ true) (sym same.port) (same_port-refl p)) (eq-eqb r (prio_of x.taken) (sym same.priority)) in
-    let rest = numbers test later ++ along end.links p r (items_at end []) in
-    let line : numbers test (taken start steps) ≡ numbers test before ++ (y.number ∷ rest) =
-    in_line start steps end empty proper legal p r
-    ∙ (ap (λ l. numbers test l ++ along end.links p r (items_at end [])) parts
-    ∙ (ap (λ l. l ++ along end.links p r (items_at end [])) (numbers-append test before (y ∷ later) ∙ ap (λ l. numbers test before ++ l) (numbers-cons test y later of_y))
-    ∙ append_assoc (numbers test before) (y.number ∷ numbers test later) (along end.links p r (items_at end [])))) in
-    let rises = subst (Rises start.given) line (taken_rises test start steps) in
-    let among = subst (Among x.number) line (taken_among test (taken start steps) x.number (record x { now = x.taken }) was of_x) in
-    among_counts test x.number before (stands_before start.given y.number x.number (numbers test before) rest rises less among)
+not_leb : (m n : ℕ) → n < m → leb m n ≡ false
+not_leb m n less = false_from_ne_true (leb m n) (λ le. omega (arith, less, leb-true m n le))
 
-pub in_order_of_priority : (start : Network) (steps : List Step) (end : Network) → IsEmptyNetwork start → AreProper start.links → LegalFrom start steps end → EarlierFirst SamePriority start steps
-in_order_of_priority start steps end empty proper legal = earlier_first start steps end empty proper legal
+since_none : (low : ℕ) (items : List Item) → AllByRecursion (λ (i : Item). i.number < low) items → since low items ≡ []
+since_none low [] all = refl
+since_none low (item ∷ items) all = rw (not_leb low item.number all.0) (since_none low items all.1)
 
-pub in_order : (start : Network) (steps : List Step) (end : Network) → IsEmptyNetwork start → AreProper start.links → LegalFrom start steps end → InOrder start steps
-in_order start steps end empty proper legal = record {
-  earlier_first = λ x y before later was parts same less. earlier_first start steps end empty proper legal x y before later was parts (record { port = same.port; priority = same.priority }) less;
+-- an item never goes from where it has ended
+allowed_open : (net : Network) (from to : Place) (item moved : Item) → Allowed net from to item moved → (e : End) → from ≡ Over e → ⊥
+allowed_open net from to item moved (Crosses p q r item2 peer) e is = absurd (cc)
+allowed_open net from to item moved (Turns p q item2 same named) e is = absurd (cc)
+allowed_open net from to item moved (Leaves n item2 endpoint other) e is = absurd (cc)
+allowed_open net from to item moved (Falls p item2 named) e is = absurd (cc)
+allowed_open net from to item moved (IsHeard p item2 heard) e is = absurd (cc)
+
+moved_number : (net : Network) (from to : Place) (item moved : Item) → Allowed net from to item moved → moved.number ≡ item.number
+moved_number net from to item moved (Crosses p q r item2 peer) = refl
+moved_number net from to item moved2 (Turns p q item2 same named) = refl
+moved_number net from to item moved (Leaves n item2 endpoint other) = refl
+moved_number net from to item moved (Falls p item2 named) = refl
+moved_number net from to item moved (IsHeard p item2 heard) = refl
+
+pub fits_from : (a b : Place) → Fits a b → ((e : End) → a ≡ Over e → ⊥) → b ≡ a
+fits_from a b (Stands place) goes_on = refl
+fits_from a b (Ends e) goes_on = absurd (goes_on Answered refl)
+
+fits_same : (a b : Place) → a ≡ b → Fits a b
+fits_same a b same = subst (Fits a) same (Stands a)
+
+-- an item goes the way of what it was
+course_back : (x item moved : Item) → Along item moved → SameCourse x moved → SameCourse x item
+course_back x item moved along same = record {
+  port = same.port ∙ along.port;
+  dest = same.dest ∙ ap dest_of along.taken;
+  priority = same.priority ∙ ap prio_of along.taken;
+  maintenance = same.maintenance ∙ ap (λ p. ftype_of p == 8) along.taken;
+  hop = same.hop ∙ ap hop_of along.taken;
 }
+
+-- ---- the journal since one item was taken
+
+module _ (x : Item) (chart : Chart) where
+  -- where its course begins
+  abbrev pub first_spot : Spot
+  first_spot = record { place = Waiting x.port (prio_of x.taken); key = key_of x.taken }
+
+  -- the item stands on the course, after so many places
+  pub record IsOn (item : Item) (place : Place) (passed : ℕ) : Type 0 where
+    pub fits : Fits place (course chart first_spot passed).place
+    pub key : key_of item.now ≡ (course chart first_spot passed).key
+
+  pub record IsWell (given : ℕ) (item : Item) (place : Place) (passed : ℕ) : Type 0 where
+    pub below : item.number < given
+    pub passes : Passes item.now
+    pub dest : dest_of item.now ≡ dest_of item.taken
+    pub on : SameCourse x item → IsOn item place passed
+
+  abbrev pub WellEntry : ℕ → Entry → Type 0
+  WellEntry given e = IsWell given e.item e.place e.passed
+
+  -- Of two items of the course the older has passed no fewer places, and more if it stands behind.
+  abbrev pub Line : Entry → Entry → Type 0
+  Line a b = SameCourse x a.item → SameCourse x b.item → (a.item.number < b.item.number → b.passed ≤ a.passed) × (b.item.number < a.item.number → a.passed < b.passed)
+
+  -- x itself, wherever it is
+  pub record IsOwn (e : Entry) : Type 0 where
+    pub number : e.item.number ≡ x.number
+    pub course : SameCourse x e.item
+
+  pub record Journal (given : ℕ) (board : Board) : Type 0 where
+    pub entries : List Entry
+    pub later : x.number < given
+    pub lanes : AreLanes x.number board entries
+    pub well : AllByRecursion (WellEntry given) entries
+    pub line : Pairs Line entries
+    pub has : Some_of IsOwn entries
+
+  -- the entry of the first item of a place, as one that comes behind all others and has passed one place more
+  abbrev pub Behind : Entry → Entry → Type 0
+  Behind e z = Line z (record e { passed = suc e.passed })
+
+  in_front : (given : ℕ) (from : Place) → ((e : End) → from ≡ Over e → ⊥) → (e z : Entry) → same_place from e.place ≡ true → Elsewhere from z → WellEntry given e → WellEntry given z → Line z e → Behind e z
+  in_front given from goes_on e z here elsewhere well_e well_z line same_z same_e =
+      let l = line same_z same_e in (
+        λ less. further (l.0 less) (cases_eq z.passed e.passed),
+        λ less. omega (arith, l.1 less),
+      )
+    where
+      place_e : e.place ≡ from
+      place_e = sym (place_is from e.place here)
+
+      not_same : z.passed ≡ e.passed → ⊥
+      not_same same =
+          let spot_e : (course chart first_spot e.passed).place ≡ from = fits_from from _ (subst (λ p. Fits p (course chart first_spot e.passed).place) place_e (well_e.on same_e).fits) goes_on in
+          let spot_z : (course chart first_spot z.passed).place ≡ from = ap (λ n. (course chart first_spot n).place) same ∙ spot_e in
+          let place_z : z.place ≡ from = fits_open z.place from (subst (Fits z.place) spot_z (well_z.on same_z).fits) goes_on in
+          false≢true (sym elsewhere ∙ (ap (same_place from) (place_z ∙ sym place_e) ∙ here))
+
+      further : e.passed ≤ z.passed → ((z.passed ≡ e.passed) ⊎ (z.passed ≡ e.passed → ⊥)) → suc e.passed ≤ z.passed
+      further le (inl same) = absurd (not_same same)
+      further le (inr other) = omega (arith, le, other)
+
+  -- what stands behind it has passed less, or is older
+  pub all_behind : (given : ℕ) (from : Place) → ((e : End) → from ≡ Over e → ⊥) → (entries : List Entry) (item : Item) (rest : List Item) → (f : FirstAt from entries item rest) → AllByRecursion (WellEntry given) entries → Pairs Line entries → AllByRecursion (Behind f.entry) (f.before ++ f.behind)
+  all_behind given from goes_on entries item rest f well line =
+      let e = f.entry in
+      let apart = pairs-without Line f.before f.behind e (subst (Pairs Line) f.parts line) in
+      let whole = subst (AllByRecursion (WellEntry given)) f.parts well in
+      let wells = all-without (WellEntry given) f.before f.behind e whole in
+      let fronts = all-both (Elsewhere from) (λ z. WellEntry given z × Line z e) (Behind e) (λ z elsewhere both. in_front given from goes_on e z f.here elsewhere wells.0 both.0 both.1) f.before f.elsewhere
+      (all-both (WellEntry given) (λ z. Line z e) (λ z. WellEntry given z × Line z e) (λ z w l. (w, l)) f.before (fronts_of f.before f.behind wells.1) apart.before) in
+      all-append (Behind e) f.before f.behind fronts (all_weaker (Line e) (Behind e) (λ z l. turned e z l) f.behind apart.behind)
+    where
+      fronts_of : (xs ys : List Entry) → AllByRecursion (WellEntry given) (xs ++ ys) → AllByRecursion (WellEntry given) xs
+      fronts_of [] ys all = tt
+      fronts_of (z ∷ xs) ys all = (all.0, fronts_of xs ys all.1)
+
+      turned : (e z : Entry) → Line e z → Behind e z
+      turned e z line same_z same_e =
+          let l = line same_e same_z in
+          (λ less. omega (arith, l.1 less), λ less. omega (arith, l.0 less))
+
+  -- ---- what a step makes of it
+
+  journal-same : (given : ℕ) (old new : Board) → ((place : Place) → new place ≡ old place) → Journal given old → Journal given new
+  journal-same given old new same j = record {
+    entries = j.entries;
+    later = j.later;
+    lanes = λ place. ap (since x.number) (same place) ∙ j.lanes place;
+    well = j.well;
+    line = j.line;
+    has = j.has;
+  }
+
+  -- an older item goes
+  goes_older : (net : Network) (old new : Board) (g : Goes net old new) (entries : List Entry) → leb x.number g.item.number ≡ false → leb x.number g.moved.number ≡ false → AreLanes x.number old entries → AreLanes x.number new entries
+  goes_older net old new g entries older still lanes place =
+      ap (since x.number) (g.becomes place)
+      ∙ lanes-older x.number (cut old g.from g.rest) g.to g.moved entries still (lanes-cut_older x.number old g.from g.item g.rest entries older g.was lanes) place
+
+  -- another goes
+  module _ (given : ℕ) (net : Network) (known : chart ≡ chart_of (dest_of x.taken) net) (proper : AreProper net.links) (old new : Board) (g : Goes net old new) (newer : leb x.number g.item.number ≡ true) (j : Journal given old) where
+    found : FirstAt g.from j.entries g.item (since x.number g.rest)
+    found = first_at g.from j.entries g.item (since x.number g.rest) (sym (j.lanes g.from) ∙ (ap (since x.number) g.was ∙ rw newer refl))
+
+    goes_on : (e : End) → g.from ≡ Over e → ⊥
+    goes_on = allowed_open net g.from g.to g.item g.moved g.allowed
+
+    wells : WellEntry given found.entry × AllByRecursion (WellEntry given) (found.before ++ found.behind)
+    wells = all-without (WellEntry given) found.before found.behind found.entry (subst (AllByRecursion (WellEntry given)) found.parts j.well)
+
+    own : IsWell given g.item g.from found.entry.passed
+    own = subst (λ place. IsWell given g.item place found.entry.passed) (sym (place_is g.from found.entry.place found.here)) (subst (λ item. IsWell given item found.entry.place found.entry.passed) found.item wells.0)
+
+    along : Along g.item g.moved
+    along = allowed_along net g.from g.to g.item g.moved g.allowed own.passes
+
+    abbrev next : Entry
+    next = record { item = g.moved; place = g.to; passed = suc found.entry.passed }
+
+    on_next : SameCourse x g.moved → IsOn g.moved g.to (suc found.entry.passed)
+    on_next same =
+        let course_of = course_back x g.item g.moved along same in
+        let here = own.on course_of in
+        let i = found.entry.passed in
+        let place : (course chart first_spot i).place ≡ g.from = fits_from g.from _ here.fits goes_on in
+        let charts : chart ≡ chart_of (dest_of g.item.now) net = known ∙ ap (λ d. chart_of d net) (course_of.dest ∙ sym own.dest) in
+        let key : (course chart first_spot i).key ≡ key_of g.item.now = sym here.key in
+        let spots : course chart first_spot (suc i) ≡ onward (chart_of (dest_of g.item.now) net) (key_of g.item.now) g.from = λ t. onward (charts t) (key t) (place t) in
+        let goes = allowed_next net g.from g.to g.item g.moved proper own.passes g.allowed in
+        record { fits = subst (λ (s : Spot). Fits g.to s.place) (sym spots) goes.fits; key = goes.key ∙ ap (λ (s : Spot). s.key) (sym spots) }
+
+    next_well : WellEntry given next
+    next_well = record {
+      below = (let lower : g.moved.number < given = omega (arith, own.below, along.number) in lower);
+      passes = along.passes;
+      dest = along.dest ∙ (own.dest ∙ ap dest_of (sym along.taken));
+      on = on_next;
+    }
+
+    next_line : AllByRecursion (λ z. Line z next) (found.before ++ found.behind)
+    next_line = all_weaker (Behind found.entry) (λ z. Line z next) one (found.before ++ found.behind) (all_behind given g.from goes_on j.entries g.item (since x.number g.rest) found j.well j.line)
+      where
+        one : (z : Entry) → Behind found.entry z → Line z next
+        one z line same_z same =
+            let number : g.moved.number ≡ found.entry.item.number = along.number ∙ ap (λ (i : Item). i.number) (sym found.item) in
+            let l = line same_z (subst (SameCourse x) (sym found.item) (course_back x g.item g.moved along same)) in
+            (λ less. l.0 (omega (arith, less, number)), λ less. l.1 (omega (arith, less, number)))
+
+    still_has : Some_of IsOwn ((found.before ++ found.behind) ++ next ∷ [])
+    still_has = go (some_without IsOwn found.before found.behind found.entry (subst (Some_of IsOwn) found.parts j.has))
+      where
+        go : IsOwn found.entry ⊎ Some_of IsOwn (found.before ++ found.behind) → Some_of IsOwn ((found.before ++ found.behind) ++ next ∷ [])
+        go (inl is) = some_right IsOwn (found.before ++ found.behind) (next ∷ []) (inl (record {
+          number = along.number ∙ (ap (λ (i : Item). i.number) (sym found.item) ∙ is.number);
+          course = forth (subst (SameCourse x) found.item is.course);
+        }))
+          where
+            forth : SameCourse x g.item → SameCourse x g.moved
+            forth same = record {
+              port = same.port ∙ sym along.port;
+              dest = same.dest ∙ ap dest_of (sym along.taken);
+              priority = same.priority ∙ ap prio_of (sym along.taken);
+              maintenance = same.maintenance ∙ ap (λ p. ftype_of p == 8) (sym along.taken);
+              hop = same.hop ∙ ap hop_of (sym along.taken);
+            }
+        go (inr others) = some_left IsOwn (found.before ++ found.behind) (next ∷ []) others
+
+    goes_newer : Journal given new
+    goes_newer = record {
+      entries = (found.before ++ found.behind) ++ next ∷ [];
+      later = j.later;
+      lanes = λ place. ap (since x.number) (g.becomes place)
+          ∙ lanes-comes x.number (cut old g.from g.rest) g.to g.moved (suc found.entry.passed) (found.before ++ found.behind) (ap (leb x.number) along.number ∙ newer)
+          (lanes-cut x.number old g.from g.item g.rest j.entries found j.lanes) place;
+      well = all-append (WellEntry given) (found.before ++ found.behind) (next ∷ []) wells.1 (next_well, tt);
+      line = pairs-append Line (found.before ++ found.behind) next (pairs-without Line found.before found.behind found.entry (subst (Pairs Line) found.parts j.line)).pairs next_line;
+      has = still_has;
+    }
+
+  -- an item goes
+  pub journal-goes : (given : ℕ) (net : Network) → chart ≡ chart_of (dest_of x.taken) net → AreProper net.links → (old new : Board) → Goes net old new → Journal given old → Journal given new
+  journal-goes given net known proper old new g j = go (leb x.number g.item.number) refl
+    where
+      number : g.moved.number ≡ g.item.number
+      number = moved_number net g.from g.to g.item g.moved g.allowed
+
+      go : (t : Bool) → leb x.number g.item.number ≡ t → Journal given new
+      go true newer = goes_newer given net known proper old new g newer j
+      go false older = record {
+        entries = j.entries;
+        later = j.later;
+        lanes = goes_older net old new g j.entries older (ap (leb x.number) number ∙ older) j.lanes;
+        well = j.well;
+        line = j.line;
+        has = j.has;
+      }
+
+  -- an item that is taken stands at the beginning of its course
+  first_well : (net : Network) (port : PortRef) (packet : List ℕ) → Passes packet → IsWell (net.given + 1) (item_of net port packet) (Waiting port (prio_of packet)) zero
+  first_well net port packet passes = record {
+    below = omega arith;
+    passes = passes;
+    dest = refl;
+    on = λ same. record {
+      fits = fits_same _ _ (λ t. Waiting (sym same.port t) (sym same.priority t));
+      key = λ t. record { eight = sym same.maintenance t; hop = sym same.hop t };
+    };
+  }
+
+  -- the next number comes
+  pub journal-comes : (net : Network) (made : List Item) (old new : Board) → Comes net made old new → Journal net.given old → Journal (net.given + 1) new
+  journal-comes net made old new c j = record {
+    entries = j.entries ++ taken_entry net c.port c.packet ∷ [];
+    later = omega (arith, j.later);
+    lanes = λ place. ap (since x.number) (c.becomes place) ∙ lanes-comes x.number old (taken_entry net c.port c.packet).place (taken_entry net c.port c.packet).item zero j.entries (leb_of x.number net.given (omega (arith, j.later))) j.lanes place;
+    well = all-append (WellEntry (net.given + 1)) j.entries (taken_entry net c.port c.packet ∷ []) (all_weaker (WellEntry net.given) (WellEntry (net.given + 1)) grows j.entries j.well) (own_well, tt);
+    line = pairs-append Line j.entries (taken_entry net c.port c.packet) j.line (all_weaker (WellEntry net.given) (λ z. Line z (taken_entry net c.port c.packet)) behind j.entries j.well);
+    has = some_left IsOwn j.entries (taken_entry net c.port c.packet ∷ []) j.has;
+  }
+    where
+      grows : (e : Entry) → WellEntry net.given e → WellEntry (net.given + 1) e
+      grows e well = record { below = omega (arith, well.below); passes = well.passes; dest = well.dest; on = well.on }
+
+      own_well : WellEntry (net.given + 1) (taken_entry net c.port c.packet)
+      own_well = first_well net c.port c.packet c.passes
+
+      behind : (z : Entry) → WellEntry net.given z → Line z (taken_entry net c.port c.packet)
+      behind z well same_z same = (λ less. omega arith, λ less. absurd (omega (arith, less, well.below)))
+
+  -- what a step makes of the journal
+  pub journal-step : (net next : Network) (made : List Item) (old new : Board) → chart ≡ chart_of (dest_of x.taken) net → AreProper net.links → StepOn net next made old new → Journal net.given old → Journal next.given new
+  journal-step net next made old new known proper (Stays none given same) j = rw given (journal-same net.given old new same j)
+  journal-step net next made old new known proper (IsTaken given c) j = rw given (journal-comes net made old new c j)
+  journal-step net next made old new known proper (IsMoved none given g) j = rw given (journal-goes net.given net known proper old new g j)
+  journal-step net next made old new known proper (IsAnswered mid given g c) j =
+      rw given (journal-comes net made mid new c (journal-goes net.given net known proper old mid g j))
+
+  -- ---- its beginning
+
+  number_is : (net : Network) (made : List Item) (old new : Board) → Comes net made old new → made ≡ x ∷ [] → x.number ≡ net.given
+  number_is net made old new c is =
+      let same : x ≡ item_of net c.port c.packet = cc (is, c.made) in
+      ap (λ (i : Item). i.number) same
+
+  nothing_since : (net : Network) (made : List Item) (old new : Board) → Comes net made old new → made ≡ x ∷ [] → (board : Board) → AllOn (λ place item. item.number < net.given) board → AreLanes x.number board []
+  nothing_since net made old new c is board older place =
+      since_none x.number (board place) (subst (λ n. AllByRecursion (λ (i : Item). i.number < n) (board place)) (sym (number_is net made old new c is)) (older place))
+
+  begins_with : (net : Network) (made : List Item) (old new : Board) → Comes net made old new → made ≡ x ∷ [] → AreLanes x.number old [] → Journal (net.given + 1) new
+  begins_with net made old new c is lanes = record {
+    entries = taken_entry net c.port c.packet ∷ [];
+    later = omega (arith, ap (λ (i : Item). i.number) same);
+    lanes = λ place. ap (since x.number) (c.becomes place) ∙ lanes-comes x.number old (taken_entry net c.port c.packet).place (taken_entry net c.port c.packet).item zero [] (leb_of x.number net.given (omega (arith, ap (λ (i : Item). i.number) same))) lanes place;
+    well = (first_well net c.port c.packet c.passes, tt);
+    line = (tt, tt);
+    has = inl (subst (λ item. IsOwn (record { item = item; place = (taken_entry net c.port c.packet).place; passed = zero })) same (record { number = refl; course = record { port = refl; dest = refl; priority = refl; maintenance = refl; hop = refl } }));
+  }
+    where
+      same : x ≡ item_of net c.port c.packet
+      same = cc (is, c.made)
+
+  pub journal-begins : (net next : Network) (made : List Item) (old new : Board) → StepOn net next made old new → made ≡ x ∷ [] → AllOn (λ place item. item.number < net.given) old → Journal next.given new
+  journal-begins net next made old new (Stays none given same) is older = absurd (cc)
+  journal-begins net next made old new (IsMoved none given g) is older = absurd (cc)
+  journal-begins net next made old new (IsTaken given c) is older = rw given (begins_with net made old new c is (nothing_since net made old new c is old older))
+  journal-begins net next made old new (IsAnswered mid given g c) is older =
+      let number = number_is net made mid new c is in
+      let parts = AllOn-cut (λ place item. item.number < net.given) old g.from g.item g.rest older g.was in
+      let below : leb x.number g.item.number ≡ false = not_leb x.number g.item.number (omega (arith, parts.0, number)) in
+      rw given (begins_with net made mid new c is
+      (goes_older net old mid g [] below (ap (leb x.number) (moved_number net g.from g.to g.item g.moved g.allowed) ∙ below) (nothing_since net made mid new c is old older)))

@@ -1,15 +1,15 @@
 -- A port never has more packets to be sent than it has places.
-use Rattle.std.proofs.Common.{◌≡◌, ℕ, ◌+◌, ◌==◌, ◌&&◌, ◌≤◌, Bool, true, false, cond, List, [], ◌∷◌, ◌++◌, Some, Option, length, filter, inl, inr, refl, sym, ap, ◌∙◌, subst, arith, length-append, eqb-true, eq-eqb, ltb-true}
+use Rattle.std.proofs.Common.{◌≡◌, ℕ, ◌+◌, ◌==◌, ◌&&◌, ◌≤◌, Bool, true, false, cond, List, [], ◌∷◌, ◌++◌, map, Some, Option, length, filter, inl, inr, refl, sym, ap, ◌∙◌, subst, arith, length-append, eqb-true, eq-eqb, ltb-true}
 use Rattle.std.proofs.lemmas.Bool.{and_parts, cases_Bool}
 use Rattle.std.proofs.lemmas.List.Elements.{filter-append}
 use Rattle.rio_packets.specs.Fields.{prio_of}
 use Rattle.fabric_script.specs.declared.ports.PortRef.{PortRef}
 use Rattle.fabric_model.specs.Network.{Item, Network, same_port, port_of, first_packet, with_lane, with_lent, to_send, places}
-use Rattle.fabric_model.specs.Steps.{Hold, Free, Take, Leave, Step, Linked, AtNode, Needs, only_first, behind_first, after_hold, after, LegalFrom}
+use Rattle.fabric_model.specs.Steps.{Hold, Free, Take, Leave, Move, Drop, Answer, Step, Linked, AtNode, ByDevice, Needs, only_first, behind_first, moved_item, after_hold, after, LegalFrom}
 use Rattle.fabric_model.specs.Laws.History.{IsEmptyNetwork}
 use Rattle.fabric_model.specs.Laws.Room.{HasPlaces}
 use Rattle.fabric_model.proofs.Peers.{port_is, same_port-refl}
-use Rattle.fabric_model.proofs.Boards.{first_item}
+use Rattle.fabric_model.proofs.Boards.{First, first_item}
 
 -- how many items are of a priority
 abbrev count : ℕ → List Item → ℕ
@@ -33,23 +33,32 @@ count-behind r (item ∷ items) =
       | inr other ↦ let all : count r (item ∷ items) ≡ count r items = rw other refl in omega arith
     ]
 
--- an item is taken
-take_places :
-    (net : Network) (n : ℕ) (packet : List ℕ) (item : Item) → to_send net (port_of n) (prio_of packet) + 1 ≤ places → HasPlaces net
-    → (p : PortRef) (r : ℕ)
-    → length (with_lane net.waiting (port_of n) (prio_of packet) (net.waiting (port_of n) (prio_of packet) ++ item ∷ []) p r) + count r (net.lent p) ≤ places
-take_places net n packet item room has p r =
-    elim (cases_Bool (same_port p (port_of n) && (r == prio_of packet))) [
+-- items, one at the most, come to what waits
+move_places :
+    (net : Network) (q : PortRef) (s : ℕ) (items : List Item) → length items ≤ 1 → to_send net q s + 1 ≤ places → HasPlaces net
+    → (p : PortRef) (r : ℕ) → length (with_lane net.waiting q s (net.waiting q s ++ items) p r) + count r (net.lent p) ≤ places
+move_places net q s items few room has p r =
+    elim (cases_Bool (same_port p q && (r == s))) [
       | inl here ↦
-          let parts = and_parts (same_port p (port_of n)) (r == prio_of packet) here in
-          let longer = length-append (net.waiting (port_of n) (prio_of packet)) (item ∷ []) in
-          let there : length (net.waiting (port_of n) (prio_of packet) ++ item ∷ []) + count (prio_of packet) (net.lent (port_of n)) ≤ places = omega arith in
+          let parts = and_parts (same_port p q) (r == s) here in
+          let longer = length-append (net.waiting q s) items in
+          let there : length (net.waiting q s ++ items) + count s (net.lent q) ≤ places = omega arith in
           rw here (
-          subst (λ (q : PortRef). length (net.waiting (port_of n) (prio_of packet) ++ item ∷ []) + count r (net.lent q) ≤ places) (sym (port_is p (port_of n) parts.0))
-          (subst (λ (s : ℕ). length (net.waiting (port_of n) (prio_of packet) ++ item ∷ []) + count s (net.lent (port_of n)) ≤ places) (sym (eqb-true r (prio_of packet) parts.1)) there)
+          subst (λ (x : PortRef). length (net.waiting q s ++ items) + count r (net.lent x) ≤ places) (sym (port_is p q parts.0))
+          (subst (λ (t : ℕ). length (net.waiting q s ++ items) + count t (net.lent q) ≤ places) (sym (eqb-true r s parts.1)) there)
           )
       | inr elsewhere ↦ rw elsewhere (has p r)
     ]
+
+at_most_first : (items : List Item) → length (only_first items) ≤ 1
+at_most_first [] = omega arith
+at_most_first (item ∷ items) = omega arith
+
+-- an item comes
+put_places :
+    (net : Network) (q : PortRef) (s : ℕ) (item : Item) → to_send net q s + 1 ≤ places → HasPlaces net
+    → (p : PortRef) (r : ℕ) → length (with_lane net.waiting q s (net.waiting q s ++ item ∷ []) p r) + count r (net.lent p) ≤ places
+put_places net q s item room has p r = move_places net q s (item ∷ []) (omega arith) room has p r
 
 -- the first item of a lane is lent
 held_places :
@@ -98,11 +107,11 @@ hold_places net q p packet first has x r =
       | inr elsewhere ↦ rw elsewhere (has x r)
     ]
   where
-    found : (item : Item) × (net.waiting p (prio_of packet) ≡ item ∷ behind_first (net.waiting p (prio_of packet))) × (only_first (net.waiting p (prio_of packet)) ≡ item ∷ []) × (item.now ≡ packet)
+    found : First (net.waiting p (prio_of packet)) packet
     found = first_item (net.waiting p (prio_of packet)) packet first
 
     at_port : to_send (after_hold net q (Some p) (prio_of packet)) p r ≤ places
-    at_port = rw (same_port-refl p, found.2) (held_places net p packet found.0 (behind_first (net.waiting p (prio_of packet))) found.1 found.3 has r)
+    at_port = rw (same_port-refl p, found.only) (held_places net p packet found.item (behind_first (net.waiting p (prio_of packet))) found.whole found.now has r)
 
 -- the first packet that is lent is freed
 free_places : (net : Network) (p : PortRef) → HasPlaces net → HasPlaces (record net { lent = with_lent net.lent p (behind_first (net.lent p)) })
@@ -123,8 +132,15 @@ step_places net (Linked (Hold q packet)) (p, peer, first, room) has =
 step_places net (Linked (Free p packet)) first has = free_places net p has
 step_places net (AtNode (Take n packet)) (endpoint, form, room) has = λ p r.
     let less = ltb-true (to_send net (port_of n) (prio_of packet)) places room in
-    take_places net n packet _ (omega arith) has p r
+    put_places net (port_of n) (prio_of packet) _ (omega arith) has p r
 step_places net (AtNode (Leave n packet)) needs has = has
+step_places net (ByDevice (Move p q packet)) (node, first, named, room) has = λ t r.
+    let less = ltb-true (to_send net q (prio_of packet)) places room in
+    move_places net q (prio_of packet) (only_first (map moved_item (net.received p (prio_of packet)))) (at_most_first (map moved_item (net.received p (prio_of packet)))) (omega arith) has t r
+step_places net (ByDevice (Drop p packet)) needs has = has
+step_places net (ByDevice (Answer p packet response)) (first, registers, is, form, room) has = λ t r.
+    let less = ltb-true (to_send net p (prio_of response)) places room in
+    put_places net p (prio_of response) _ (omega arith) has t r
 
 all_places : (net : Network) (steps : List Step) (end : Network) → HasPlaces net → LegalFrom net steps end → HasPlaces end
 all_places net [] end has legal = subst HasPlaces (sym legal) has

@@ -17,8 +17,8 @@ use Rattle.fabric_model.specs.Steps.{Hold, Free, Take, Leave, Linked, AtNode, af
 use Rattle.fabric_model.specs.Lines.{TraceLine, Begun, Stepped, Ended, steps_of}
 use Rattle.fabric_model.specs.Schedule.{Rests, GoesOn}
 use Rattle.fabric_model.specs.Runs.{Runs}
-use Rattle.fabric_model.specs.Laws.History.{gone}
-use Rattle.fabric_model.specs.Laws.Holding.{Place, Received, Waiting, Left, HoldingExactly, StandsAt, items_at}
+use Rattle.fabric_model.specs.Laws.History.{gone, ended}
+use Rattle.fabric_model.specs.Laws.Holding.{Place, Received, Waiting, Over, HoldingExactly, StandsAt, items_at}
 use Rattle.fabric_model.specs.Laws.Leaving.{Once, Unchanged}
 use Rattle.fabric_model.specs.Laws.Freeing.{FreedAfterHeld}
 use Rattle.fabric_model.specs.Laws.Flows.{InOrder}
@@ -34,7 +34,7 @@ test_other : passes other ≡ true
 unfolding fed shifted_times shifted
 test_other = refl
 
-packet_passes : Passes packet
+pub packet_passes : Passes packet
 packet_passes = (decides_passes packet).0 test_packet
 
 other_passes : Passes other
@@ -90,13 +90,13 @@ pair_runs = (
 pub kept_too_breaks : HoldingExactly pair held_once kept_too → ⊥
 kept_too_breaks holding = go (holding.placed 0 (omega arith))
   where
-    go : ((place : Place) × StandsAt (items_at kept_too (gone pair held_once)) 0 place) → ⊥
+    go : ((place : Place) × StandsAt (items_at kept_too (ended pair held_once)) 0 place) → ⊥
     go at = elsewhere at.0 at.1
       where
-        elsewhere : (place : Place) → StandsAt (items_at kept_too (gone pair held_once)) 0 place → ⊥
+        elsewhere : (place : Place) → StandsAt (items_at kept_too (ended pair held_once)) 0 place → ⊥
         elsewhere (Received p r) stands = omega (arith, stands (Waiting (port_of 0) 0))
         elsewhere (Waiting p r) stands = omega (arith, stands (Received (port_of 1) 0))
-        elsewhere Left stands = omega (arith, stands (Waiting (port_of 0) 0))
+        elsewhere (Over e) stands = omega (arith, stands (Waiting (port_of 0) 0))
 
 pub left_twice_breaks : Once pair left_twice → ⊥
 left_twice_breaks once = omega (arith, once.each)
@@ -127,7 +127,7 @@ pub overtaking_legal : LegalFrom fork overtaking (after_all fork overtaking)
 overtaking_legal = ((refl, packet_passes, refl), ((refl, other_passes, refl), ((port_of 0, refl, refl, refl), ((port_of 0, refl, refl, refl), ((refl, refl, refl), ((refl, refl, refl), refl))))))
 
 pub overtaking_breaks : InOrder fork overtaking → ⊥
-overtaking_breaks law = omega (arith, law.earlier_first first second [] (first ∷ []) refl refl (record { port = refl; source = refl; dest = refl; priority = refl; maintenance = refl; hop = refl }) (omega arith))
+overtaking_breaks law = omega (arith, law.earlier_first [] (AtNode (Take 0 packet)) (AtNode (Take 0 other) ∷ Linked (Hold (port_of 1) packet) ∷ Linked (Hold (port_of 2) other) ∷ []) (AtNode (Leave 2 other)) (AtNode (Leave 1 packet) ∷ []) first second refl refl refl (λ n. refl, (λ n. refl, (λ n. refl, tt))) (record { source = refl; course = record { port = refl; dest = refl; priority = refl; maintenance = refl; hop = refl } }) (omega arith))
   where
     second : Item
     second = record { number = 1; port = port_of 0; taken = other; now = other }

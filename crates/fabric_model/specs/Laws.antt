@@ -4,10 +4,12 @@ pub mod History
 pub mod Holding
 pub mod Leaving
 pub mod Freeing
+pub mod Tables
 pub mod Flows
 pub mod Proper
 pub mod Priorities
 pub mod Room
 pub mod Settling
 pub mod Examples
+pub mod Switches
 pub mod Lawful

@@ -1,5 +1,6 @@
 pub mod Schedule
 pub mod Network
+pub mod Serving
 pub mod Steps
 pub mod Lines
 pub mod Text

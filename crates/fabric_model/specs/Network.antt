@@ -1,6 +1,8 @@
 -- The plain network: first-in first-out queues of packets, with no link protocol.
-use Rattle.std.specs.Prelude.{ℕ, ◌+◌, ◌-◌, Bool, ◌&&◌, ◌==◌, nat_lt, IsSome, List, [], ◌∷◌, ◌++◌, length, Option, Some, None, filter, slice_get, option_map, unwrap_or, if◌then◌else◌}
+use Rattle.std.specs.Prelude.{◌≡◌, ℕ, zero, suc, ◌+◌, ◌-◌, Bool, true, false, ◌&&◌, ◌==◌, nat_lt, List, [], ◌∷◌, ◌++◌, length, Option, Some, None, filter, slice_get, option_map, option_and_then, unwrap_or, if◌then◌else◌}
 use Rattle.rio_packets.specs.Fields.{prio_of}
+use Rattle.maint_registers.specs.Devices.{Device, is_switch}
+use Rattle.maint_registers.specs.Routes.{next_port}
 use Rattle.fabric_script.specs.declared.ports.PortRef.{PortRef}
 
 -- A packet in the network: the number that it was given, the port where it was taken and what it
@@ -11,24 +13,21 @@ pub record Item : Type 0 where
   pub taken : List ℕ
   pub now : List ℕ
 
--- a device's registers: of an endpoint, its base device ID
-pub record Registers : Type 0 where
-  pub base : ℕ
-
 -- what each port has for each priority
 abbrev pub Lanes : Type 0
 Lanes = PortRef → ℕ → List Item
 
 -- For each port and priority, the packets that it has received and those that wait there to be
 -- sent; for each port, the packets that the next hop holds and it has not freed yet, and how many
--- receive buffers it has. The links are pairs of ports, in the order of their lines. `given` counts
--- the numbers that were given out.
+-- receive buffers it has. Each node has the registers of its device, which say whether it is an
+-- endpoint or a switch. The links are pairs of ports, in the order of their lines. `given` counts the
+-- numbers that were given out.
 pub record Network : Type 0 where
   pub received : Lanes
   pub waiting : Lanes
   pub lent : PortRef → List Item
   pub buffers : PortRef → ℕ
-  pub registers : List Registers
+  pub registers : List Device
   pub links : List (PortRef × PortRef)
   pub given : ℕ
 
@@ -93,9 +92,28 @@ to_send net p r =
 abbrev pub room_out : Network → PortRef → ℕ → Bool
 room_out net p r = nat_lt (to_send net p r) places
 
+-- whether a node is a switch, if it is one of the nodes
+abbrev pub switch_at : Network → ℕ → Option Bool
+switch_at net n = option_map is_switch (slice_get net.registers n)
+
 abbrev pub IsEndpoint : Network → ℕ → Type 0
-IsEndpoint net n = IsSome (slice_get net.registers n)
+IsEndpoint net n = switch_at net n ≡ Some false
+
+abbrev pub IsSwitch : Network → ℕ → Type 0
+IsSwitch net n = switch_at net n ≡ Some true
 
 -- the base device ID of a node
 abbrev pub base_of : Network → ℕ → ℕ
-base_of net n = unwrap_or (option_map (λ registers. registers.base) (slice_get net.registers n)) 0
+base_of net n = unwrap_or (option_map (λ device. device.base_id) (slice_get net.registers n)) 0
+
+-- the port to which a node sends packets for a destination, if it is a switch that names one
+abbrev pub route_at : Network → Option ℕ → ℕ → Option ℕ
+route_at net dest n =
+    option_and_then (λ d. option_and_then (λ device. next_port device d) (slice_get net.registers n))
+    dest
+
+-- the registers, with those of one node changed
+abbrev pub with_device : List Device → ℕ → (Device → Device) → List Device
+with_device [] n change = []
+with_device (device ∷ devices) zero change = change device ∷ devices
+with_device (device ∷ devices) (suc n) change = device ∷ with_device devices n change

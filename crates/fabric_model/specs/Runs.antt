@@ -1,8 +1,9 @@
 -- What a trace of a script is.
-use Rattle.std.specs.Prelude.{◌≡◌, List, [], ◌∷◌, ◌++◌, MatchBool}
+use Rattle.std.specs.Prelude.{◌≡◌, false, List, [], ◌∷◌, ◌++◌, MatchBool}
 use Rattle.fabric_script.specs.declared.lines.Line.{Line}
 use Rattle.fabric_script.specs.declared.lines.Line.TheVariants.{Endpoint, Link}
 use Rattle.fabric_script.specs.declared.lines.Numbered.{Numbered}
+use Rattle.maint_registers.specs.Devices.{new_endpoint}
 use Rattle.fabric_model.specs.Network.{Network}
 use Rattle.fabric_model.specs.Lines.{TraceLine, Begun, Ended}
 use Rattle.fabric_model.specs.Seen.{Seen, seen_line, seen}
@@ -23,7 +24,7 @@ bare = record {
 -- the network with one more line of set-up
 abbrev pub set_up : Network → Line → Network
 set_up net (Endpoint name id) =
-    record net { registers = net.registers ++ record { base = id } ∷ [] }
+    record net { registers = net.registers ++ new_endpoint id false ∷ [] }
 set_up net (Link a b) = record net { links = net.links ++ (a, b) ∷ [] }
 set_up net _ = net
 

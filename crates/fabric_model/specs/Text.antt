@@ -5,7 +5,7 @@ use Rattle.rio_chars.specs.HexText.{hex_of}
 use Rattle.fabric_script.specs.Names.{name_of}
 use Rattle.fabric_script.specs.Texts.{port_text}
 use Rattle.fabric_script.specs.Lines.{line_text}
-use Rattle.fabric_model.specs.Steps.{Hold, Free, Take, Leave, Step, Linked, AtNode}
+use Rattle.fabric_model.specs.Steps.{Hold, Free, Take, Leave, Move, Drop, Answer, Step, Linked, AtNode, ByDevice}
 use Rattle.fabric_model.specs.Lines.{Full, Empty, TraceLine, Begun, Stepped, Lacked, Ended}
 
 -- the text of a step, without its line feed
@@ -18,6 +18,14 @@ step_text names (AtNode (Take n packet)) =
     codes "take " ++ name_of names n ++ codes " " ++ hex_of packet
 step_text names (AtNode (Leave n packet)) =
     codes "leave " ++ name_of names n ++ codes " " ++ hex_of packet
+step_text names (ByDevice (Move p q packet)) =
+    codes "move " ++ port_text names p ++ codes " " ++ port_text names q ++ codes " "
+    ++ hex_of packet
+step_text names (ByDevice (Drop p packet)) =
+    codes "drop " ++ port_text names p ++ codes " " ++ hex_of packet
+step_text names (ByDevice (Answer p packet response)) =
+    codes "answer " ++ port_text names p ++ codes " " ++ hex_of packet ++ codes " "
+    ++ hex_of response
 
 -- the text of a trace's line, with its line feed
 abbrev pub trace_line_text : List (List ℕ) → TraceLine → List ℕ

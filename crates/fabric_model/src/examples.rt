@@ -1,7 +1,7 @@
 //! Small lists of steps: that the definitions say what they should of a worked run, and that each
 //! law can fail.
 
-ghost use Rattle.std.specs.Prelude.{[], ◌∷◌, ◌≡◌};
+ghost use Rattle.std.specs.Prelude.{[], ◌∷◌, ◌≡◌, map};
 ghost use Rattle.fabric_model.specs.Network.{port_of};
 ghost use Rattle.fabric_model.specs.Steps.{LegalFrom, after_all};
 ghost use Rattle.fabric_model.specs.Lines.{steps_of};
@@ -10,9 +10,12 @@ ghost use Rattle.fabric_model.specs.Laws.History.{gone};
 ghost use Rattle.fabric_model.specs.Laws.Holding.{HoldingExactly};
 ghost use Rattle.fabric_model.specs.Laws.Leaving.{Once, Unchanged};
 ghost use Rattle.fabric_model.specs.Laws.Freeing.{FreedAfterHeld};
-ghost use Rattle.fabric_model.specs.Laws.Flows.{InOrder};
+ghost use Rattle.fabric_model.specs.Laws.Flows.{EarlierFirst, InOrder};
+ghost use Rattle.fabric_model.specs.Laws.Tables.{ByTables};
+ghost use Rattle.fabric_model.specs.Laws.Proper.{AreProper};
 ghost use Rattle.fabric_model.specs.Laws.Settling.{IsSettled};
 ghost use Rattle.fabric_model.specs.Laws.Examples.{pair_script, pair_lines, pair, first, held_once, kept_too, left_twice, left_as_other, freed_too_early, not_passed, fork, overtaking};
+ghost use Rattle.fabric_model.specs.Laws.Switches.{port_at, around, through, circle, parting, SamePriority, moved_elsewhere, dropped_on_its_way};
 
 /// A packet is sent over the one link of two endpoints and collected. The lines are the trace of
 /// the script, and their steps are legal.
@@ -24,7 +27,8 @@ pub fn worked_run()
 
 /// These laws do not hold of everything. Each fails of steps that are not legal, or of a network
 /// where they do not end; settling is not done while a packet waits that has room, and order fails
-/// of legal steps where a port stands in two links.
+/// of legal steps where a port stands in two links. Through switches, a packet moves to another port than
+/// the table names, and overtakes there; and one is dropped although a port is named.
 pub fn laws_can_fail()
     ensures holding_exactly { HoldingExactly pair held_once kept_too → ⊥ }
     ensures once { Once pair left_twice → ⊥ }
@@ -33,4 +37,30 @@ pub fn laws_can_fail()
     ensures settled { IsSettled (after_all pair not_passed) (port_of 0) (port_of 1) → ⊥ }
     ensures fork_is_legal { LegalFrom fork overtaking (after_all fork overtaking) }
     ensures in_order { InOrder fork overtaking → ⊥ }
+    ensures moved { ByTables around moved_elsewhere → ⊥ }
+    ensures overtakes { InOrder around moved_elsewhere → ⊥ }
+    ensures dropped { ByTables around dropped_on_its_way → ⊥ }
+{}
+
+/// A packet goes from an endpoint through two switches to another endpoint. Each port stands in at most one
+/// link, the steps are legal, and the one item has left.
+pub fn through_switches()
+    ensures proper { AreProper around.links }
+    ensures legal { LegalFrom around through (after_all around through) }
+    ensures gone { gone around through ≡ first ∷ [] }
+{}
+
+/// On a route that runs in a circle an older packet can stand behind a later one of its flow: their places
+/// say nothing of their order, and how many places each has passed does.
+pub fn circles_are_legal()
+    ensures legal { LegalFrom around circle (after_all around circle) }
+    ensures stand { map (λ item. item.number) ((after_all around circle).waiting (port_at 2 1) 0)
+        ≡ 1 ∷ 0 ∷ [] }
+{}
+
+/// Two packets of one port and one priority can part at a switch, and the later one leave first: a flow has
+/// one destination.
+pub fn flows_can_part()
+    ensures legal { LegalFrom around parting (after_all around parting) }
+    ensures order { EarlierFirst SamePriority around parting → ⊥ }
 {}

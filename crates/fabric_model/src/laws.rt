@@ -17,7 +17,8 @@ ghost use Rattle.fabric_model.specs.Laws.History.{IsEmptyNetwork};
 ghost use Rattle.fabric_model.specs.Laws.Holding.{HoldingExactly};
 ghost use Rattle.fabric_model.specs.Laws.Leaving.{Once, Unchanged};
 ghost use Rattle.fabric_model.specs.Laws.Freeing.{IsFront, FreedAfterHeld};
-ghost use Rattle.fabric_model.specs.Laws.Flows.{SamePriority, EarlierFirst, InOrder};
+ghost use Rattle.fabric_model.specs.Laws.Tables.{ByTables};
+ghost use Rattle.fabric_model.specs.Laws.Flows.{SameCourse, EarlierFirst, InOrder};
 ghost use Rattle.fabric_model.specs.Laws.Proper.{AreProper, SetUpIsProper};
 ghost use Rattle.fabric_model.specs.Laws.Priorities.{ByPriority};
 ghost use Rattle.fabric_model.specs.Laws.Room.{HasPlaces};
@@ -37,7 +38,8 @@ pub fn first_blocks_are_a_front()
 {}
 
 /// The network holds exactly the packets taken: each number that was given out stands in exactly
-/// one place, in one list of a port and a priority or among those that have left.
+/// one place, in one list of a port and a priority or among those that have left, were dropped or
+/// were answered.
 pub fn holding_exactly()
     ensures { (start : Network) (steps : List Step) (end : Network) → IsEmptyNetwork start
         → LegalFrom start steps end → HoldingExactly start steps end }
@@ -49,7 +51,7 @@ pub fn once()
         → LegalFrom start steps end → Once start steps }
 {}
 
-/// What leaves is what was taken.
+/// What leaves is what was taken, but for the hop count of a maintenance packet and the CRC over it.
 pub fn unchanged()
     ensures { (start : Network) (steps : List Step) (end : Network) → IsEmptyNetwork start
         → LegalFrom start steps end → Unchanged start steps }
@@ -61,19 +63,26 @@ pub fn freed_after_held()
         → LegalFrom start steps end → FreedAfterHeld start steps }
 {}
 
-/// Of two items of one flow the one that was taken first leaves first, where each port stands in at
-/// most one link.
+/// Every packet goes where the registers of its node name at that moment, and nothing but an answer
+/// changes registers.
+pub fn by_tables()
+    ensures { (start : Network) (steps : List Step) (end : Network) → LegalFrom start steps end
+        → ByTables start steps }
+{}
+
+/// Of two items of one flow the one that was taken first leaves first, or was answered, over any
+/// number of switches and also if a route runs in a circle. In between the routes of their destination
+/// stand, and each port stands in at most one link.
 pub fn in_order()
     ensures { (start : Network) (steps : List Step) (end : Network) → IsEmptyNetwork start
         → AreProper start.links → LegalFrom start steps end → InOrder start steps }
 {}
 
-/// The same of any two items that were taken at one port with one priority, so of flows that are
-/// told apart by less.
-pub fn in_order_of_priority()
+/// The same of any two items of one course, so of flows that are told apart by all but the source.
+pub fn in_order_of_course()
     ensures { (start : Network) (steps : List Step) (end : Network) → IsEmptyNetwork start
         → AreProper start.links → LegalFrom start steps end
-        → EarlierFirst SamePriority start steps }
+        → EarlierFirst SameCourse start steps }
 {}
 
 /// Each list of a network holds packets of its own priority alone.

@@ -16,6 +16,7 @@ use Rattle.fabric_script.specs.Reading.{MayBe, IsFree}
 use Rattle.fabric_script.specs.Scripts.{PassesFrom, Passes}
 use Rattle.fabric_script.proofs.KnownLaws.{one_port-after}
 use Rattle.fabric_script.proofs.PrintLaws.{names_end}
+use Rattle.maint_registers.specs.Devices.{new_endpoint}
 use Rattle.fabric_model.specs.Network.{Network, port_of}
 use Rattle.fabric_model.specs.Blocks.Event.{has_block}
 use Rattle.fabric_model.specs.Runs.{bare, set_up, set_up_all}
@@ -145,7 +146,7 @@ stage-after known new ids link net (Endpoint name id) s may free built =
       few = grind (arith, nat_tests, built, length-append ids (id ∷ []));
       linked = s.linked;
       links = s.links;
-      registers = ap (λ registers. registers ++ record { base = id } ∷ []) s.registers ∙ sym (map-append (λ id. record { base = id }) ids (id ∷ []));
+      registers = ap (λ registers. registers ++ new_endpoint id false ∷ []) s.registers ∙ sym (map-append (λ id. new_endpoint id false) ids (id ∷ []));
       joined = joined_more ids (id ∷ []) link s.joined;
     }
 stage-after known new ids link net (Link a b) s may free built = link-stage known new ids link net a b s may free

@@ -1,5 +1,5 @@
 -- What the events of a script do to the network that a fabric shows.
-use Rattle.std.proofs.Common.{◌≡◌, ℕ, zero, suc, inl, inr, ◌⊎◌, ◌+◌, ◌<◌, ◌≤◌, true, false, nat_lt, IsSome, List, [], ◌∷◌, ◌++◌, length, refl, sym, ap, ◌∙◌, subst, arith, Option, Some, None, cond, ◌==◌, add-zero, append-nil}
+use Rattle.std.proofs.Common.{◌≡◌, ℕ, zero, suc, inl, inr, ◌⊎◌, ◌+◌, ◌<◌, ◌≤◌, true, false, nat_lt, List, [], ◌∷◌, ◌++◌, length, refl, sym, ap, ◌∙◌, subst, arith, Option, Some, None, cond, ◌==◌, add-zero, append-nil}
 use Rattle.std.proofs.lemmas.Bool.{false≢true}
 use Rattle.std.specs.Prelude.{slice_get, slice_index_or, filter, unwrap_or, option_map}
 use Rattle.std.proofs.lemmas.Bool.{lt-ltb, le-ltb}
@@ -10,7 +10,8 @@ use Rattle.rio_chars.specs.Written.{Writes}
 use Rattle.rio_chars.specs.declared.outbox.Outbox.{Outbox}
 use Rattle.link_buffers.specs.Queues.{list_at, appended, popped, Buffered}
 use Rattle.fabric_script.specs.declared.ports.PortRef.{PortRef}
-use Rattle.fabric_model.specs.Network.{Item, Registers, Network, port_of, room_out, base_of, link_in}
+use Rattle.maint_registers.specs.Devices.{Device, is_switch}
+use Rattle.fabric_model.specs.Network.{Item, Network, IsEndpoint, port_of, room_out, base_of, link_in}
 use Rattle.fabric_model.specs.Steps.{Take, Leave, AtNode, after, behind_first}
 use Rattle.fabric_script.specs.declared.lines.Line.{Line}
 use Rattle.fabric_script.specs.declared.lines.Line.TheVariants.{Send, Settle, Collect}
@@ -49,13 +50,13 @@ room_out-shows waiting received net p prio few shows =
     ap (λ lent. nat_lt (length (net.waiting p prio) + length (filter (λ item. prio_of item.now == prio) lent)) 16) shows.lends
     ∙ ap (λ n. nat_lt n 16) (add-zero (length (net.waiting p prio)) ∙ lane_length waiting (net.waiting p) prio few shows.waits)
 
-is_some_below : (ids : List ℕ) (n : ℕ) → n < length ids → IsSome (slice_get (registers_of ids) n)
-is_some_below [] n within = absurd (omega arith)
-is_some_below (id ∷ ids) zero within = refl
-is_some_below (id ∷ ids) (suc n) within = is_some_below ids n (omega arith)
+endpoint_below : (ids : List ℕ) (n : ℕ) → n < length ids → option_map is_switch (slice_get (registers_of ids) n) ≡ Some false
+endpoint_below [] n within = absurd (omega arith)
+endpoint_below (id ∷ ids) zero within = refl
+endpoint_below (id ∷ ids) (suc n) within = endpoint_below ids n (omega arith)
 
-is_endpoint : (net : Network) (ids : List ℕ) (n : ℕ) → net.registers ≡ registers_of ids → n < length ids → IsSome (slice_get net.registers n)
-is_endpoint net ids n known within = subst (λ registers. IsSome (slice_get registers n)) (sym known) (is_some_below ids n within)
+is_endpoint : (net : Network) (ids : List ℕ) (n : ℕ) → net.registers ≡ registers_of ids → n < length ids → IsEndpoint net n
+is_endpoint net ids n known within = subst (λ registers. option_map is_switch (slice_get registers n) ≡ Some false) (sym known) (endpoint_below ids n within)
 
 not_below : (a b : ℕ) → ¬ (a < b) → b ≤ a
 not_below a b h = omega arith
@@ -64,7 +65,7 @@ module _ (names : List (List ℕ)) {K : Type 0} (written : K → Option (List �
   abbrev old_links : List (PortRef × PortRef)
   old_links = links_of old.set_up.link
 
-  abbrev old_registers : List Registers
+  abbrev old_registers : List Device
   old_registers = registers_of old.set_up.ids.items
 
   abbrev Did : (List TraceLine → Type 0) → Type 0
@@ -186,9 +187,9 @@ Evented-of line names s before fabric Is same begun done is = record {
 }
 
 first_base : (net : Network) (ids : List ℕ) → net.registers ≡ registers_of ids → base_of net 0 ≡ slice_index_or ids 0 0
-first_base net ids known = ap (λ registers. unwrap_or (option_map (λ r. r.base) (slice_get registers 0)) 0) known ∙ of_ids ids
+first_base net ids known = ap (λ registers. unwrap_or (option_map (λ (r : Device). r.base_id) (slice_get registers 0)) 0) known ∙ of_ids ids
   where
-    of_ids : (ids : List ℕ) → unwrap_or (option_map (λ r. r.base) (slice_get (registers_of ids) 0)) 0 ≡ slice_index_or ids 0 0
+    of_ids : (ids : List ℕ) → unwrap_or (option_map (λ (r : Device). r.base_id) (slice_get (registers_of ids) 0)) 0 ≡ slice_index_or ids 0 0
     of_ids [] = refl
     of_ids (id ∷ ids) = refl
 
@@ -199,12 +200,12 @@ block-send s ids link line node prio ftype dest hex packet e carried known made 
     rw (e, zero_is, first_base s.network ids known) (packet, made, is)
 
 -- both ways over a link
-pub both_ways : (p q : PortRef) (links : List (PortRef × PortRef)) (registers : List Registers) (s : Seen) (names : List (List ℕ)) (a b2 b3 a3 : Queues) (from to : Queues) {K : Type 0} {written : K → Option (List ℕ)} {faults : K → ℕ} {x x2 x3 : Outbox K}
+pub both_ways : (p q : PortRef) (links : List (PortRef × PortRef)) (registers : List Device) (s : Seen) (names : List (List ℕ)) (a b2 b3 a3 : Queues) (from to : Queues) {K : Type 0} {written : K → Option (List ℕ)} {faults : K → ℕ} {x x2 x3 : Outbox K}
     → AreEnds p q links → AreEnds q p links
-    → ((links : List (PortRef × PortRef)) (registers : List Registers) (s : Seen) → AreEnds p q links
+    → ((links : List (PortRef × PortRef)) (registers : List Device) (s : Seen) → AreEnds p q links
     → ShowsEnds from.waiting from.received p to.waiting to.received q links registers s.network
     → Passed (PassesAll p q s) names written faults x x2 p q links registers s a b2)
-    → ((links : List (PortRef × PortRef)) (registers : List Registers) (s : Seen) → AreEnds q p links
+    → ((links : List (PortRef × PortRef)) (registers : List Device) (s : Seen) → AreEnds q p links
     → ShowsEnds b2.waiting b2.received q a.waiting a.received p links registers s.network
     → Passed (PassesAll q p s) names written faults x2 x3 q p links registers s b3 a3)
     → ShowsEnds from.waiting from.received p to.waiting to.received q links registers s.network
@@ -227,7 +228,7 @@ both_ways p q links registers s names a b2 b3 a3 from to ahead behind there back
     }
 
 -- the same of the two ends in the other order
-pub turned : {Is : List TraceLine → Type 0} {names : List (List ℕ)} {K : Type 0} {written : K → Option (List ℕ)} {faults : K → ℕ} {x x2 : Outbox K} {p q : PortRef} {links : List (PortRef × PortRef)} {registers : List Registers} {s : Seen} {here there : Queues}
+pub turned : {Is : List TraceLine → Type 0} {names : List (List ℕ)} {K : Type 0} {written : K → Option (List ℕ)} {faults : K → ℕ} {x x2 : Outbox K} {p q : PortRef} {links : List (PortRef × PortRef)} {registers : List Device} {s : Seen} {here there : Queues}
     → Passed Is names written faults x x2 p q links registers s here there → Passed Is names written faults x x2 q p links registers s there here
 turned h = record { block = h.block; prints = h.prints; legal = h.legal; all = h.all; shows = record { here = h.shows.there; there = h.shows.here; linked = h.shows.linked; known = h.shows.known } }
 
@@ -253,11 +254,11 @@ ends_back link e = subst (λ l. AreEnds (port_of 1) (port_of 0) (links_of l) × 
 
 -- what one way does, whatever the links are
 abbrev OneWay : {K : Type 0} → (K → Option (List ℕ)) → (K → ℕ) → List (List ℕ) → PortRef → PortRef → Outbox K → Outbox K → Queues → Queues → Queues → Queues → Type 0
-OneWay written faults names p q x x2 from to a b = (links : List (PortRef × PortRef)) (registers : List Registers) (s : Seen) → AreEnds p q links
+OneWay written faults names p q x x2 from to a b = (links : List (PortRef × PortRef)) (registers : List Device) (s : Seen) → AreEnds p q links
     → ShowsEnds from.waiting from.received p to.waiting to.received q links registers s.network
     → Passed (PassesAll p q s) names written faults x x2 p q links registers s a b
 
-pub settled_ahead : (link : Option (PortRef × PortRef)) (registers : List Registers) (s : Seen) (names : List (List ℕ)) (a b2 b3 a3 : Queues) (from to : Queues) {K : Type 0} {written : K → Option (List ℕ)} {faults : K → ℕ} {x x2 x3 : Outbox K}
+pub settled_ahead : (link : Option (PortRef × PortRef)) (registers : List Device) (s : Seen) (names : List (List ℕ)) (a b2 b3 a3 : Queues) (from to : Queues) {K : Type 0} {written : K → Option (List ℕ)} {faults : K → ℕ} {x x2 x3 : Outbox K}
     → AreLinked link → begins_at_first link ≡ true
     → OneWay written faults names (port_of 0) (port_of 1) x x2 from to a b2 → OneWay written faults names (port_of 1) (port_of 0) x2 x3 b2 a b3 a3
     → ShowsEnds from.waiting from.received (port_of 0) to.waiting to.received (port_of 1) (links_of link) registers s.network
@@ -268,7 +269,7 @@ settled_ahead link registers s names a b2 b3 a3 from to {K} {written} {faults} {
     subst (λ l. Passed (PassesBoth l s) names written faults x x3 (port_of 0) (port_of 1) (links_of link) registers s a3 b3) (sym e)
     (both_ways (port_of 0) (port_of 1) (links_of link) registers s names a b2 b3 a3 from to ends.0 ends.1 there back shows)
 
-pub settled_back : (link : Option (PortRef × PortRef)) (registers : List Registers) (s : Seen) (names : List (List ℕ)) (b a2 a3 b3 : Queues) (from to : Queues) {K : Type 0} {written : K → Option (List ℕ)} {faults : K → ℕ} {x x2 x3 : Outbox K}
+pub settled_back : (link : Option (PortRef × PortRef)) (registers : List Device) (s : Seen) (names : List (List ℕ)) (b a2 a3 b3 : Queues) (from to : Queues) {K : Type 0} {written : K → Option (List ℕ)} {faults : K → ℕ} {x x2 x3 : Outbox K}
     → AreLinked link → begins_at_first link ≡ false
     → OneWay written faults names (port_of 1) (port_of 0) x x2 to from b a2 → OneWay written faults names (port_of 0) (port_of 1) x2 x3 a2 b a3 b3
     → ShowsEnds from.waiting from.received (port_of 0) to.waiting to.received (port_of 1) (links_of link) registers s.network

@@ -6,7 +6,8 @@ use Rattle.rio_packets.specs.Fields.{prio_of, is_request}
 use Rattle.link_buffers.specs.Queues.{list_at, appended, popped, packet_count, Buffered, IsInStore, IsOutStore}
 use Rattle.link_buffers.proofs.QueueLemmas.{each-set}
 use Rattle.fabric_script.specs.declared.ports.PortRef.{PortRef}
-use Rattle.fabric_model.specs.Network.{Item, Registers, Network, with_lane, peer_in, first_packet, in_turn, next_packet, room_in}
+use Rattle.maint_registers.specs.Devices.{Device}
+use Rattle.fabric_model.specs.Network.{Item, Network, with_lane, peer_in, first_packet, in_turn, next_packet, room_in}
 use Rattle.fabric_model.specs.Steps.{Hold, Free, Linked, Needs, behind_first, only_first, after_hold, after, LegalFrom}
 use Rattle.fabric_model.specs.Blocks.Settle.{has_room_at}
 use Rattle.fabric_replay.specs.Turns.{next_of, admits}
@@ -54,7 +55,7 @@ behind_first-only (item ∷ items) = refl
 
 -- What is true where the packet whose turn it is passes.
 pub record Passing (waiting : List (List (List ℕ))) (received : Buffered) (p : PortRef) (waiting_there : List (List (List ℕ))) (received_there : Buffered) (q : PortRef)
-    (links : List (PortRef × PortRef)) (registers : List Registers) (net : Network) (packet : List ℕ) : Type 0 where
+    (links : List (PortRef × PortRef)) (registers : List Device) (net : Network) (packet : List ℕ) : Type 0 where
   pub shows : ShowsEnds waiting received p waiting_there received_there q links registers net
   pub ends : AreEnds p q links
   pub out : IsOutStore waiting
@@ -67,7 +68,7 @@ abbrev held_net : Network → PortRef → PortRef → List ℕ → Network
 held_net net p q packet = after_hold net q (Some p) (prio_of packet)
 
 module _ (waiting : List (List (List ℕ))) (received : Buffered) (p : PortRef) (waiting_there : List (List (List ℕ))) (received_there : Buffered) (q : PortRef)
-    (links : List (PortRef × PortRef)) (registers : List Registers) (net : Network) (packet : List ℕ) where
+    (links : List (PortRef × PortRef)) (registers : List Device) (net : Network) (packet : List ℕ) where
   abbrev Pass : Type 0
   Pass = Passing waiting received p waiting_there received_there q links registers net packet
 
@@ -146,7 +147,7 @@ module _ (waiting : List (List (List ℕ))) (received : Buffered) (p : PortRef) 
 
 -- whether the packet whose turn it is can pass
 pub can_pass-shows : (waiting : List (List (List ℕ))) (received : Buffered) (p : PortRef) (waiting_there : List (List (List ℕ))) (received_there : Buffered) (q : PortRef)
-    (links : List (PortRef × PortRef)) (registers : List Registers) (net : Network) → ShowsEnds waiting received p waiting_there received_there q links registers net
+    (links : List (PortRef × PortRef)) (registers : List Device) (net : Network) → ShowsEnds waiting received p waiting_there received_there q links registers net
     → IsInStore received_there → has_room_at net q (next_packet (net.waiting p)) ≡ admits received_there (next_of waiting)
 can_pass-shows waiting received p waiting_there received_there q links registers net shows inn =
     ap (has_room_at net q) (next_packet-shows waiting (net.waiting p) shows.here.waits) ∙ by_packet (next_of waiting)

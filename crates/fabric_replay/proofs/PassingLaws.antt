@@ -9,7 +9,8 @@ use Rattle.rio_chars.proofs.WrittenLaws.{Writes-nil, Writes-then}
 use Rattle.link_buffers.specs.Queues.{list_at, appended, popped, packet_count}
 use Rattle.link_buffers.proofs.QueueLemmas.{packet_count-popped}
 use Rattle.fabric_script.specs.declared.ports.PortRef.{PortRef}
-use Rattle.fabric_model.specs.Network.{Registers, Network}
+use Rattle.maint_registers.specs.Devices.{Device}
+use Rattle.fabric_model.specs.Network.{Network}
 use Rattle.fabric_model.specs.Steps.{Hold, Free, Linked, LegalFrom}
 use Rattle.fabric_model.specs.Lines.{TraceLine, Stepped, steps_of}
 use Rattle.fabric_model.specs.Text.{trace_line_text, trace_text}
@@ -39,7 +40,7 @@ pub Writes-lines : (names : List (List ℕ)) (front more : List TraceLine) {K : 
 Writes-lines names front more {K} {written} {faults} {b} {b2} {b3} first second =
     subst (Writes written faults b b3) (sym (flat_map-append (trace_line_text names) front more)) (Writes-then _ _ first second)
 
-module _ (names : List (List ℕ)) (p q : PortRef) (links : List (PortRef × PortRef)) (registers : List Registers) (s : Seen) {K : Type 0} (written : K → Option (List ℕ)) (faults : K → ℕ) (b : Outbox K) where
+module _ (names : List (List ℕ)) (p q : PortRef) (links : List (PortRef × PortRef)) (registers : List Device) (s : Seen) {K : Type 0} (written : K → Option (List ℕ)) (faults : K → ℕ) (b : Outbox K) where
   abbrev SoFar : Outbox K → Queues → Queues → Type 0
   SoFar b2 from to = Passed (Fronts p q s) names written faults b b2 p q links registers s from to
 

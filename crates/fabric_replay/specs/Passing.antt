@@ -5,7 +5,7 @@ use Rattle.rio_chars.specs.Written.{Writes}
 use Rattle.rio_chars.specs.declared.outbox.Outbox.{Outbox}
 use Rattle.link_buffers.specs.Queues.{appended, popped}
 use Rattle.fabric_script.specs.declared.ports.PortRef.{PortRef}
-use Rattle.fabric_model.specs.Network.{Registers}
+use Rattle.maint_registers.specs.Devices.{Device}
 use Rattle.fabric_model.specs.Steps.{LegalFrom}
 use Rattle.fabric_model.specs.Lines.{TraceLine, steps_of}
 use Rattle.fabric_model.specs.Text.{trace_text}
@@ -29,7 +29,7 @@ pub record PassedOne (old old_there new new_there : Queues) (packet : List ℕ) 
 -- steps are legal, and the queues show what the network has then. `All` is what the lines are.
 pub record Passed (All : List TraceLine → Type 0) (names : List (List ℕ)) {K : Type 0}
     (written : K → Option (List ℕ)) (faults : K → ℕ) (old new : Outbox K)
-    (p q : PortRef) (links : List (PortRef × PortRef)) (registers : List Registers) (s : Seen)
+    (p q : PortRef) (links : List (PortRef × PortRef)) (registers : List Device) (s : Seen)
     (here there : Queues) : Type 0 where
   pub block : List TraceLine
   pub prints : Writes written faults old new (trace_text names block)

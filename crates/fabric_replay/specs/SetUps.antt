@@ -4,7 +4,8 @@ use Rattle.fabric_script.specs.declared.ports.PortRef.{PortRef}
 use Rattle.fabric_script.specs.declared.lines.Line.{Line}
 use Rattle.fabric_script.specs.declared.lines.Line.TheVariants.{Endpoint, Link}
 use Rattle.fabric_script.specs.declared.lines.Numbered.{Numbered}
-use Rattle.fabric_model.specs.Network.{Registers, port_of}
+use Rattle.maint_registers.specs.Devices.{Device, new_endpoint}
+use Rattle.fabric_model.specs.Network.{port_of}
 
 -- the device IDs of the endpoints, in the order of their lines, with one more line
 abbrev pub ids_after : List ℕ → Line → List ℕ
@@ -29,8 +30,8 @@ abbrev pub links_of : Option (PortRef × PortRef) → List (PortRef × PortRef)
 links_of None = []
 links_of (Some link) = link ∷ []
 
-abbrev pub registers_of : List ℕ → List Registers
-registers_of ids = map (λ id. record { base = id }) ids
+abbrev pub registers_of : List ℕ → List Device
+registers_of ids = map (λ id. new_endpoint id false) ids
 
 -- whether the first side of the link is the first endpoint
 abbrev pub begins_at_first : Option (PortRef × PortRef) → Bool

@@ -4,7 +4,8 @@ use Rattle.std.specs.Prelude.{◌≡◌, ℕ, ◌<◌, false, List, [], All, map
 use Rattle.rio_packets.specs.Fields.{is_request}
 use Rattle.link_buffers.specs.Queues.{list_at, Buffered}
 use Rattle.fabric_script.specs.declared.ports.PortRef.{PortRef}
-use Rattle.fabric_model.specs.Network.{Item, Registers, Network, same_port, peer_in}
+use Rattle.maint_registers.specs.Devices.{Device}
+use Rattle.fabric_model.specs.Network.{Item, Network, same_port, peer_in}
 
 -- the packets of items
 abbrev pub packets_of : List Item → List (List ℕ)
@@ -32,7 +33,7 @@ pub record ShowsPort (waiting : List (List (List ℕ))) (received : Buffered) (n
 -- Two linked ports show what the network has there, and these are its links and registers.
 pub record ShowsEnds (waiting : List (List (List ℕ))) (received : Buffered) (p : PortRef)
     (waiting_there : List (List (List ℕ))) (received_there : Buffered) (q : PortRef)
-    (links : List (PortRef × PortRef)) (registers : List Registers) (net : Network) : Type 0 where
+    (links : List (PortRef × PortRef)) (registers : List Device) (net : Network) : Type 0 where
   pub here : ShowsPort waiting received net p
   pub there : ShowsPort waiting_there received_there net q
   pub linked : net.links ≡ links

@@ -2,7 +2,7 @@
 ghost use Rattle.std.specs.Prelude.{◌≡◌, ◌<◌, true, List, length, is_some, IfSome};
 ghost use Rattle.rio_chars.specs.Written.{Writes};
 ghost use Rattle.fabric_script.specs.declared.ports.PortRef.{PortRef as Port};
-ghost use Rattle.fabric_model.specs.Network.{Registers};
+ghost use Rattle.maint_registers.specs.Devices.{Device};
 ghost use Rattle.fabric_model.specs.Text.{trace_text};
 ghost use Rattle.fabric_model.specs.Seen.{Seen};
 ghost use Rattle.fabric_model.specs.Blocks.Settle.{passes, PassesAll};
@@ -33,7 +33,7 @@ pub(crate) fn pass_all<K: Sink>(
 )
     requires from { way.now.from.node < length way.now.names.now }
     requires to { way.now.to.node < length way.now.names.now }
-    ensures { (links : List (Port × Port)) (registers : List Registers) (s : Seen)
+    ensures { (links : List (Port × Port)) (registers : List Device) (s : Seen)
         → AreEnds way.now.from way.now.to links
         → ShowsEnds from.old.waiting from.old.received way.now.from to.old.waiting to.old.received
         way.now.to links registers s.network

@@ -25,7 +25,7 @@ use Rattle.link_machine.specs.Calls.{sent_notes, has_chars, is_silent, delivery_
 use Rattle.link_machine.specs.Queues as queues
 use Rattle.fabric_script.specs.declared.ports.PortRef.{PortRef}
 use Rattle.fabric_model.specs.Network.{same_port}
-use Rattle.fabric_model.specs.Steps.{Linked, AtNode, after_all}
+use Rattle.fabric_model.specs.Steps.{Linked, AtNode, ByDevice, after_all}
 use Rattle.fabric_model.proofs.Peers.{port_is, same_port-refl}
 use Rattle.fabric_trace.specs.Lines.{Sent, Got, Fired, TraceLine, Begun, Stepped, Signed, Lacked, Ended, Undetected}
 use Rattle.fabric_trace.specs.Views.{Half, half_of}
@@ -166,6 +166,8 @@ still_freed (Begun line ∷ lines) before s c still h =
 still_freed (Stepped (Linked step) ∷ lines) before s c still h = absurd still
 still_freed (Stepped (AtNode step) ∷ lines) before s c still h =
     still_more _ lines before _ c (still_freed lines (before ++ Stepped (AtNode step) ∷ []) _ c still (one_freed before s _ (Stepped (AtNode step)) c (λ k. refl) refl (λ k j. tt) (record { place = refl; oldest = refl; unfaithful = refl }) h))
+still_freed (Stepped (ByDevice step) ∷ lines) before s c still h =
+    still_more _ lines before _ c (still_freed lines (before ++ Stepped (ByDevice step) ∷ []) _ c still (one_freed before s _ (Stepped (ByDevice step)) c (λ k. refl) refl (λ k j. tt) (record { place = refl; oldest = refl; unfaithful = refl }) h))
 still_freed (Signed (Sent p chars) ∷ lines) before s c still h =
     still_more _ lines before _ c (still_freed lines (before ++ Signed (Sent p chars) ∷ []) _ c still (one_freed before s _ (Signed (Sent p chars)) c (λ k. refl) refl (λ k j. tt) (sent_stays s p chars c) h))
 still_freed (Signed (Got q chars) ∷ lines) before s c still h = absurd still

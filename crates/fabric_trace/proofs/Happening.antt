@@ -1,10 +1,10 @@
 -- What a script that passes gives: its lines of set-up may stand behind each other, and its events may happen.
-use Rattle.std.proofs.Common.{◌≡◌, ℕ, ◌%◌, ◌<◌, ◌≤◌, zero, suc, nat_lt, nat_le, ◌==◌, Bool, true, false, not, ◌&&◌, ◌||◌, List, [], ◌∷◌, ◌++◌, Option, Some, None, map, get_or, length, length-append, All, is_some, refl, sym, ap, ◌∙◌, subst, arith}
+use Rattle.std.proofs.Common.{◌≡◌, ℕ, ◌%◌, ◌<◌, ◌≤◌, zero, suc, nat_lt, nat_le, ◌==◌, Bool, true, false, not, ◌&&◌, ◌||◌, List, [], ◌∷◌, ◌++◌, Option, Some, None, map, get_or, length, length-append, All, is_some, option_map, refl, sym, ap, ◌∙◌, subst, arith}
 use Rattle.std.proofs.lemmas.Bool.{and_parts, or_parts, eqb-true, true≢false, false≢true}
 use Rattle.std.proofs.lemmas.Bool.Decides.{nat_tests}
 use Rattle.std.proofs.lemmas.List.Elements.{All-nil, All-cons, All-head, All-tail}
 use Rattle.std.proofs.lemmas.List.{map-append}
-use Rattle.std.specs.List.{slice_get}
+use Rattle.std.specs.List.{AllByRecursion, slice_get}
 use Rattle.rio_packets.specs.Making.{most_rest}
 use Rattle.fabric_script.specs.declared.ports.PortRef.{PortRef}
 use Rattle.fabric_script.specs.declared.lines.Line.{Line}
@@ -17,7 +17,9 @@ use Rattle.fabric_script.specs.Refusals.{is_bad_length}
 use Rattle.fabric_script.specs.Reading.{MayBe, IsFree}
 use Rattle.fabric_script.specs.Scripts.{PassesFrom, Passes}
 use Rattle.fabric_script.proofs.PrintLaws.{named_all}
+use Rattle.maint_registers.specs.Devices.{Device, is_switch, new_endpoint}
 use Rattle.fabric_model.specs.Network.{Network, IsEndpoint, peer_in}
+use Rattle.fabric_model.proofs.Boards.{all-append}
 use Rattle.fabric_trace.specs.Runs.{bare, set_up, set_up_all}
 use Rattle.fabric_trace.specs.SetUps.{MaySetUp, MaySetUpAll}
 use Rattle.fabric_trace.specs.Events.{MakesNoSwitch, IsDataLength, IsInRange, HasLink, IsThere, MayHappen, IsPort, ArePorts, counts_after, counts_after_all, port_counts}
@@ -143,23 +145,28 @@ in_range known new _ may free = tt
 record Stage (known : Known) (net : Network) : Type 0 where
   linked : net.links ≡ known.links
   count : length net.registers ≡ length known.names
+  endpoints : AllByRecursion (λ device. is_switch device ≡ false) net.registers
 
 stage-after : (known : Known) (new : List ℕ) (net : Network) (line : Line) → MakesNoSwitch line → Stage known net → Stage (known_after known new line) (set_up net line)
 stage-after known new net (Endpoint name id) plain s =
     let same = s.count in
-    record { linked = s.linked; count = omega (arith, length-append net.registers (record { base = id } ∷ []), length-append known.names (new ∷ [])) }
+    record {
+      linked = s.linked;
+      count = omega (arith, length-append net.registers (new_endpoint id false ∷ []), length-append known.names (new ∷ []));
+      endpoints = all-append (λ device. is_switch device ≡ false) net.registers (new_endpoint id false ∷ []) s.endpoints (refl, tt);
+    }
 stage-after known new net (Switch name ports) plain s = absurd plain
-stage-after known new net (Link a b) plain s = record { linked = ap (λ links. links ++ (a, b) ∷ []) s.linked; count = s.count }
-stage-after known new net (Buffers port n) plain s = record { linked = s.linked; count = s.count }
-stage-after known new net _ plain s = record { linked = s.linked; count = s.count }
+stage-after known new net (Link a b) plain s = record { linked = ap (λ links. links ++ (a, b) ∷ []) s.linked; count = s.count; endpoints = s.endpoints }
+stage-after known new net (Buffers port n) plain s = record { linked = s.linked; count = s.count; endpoints = s.endpoints }
+stage-after known new net _ plain s = record { linked = s.linked; count = s.count; endpoints = s.endpoints }
 
 endpoint_at : (known : Known) (net : Network) (n : ℕ) → Stage known net → n < length known.names → IsEndpoint net n
-endpoint_at known net n s within = let same = s.count in some_within net.registers n (omega arith)
+endpoint_at known net n s within = let same = s.count in kind_within net.registers n s.endpoints (omega arith)
   where
-    some_within : {X : Type 0} (xs : List X) (n : ℕ) → n < length xs → is_some (slice_get xs n) ≡ true
-    some_within [] n within = absurd (omega arith)
-    some_within (x ∷ xs) zero within = refl
-    some_within (x ∷ xs) (suc n) within = some_within xs n (omega arith)
+    kind_within : (devices : List Device) (n : ℕ) → AllByRecursion (λ device. is_switch device ≡ false) devices → n < length devices → option_map is_switch (slice_get devices n) ≡ Some false
+    kind_within [] n all within = absurd (omega arith)
+    kind_within (device ∷ devices) zero all within = ap Some all.0
+    kind_within (device ∷ devices) (suc n) all within = kind_within devices n all.1 (omega arith)
 
 link_at : (known : Known) (net : Network) (p : PortRef) → Stage known net → not (is_linked known.links p) ≡ false → HasLink net p
 link_at known net p s e = subst (λ links. is_some (peer_in links p) ≡ true) (sym s.linked) (a_peer known.links p (is_true (is_linked known.links p) e))
@@ -199,7 +206,7 @@ happen_from known names net (line ∷ lines) s none passes =
 
 pub may_happen : (names : List (List ℕ)) (lines : List Numbered) → Passes names lines → All (λ line. MakesNoSwitch line.line) lines → All (λ line. is_event line.line ≡ true → MayHappen names (set_up_all bare lines) line.line) lines
 may_happen names lines passes none =
-    let all = happen_from nothing names bare lines (record { linked = refl; count = refl }) none passes in
+    let all = happen_from nothing names bare lines (record { linked = refl; count = refl; endpoints = tt }) none passes in
     let named = named_all nothing names lines passes in
     λ k d within event. record { named = named k d within; range = (all k d within event).0; there = (all k d within event).1 }
 

@@ -21,7 +21,7 @@ use Rattle.link_machine.specs.Calls.{sent_notes, has_chars, is_silent, delivery_
 use Rattle.link_machine.specs.Queues as link
 use Rattle.fabric_script.specs.declared.ports.PortRef.{PortRef}
 use Rattle.fabric_model.specs.Network.{same_port}
-use Rattle.fabric_model.specs.Steps.{Hold, Free, Linked, AtNode, after_all}
+use Rattle.fabric_model.specs.Steps.{Hold, Free, Linked, AtNode, ByDevice, after_all}
 use Rattle.fabric_model.proofs.Peers.{port_is, same_port-refl}
 use Rattle.fabric_trace.specs.Lines.{Sent, Got, Fired, TraceLine, Begun, Stepped, Signed, Lacked, Ended, Undetected}
 use Rattle.fabric_trace.specs.Views.{Half}
@@ -110,6 +110,8 @@ still_read (Stepped (Linked (Free q packet)) ∷ lines) before s c still h =
     still_more _ lines before _ c (still_read lines (before ++ Stepped (Linked (Free q packet)) ∷ []) _ c still (one_read before s _ (Stepped (Linked (Free q packet))) c refl refl (record { place = refl; input = refl; unfaithful = refl }) h))
 still_read (Stepped (AtNode step) ∷ lines) before s c still h =
     still_more _ lines before _ c (still_read lines (before ++ Stepped (AtNode step) ∷ []) _ c still (one_read before s _ (Stepped (AtNode step)) c refl refl (record { place = refl; input = refl; unfaithful = refl }) h))
+still_read (Stepped (ByDevice step) ∷ lines) before s c still h =
+    still_more _ lines before _ c (still_read lines (before ++ Stepped (ByDevice step) ∷ []) _ c still (one_read before s _ (Stepped (ByDevice step)) c refl refl (record { place = refl; input = refl; unfaithful = refl }) h))
 still_read (Signed (Sent p chars) ∷ lines) before s c still h =
     still_more _ lines before _ c (still_read lines (before ++ Signed (Sent p chars) ∷ []) _ c still
     (one_read before s _ (Signed (Sent p chars)) c refl refl (record { place = half_place s.halves p _ c refl; input = half_input s.halves p _ c refl; unfaithful = refl }) h))

@@ -19,7 +19,8 @@ use Rattle.fabric_model.specs.Laws.Lawful.{Lawful}
 use Rattle.fabric_model.proofs.Freeing.{freed_after_held}
 use Rattle.fabric_model.proofs.Holding.{holding_exactly}
 use Rattle.fabric_model.proofs.Leaving.{once, unchanged}
-use Rattle.fabric_model.proofs.Order.{in_order}
+use Rattle.fabric_model.proofs.Tables.{by_tables}
+use Rattle.fabric_model.proofs.Flows.{in_order}
 use Rattle.fabric_model.proofs.Peers.{ArePeers, set_up_proper}
 use Rattle.fabric_trace.specs.Lines.{TraceLine, steps_of}
 use Rattle.fabric_trace.specs.Views.{packets_in}
@@ -128,6 +129,7 @@ lawful_steps net steps end is own = record {
   once = once net steps end is.empty own;
   unchanged = unchanged net steps end is.empty own;
   freed_after_held = freed_after_held net steps end is.empty own;
+  by_tables = by_tables net steps end own;
   in_order = in_order net steps end is.empty is.proper own;
 }
 

@@ -9,7 +9,7 @@ use Rattle.link_model.specs.Said.{said}
 use Rattle.link_wires.specs.Kept.{IsSubsequence}
 use Rattle.fabric_script.specs.declared.ports.PortRef.{PortRef}
 use Rattle.fabric_model.specs.Network.{same_port}
-use Rattle.fabric_model.specs.Steps.{Hold, Free, Step, Linked, AtNode}
+use Rattle.fabric_model.specs.Steps.{Hold, Free, Step, Linked, AtNode, ByDevice}
 use Rattle.fabric_trace.specs.Lines.{Got, TraceLine, Stepped, Signed}
 
 -- an acceptance of the packet of this number, whose ackID is the number modulo 32, or a link-response
@@ -46,6 +46,7 @@ abbrev pub frees_by_step : PortRef → Step → ℕ
 frees_by_step p (Linked (Hold q packet)) = 0
 frees_by_step p (Linked (Free q packet)) = if same_port p q then 1 else 0
 frees_by_step p (AtNode step) = 0
+frees_by_step p (ByDevice step) = 0
 
 abbrev pub frees_by : PortRef → TraceLine → ℕ
 frees_by p (Stepped step) = frees_by_step p step

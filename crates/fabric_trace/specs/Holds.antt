@@ -6,7 +6,7 @@ use Rattle.link_model.specs.declared.event.Event.TheVariants.{Pkt}
 use Rattle.link_wires.specs.Kept.{IsSubsequence}
 use Rattle.fabric_script.specs.declared.ports.PortRef.{PortRef}
 use Rattle.fabric_model.specs.Network.{same_port}
-use Rattle.fabric_model.specs.Steps.{Hold, Free, Step, Linked, AtNode}
+use Rattle.fabric_model.specs.Steps.{Hold, Free, Step, Linked, AtNode, ByDevice}
 use Rattle.fabric_trace.specs.Lines.{Sign, Sent, Got, Fired, TraceLine, Stepped, Signed}
 use Rattle.fabric_trace.specs.Fold.{says}
 
@@ -29,6 +29,7 @@ abbrev pub held_by_step : PortRef → Step → List (List ℕ)
 held_by_step q (Linked (Hold p packet)) = if same_port q p then packet ∷ [] else []
 held_by_step q (Linked (Free p packet)) = []
 held_by_step q (AtNode step) = []
+held_by_step q (ByDevice step) = []
 
 abbrev pub held_by : PortRef → TraceLine → List (List ℕ)
 held_by q (Stepped step) = held_by_step q step

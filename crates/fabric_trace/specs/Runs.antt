@@ -1,5 +1,6 @@
 -- What a trace of a script is.
 use Rattle.std.specs.Prelude.{◌≡◌, ℕ, Bool, true, false, List, [], ◌∷◌, ◌++◌, Option, Some, None, MatchBool, if◌then◌else◌}
+use Rattle.maint_registers.specs.Devices.{new_endpoint}
 use Rattle.fabric_script.specs.declared.ports.PortRef.{PortRef}
 use Rattle.fabric_script.specs.declared.lines.Line.{Line}
 use Rattle.fabric_script.specs.declared.lines.Line.TheVariants.{Endpoint, Link, Buffers}
@@ -28,10 +29,11 @@ bare = record {
 abbrev pub with_buffers : (PortRef → ℕ) → PortRef → ℕ → PortRef → ℕ
 with_buffers buffers p n q = if same_port q p then n else buffers q
 
--- the network with one more line of set-up
+-- The network with one more line of set-up. Nothing reads yet whether the registers say that a port has a link, and
+-- they do not.
 abbrev pub set_up : Network → Line → Network
 set_up net (Endpoint name id) =
-    record net { registers = net.registers ++ record { base = id } ∷ [] }
+    record net { registers = net.registers ++ new_endpoint id false ∷ [] }
 set_up net (Link a b) = record net { links = net.links ++ (a, b) ∷ [] }
 set_up net (Buffers port n) = record net { buffers = with_buffers net.buffers port n }
 set_up net _ = net

@@ -10,7 +10,7 @@ use Rattle.link_model.specs.declared.event.Event.TheVariants.{Ctl, Pkt, Bad}
 use Rattle.fabric_script.specs.Names.{name_of}
 use Rattle.fabric_script.specs.Texts.{port_text}
 use Rattle.fabric_script.specs.Lines.{line_text}
-use Rattle.fabric_model.specs.Steps.{Hold, Free, Take, Leave, Step, Linked, AtNode}
+use Rattle.fabric_model.specs.Steps.{Hold, Free, Take, Leave, Move, Drop, Answer, Step, Linked, AtNode, ByDevice}
 use Rattle.fabric_trace.specs.Lines.{Lack, Full, Empty, Short, Early, Sign, Sent, Got, Fired, TraceLine, Begun, Stepped, Signed, Lacked, Ended, Undetected}
 
 abbrev pub step_text : List (List ℕ) → Step → List ℕ
@@ -22,6 +22,14 @@ step_text names (AtNode (Take n packet)) =
     codes "take " ++ name_of names n ++ codes " " ++ hex_of packet
 step_text names (AtNode (Leave n packet)) =
     codes "leave " ++ name_of names n ++ codes " " ++ hex_of packet
+step_text names (ByDevice (Move p q packet)) =
+    codes "move " ++ port_text names p ++ codes " " ++ port_text names q ++ codes " "
+    ++ hex_of packet
+step_text names (ByDevice (Drop p packet)) =
+    codes "drop " ++ port_text names p ++ codes " " ++ hex_of packet
+step_text names (ByDevice (Answer p packet response)) =
+    codes "answer " ++ port_text names p ++ codes " " ++ hex_of packet ++ codes " "
+    ++ hex_of response
 
 abbrev pub sign_text : List (List ℕ) → Sign → List ℕ
 sign_text names (Sent p chars) = codes "sent " ++ port_text names p ++ spaced_chars chars

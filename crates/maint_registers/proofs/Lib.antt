@@ -2,3 +2,4 @@ pub mod StatusLaws
 pub mod WriteLaws
 pub mod AccessLaws
 pub mod RouteLaws
+pub mod SameLaws

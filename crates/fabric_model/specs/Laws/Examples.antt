@@ -1,8 +1,9 @@
 -- Small lists of steps: a worked run over one link, and for laws that can fail a list of which each
 -- does not hold.
-use Rattle.std.specs.Prelude.{ℕ, List, [], ◌∷◌}
+use Rattle.std.specs.Prelude.{ℕ, true, List, [], ◌∷◌}
 use Rattle.fabric_script.specs.declared.lines.Line.TheVariants.{Endpoint, Link, Send, Settle, Collect}
 use Rattle.fabric_script.specs.declared.lines.Numbered.{Numbered}
+use Rattle.maint_registers.specs.Devices.{new_endpoint}
 use Rattle.fabric_model.specs.Network.{Item, Network, port_of}
 use Rattle.fabric_model.specs.Steps.{Hold, Free, Take, Leave, Step, Linked, AtNode, after_all}
 use Rattle.fabric_model.specs.Lines.{TraceLine, Begun, Stepped, Ended}
@@ -79,7 +80,7 @@ not_passed = AtNode (Take 0 packet) ∷ []
 -- a port in two links, so not proper, and the second packet overtakes the first by the other link
 abbrev pub fork : Network
 fork = record bare {
-  registers = record { base = 1 } ∷ record { base = 2 } ∷ record { base = 3 } ∷ [];
+  registers = new_endpoint 1 true ∷ new_endpoint 2 true ∷ new_endpoint 3 true ∷ [];
   links = (port_of 0, port_of 1) ∷ (port_of 0, port_of 2) ∷ [];
 }
 

@@ -2,7 +2,7 @@
 use Rattle.std.specs.Prelude.{◌≡◌, ℕ, Bool, false, if◌then◌else◌, List, [], ◌∷◌, ◌++◌, Option, Some, None}
 use Rattle.fabric_script.specs.declared.ports.PortRef.{PortRef}
 use Rattle.fabric_model.specs.Network.{Network, same_port, peer_in}
-use Rattle.fabric_model.specs.Steps.{Hold, Free, Step, Linked, AtNode}
+use Rattle.fabric_model.specs.Steps.{Hold, Free, Step, Linked, AtNode, ByDevice}
 use Rattle.fabric_model.specs.Laws.History.{gathered}
 
 -- whether it is this port
@@ -16,12 +16,14 @@ held_from p net (Linked (Hold q packet)) =
     if is_port p (peer_in net.links q) then packet ∷ [] else []
 held_from p net (Linked (Free q packet)) = []
 held_from p net (AtNode step) = []
+held_from p net (ByDevice step) = []
 
 -- the packet that a port frees by a step
 abbrev pub freed_at : PortRef → Network → Step → List (List ℕ)
 freed_at p net (Linked (Hold q packet)) = []
 freed_at p net (Linked (Free q packet)) = if same_port p q then packet ∷ [] else []
 freed_at p net (AtNode step) = []
+freed_at p net (ByDevice step) = []
 
 -- the one list is a front of the other
 abbrev pub IsFront : {A : Type 0} → List A → List A → Type 0

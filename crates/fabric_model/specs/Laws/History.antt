@@ -1,9 +1,9 @@
--- What a list of steps says of the items: which were taken, and which have left.
-use Rattle.std.specs.Prelude.{◌≡◌, ℕ, List, [], ◌∷◌, ◌++◌, slice_get, Some}
+-- What a list of steps says of the items: which were taken, and which have ended.
+use Rattle.std.specs.Prelude.{◌≡◌, ℕ, Bool, true, false, if◌then◌else◌, List, [], ◌∷◌, ◌++◌, slice_get, Some}
 use Rattle.rio_packets.specs.Fields.{prio_of}
 use Rattle.fabric_script.specs.declared.ports.PortRef.{PortRef}
 use Rattle.fabric_model.specs.Network.{Item, Network, port_of}
-use Rattle.fabric_model.specs.Steps.{Take, Leave, Step, Linked, AtNode, only_first, after}
+use Rattle.fabric_model.specs.Steps.{Take, Leave, Move, Drop, Answer, Step, Linked, AtNode, ByDevice, only_first, item_of, after}
 
 -- no packet was taken yet
 pub record IsEmptyNetwork (net : Network) : Type 0 where
@@ -20,23 +20,47 @@ gathered each net (step ∷ steps) = each net step ++ gathered each (after net s
 -- the item that a step makes
 abbrev pub taken_by : Network → Step → List Item
 taken_by net (Linked step) = []
-taken_by net (AtNode (Take n packet)) =
-    record { number = net.given; port = port_of n; taken = packet; now = packet } ∷ []
+taken_by net (AtNode (Take n packet)) = item_of net (port_of n) packet ∷ []
 taken_by net (AtNode (Leave n packet)) = []
+taken_by net (ByDevice (Move p q packet)) = []
+taken_by net (ByDevice (Drop p packet)) = []
+taken_by net (ByDevice (Answer p packet response)) = item_of net p response ∷ []
 
--- the item that leaves the fabric by a step
-abbrev pub left_by : Network → Step → List Item
-left_by net (Linked step) = []
-left_by net (AtNode (Take n packet)) = []
-left_by net (AtNode (Leave n packet)) = only_first (net.received (port_of n) (prio_of packet))
+-- how an item ends: it leaves the fabric, it is dropped, or it is answered
+pub data End : Type 0 where
+  Left : End
+  Dropped : End
+  Answered : End
+
+abbrev pub same_end : End → End → Bool
+same_end Left Left = true
+same_end Dropped Dropped = true
+same_end Answered Answered = true
+same_end _ _ = false
+
+-- the items that end in one way by a step
+abbrev pub ended_by : End → Network → Step → List Item
+ended_by end net (Linked step) = []
+ended_by end net (AtNode (Take n packet)) = []
+ended_by end net (AtNode (Leave n packet)) =
+    if same_end end Left then only_first (net.received (port_of n) (prio_of packet)) else []
+ended_by end net (ByDevice (Move p q packet)) = []
+ended_by end net (ByDevice (Drop p packet)) =
+    if same_end end Dropped then only_first (net.received p (prio_of packet)) else []
+ended_by end net (ByDevice (Answer p packet response)) =
+    if same_end end Answered then only_first (net.received p (prio_of packet)) else []
 
 -- the items as they were taken, in the order of their numbers
 abbrev pub taken : Network → List Step → List Item
 taken net steps = gathered taken_by net steps
 
--- the items that have left, in the order in which they left
+-- the items that have ended in one way, in the order in which they ended
+abbrev pub ended : Network → List Step → End → List Item
+ended net steps end = gathered (ended_by end) net steps
+
+-- those that have left
 abbrev pub gone : Network → List Step → List Item
-gone net steps = gathered left_by net steps
+gone net steps = ended net steps Left
 
 -- the item of this number was taken at this port as this packet
 abbrev pub WasTaken : Network → List Step → Item → Type 0

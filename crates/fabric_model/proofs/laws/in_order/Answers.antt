@@ -1,4 +1,4 @@
-use Rattle.fabric_model.proofs.Order.{in_order}
+use Rattle.fabric_model.proofs.Flows.{in_order}
 use Rattle.fabric_model.proofs.laws.in_order.Goals as goal
 
 pub returns : goal.returns

@@ -1,0 +1,126 @@
+-- The lists of steps through switches.
+use Rattle.std.proofs.Common.{true, ◌≡◌, [], ◌∷◌, Some, take, drop, refl, arith, map}
+use Rattle.rio_packets.specs.LinkForm.{Passes}
+use Rattle.rio_packets.specs.Fields.{dest_of}
+use Rattle.rio_packets.specs.Carries.{passes}
+use Rattle.rio_packets.specs.Register.{fed, shifted, shifted_times}
+use Rattle.rio_packets.proofs.CarriesLaws.{decides_passes}
+use Rattle.maint_packets.specs.declared.next_hop.Next.TheVariants.{Nowhere, Port}
+use Rattle.fabric_model.specs.Network.{Item, port_of}
+use Rattle.fabric_model.specs.Steps.{Take, Leave, AtNode, after, after_all, LegalFrom}
+use Rattle.fabric_model.specs.Laws.Proper.{AreProper}
+use Rattle.fabric_model.specs.Laws.Flows.{SameFlow, RoutesStand, EarlierFirst, InOrder}
+use Rattle.fabric_model.specs.Laws.Tables.{ByTables}
+use Rattle.fabric_model.specs.Laws.Examples.{packet, other, first}
+use Rattle.fabric_model.specs.Laws.Switches.{port_at, around, for_5, for_9, later_for_9, through, circle, parting, SamePriority, moved_elsewhere, dropped_on_its_way}
+use Rattle.fabric_model.proofs.Worked.{packet_passes}
+
+test_for_5 : passes for_5 ≡ true
+unfolding fed shifted_times shifted
+test_for_5 = refl
+
+passes_5 : Passes for_5
+passes_5 = (decides_passes for_5).0 test_for_5
+
+test_for_9 : passes for_9 ≡ true
+unfolding fed shifted_times shifted
+test_for_9 = refl
+
+passes_9 : Passes for_9
+passes_9 = (decides_passes for_9).0 test_for_9
+
+test_later_for_9 : passes later_for_9 ≡ true
+unfolding fed shifted_times shifted
+test_later_for_9 = refl
+
+passes_later : Passes later_for_9
+passes_later = (decides_passes later_for_9).0 test_later_for_9
+
+pub around_proper : AreProper around.links
+around_proper = (refl, refl, refl, (refl, refl, refl, (refl, refl, refl, (refl, refl, refl, tt))))
+
+pub through_legal : LegalFrom around through (after_all around through)
+through_legal = (
+  (refl, packet_passes, refl),
+  (
+    (port_of 0, refl, refl, refl),
+    (
+      (refl, refl, refl, refl),
+      ((port_at 2 1, refl, refl, refl), ((refl, refl, refl, refl), ((port_at 3 0, refl, refl, refl), ((refl, refl, refl), refl)))),
+    ),
+  ),
+)
+
+pub circle_legal : LegalFrom around circle (after_all around circle)
+circle_legal = (
+  (refl, passes_9, refl),
+  (
+    (port_of 0, refl, refl, refl),
+    (
+      (refl, refl, refl, refl),
+      (
+        (port_at 2 1, refl, refl, refl),
+        (
+          (refl, refl, refl, refl),
+          (
+            (refl, passes_later, refl),
+            (
+              (port_of 0, refl, refl, refl),
+              ((refl, refl, refl, refl), ((port_at 3 2, refl, refl, refl), ((refl, refl, refl, refl), refl))),
+            ),
+          ),
+        ),
+      ),
+    ),
+  ),
+)
+
+pub circle_stands : map (λ (item : Item). item.number) ((after_all around circle).waiting (port_at 2 1) 0) ≡ 1 ∷ 0 ∷ []
+circle_stands = refl
+
+pub parting_legal : LegalFrom around parting (after_all around parting)
+parting_legal = (
+  (refl, packet_passes, refl),
+  (
+    (refl, passes_5, refl),
+    (
+      (port_of 0, refl, refl, refl),
+      (
+        (port_of 0, refl, refl, refl),
+        (
+          (refl, refl, refl, refl),
+          (
+            (refl, refl, refl, refl),
+            (
+              (port_at 2 2, refl, refl, refl),
+              ((refl, refl, refl, refl), ((port_at 3 0, refl, refl, refl), ((refl, refl, refl), refl))),
+            ),
+          ),
+        ),
+      ),
+    ),
+  ),
+)
+
+pub parting_breaks : EarlierFirst SamePriority around parting → ⊥
+parting_breaks law =
+    let stand : RoutesStand (dest_of packet) (after around (AtNode (Take 0 packet))) (take 8 (drop 1 parting)) = (λ n. refl, (λ n. refl, (λ n. refl, (λ n. refl, (λ n. refl, (λ n. refl, (λ n. refl, (λ n. refl, tt)))))))) in
+    let later : Item = record { number = 1; port = port_of 0; taken = for_5; now = for_5 } in
+    omega (arith, law [] (AtNode (Take 0 packet)) (take 8 (drop 1 parting)) (AtNode (Leave 1 for_5)) [] first later refl refl refl stand (record { port = refl; priority = refl }) (omega arith))
+
+pub elsewhere_overtakes : InOrder around moved_elsewhere → ⊥
+elsewhere_overtakes law =
+    let stand : RoutesStand (dest_of packet) (after around (AtNode (Take 0 packet))) (take 8 (drop 1 moved_elsewhere)) = (λ n. refl, (λ n. refl, (λ n. refl, (λ n. refl, (λ n. refl, (λ n. refl, (λ n. refl, (λ n. refl, tt)))))))) in
+    let later : Item = record { number = 1; port = port_of 0; taken = other; now = other } in
+    let same : SameFlow first later = record { source = refl; course = record { port = refl; dest = refl; priority = refl; maintenance = refl; hop = refl } } in
+    omega (arith, law.earlier_first [] (AtNode (Take 0 packet)) (take 8 (drop 1 moved_elsewhere)) (AtNode (Leave 1 other)) [] first later refl refl refl stand same (omega arith))
+
+pub elsewhere_breaks : ByTables around moved_elsewhere → ⊥
+elsewhere_breaks law =
+    let named : Some (Port 1) ≡ Some (Port 2) = (law.moved (take 5 moved_elsewhere) (drop 6 moved_elsewhere) (port_at 2 0) (port_at 2 2) other refl).1 in
+    absurd (cc)
+
+pub dropped_breaks : ByTables around dropped_on_its_way → ⊥
+dropped_breaks law =
+    let named : Some (Port 1) ≡ Some Nowhere = law.dropped (take 2 dropped_on_its_way) [] (port_at 2 0) packet refl in
+    absurd (cc)

@@ -1,0 +1,148 @@
+-- What a packet is as it moves on, and where a switch sends it by what its flow knows of it.
+use Rattle.std.proofs.Common.{◌≡◌, ℕ, zero, suc, ◌-◌, ◌/◌, ◌%◌, ◌≤◌, ◌<◌, ◌==◌, ◌&&◌, ◌||◌, Bool, true, false, not, nat_lt, List, length, get_or, Option, Some, None, option_map, slice_get, refl, sym, ap, subst, arith, cond}
+use Rattle.std.specs.Bool.{⊤}
+use Rattle.std.specs.Option.{option_and_then}
+use Rattle.std.proofs.lemmas.Bool.{false≢true, ne_eqb}
+use Rattle.rio_packets.specs.Fields.{prio_of, tt_of, ftype_of, ttype_of, dest_of, hop_of, is_maintenance, is_maintenance_length, is_request, Lowered}
+use Rattle.rio_packets.specs.LinkForm.{Passes}
+use Rattle.rio_packets.specs.Making.{with_crc}
+use Rattle.rio_packets.specs.Hops.{closed, lowered}
+use Rattle.rio_packets.proofs.StepLaws.{with_crc-is}
+use Rattle.rio_packets.proofs.LowerLaws.{maintenance_size, Passes-lowered, Lowered-renewed}
+use Rattle.maint_registers.specs.Devices.{Device, is_switch}
+use Rattle.maint_registers.specs.Routes.{next_port}
+use Rattle.maint_packets.specs.declared.next_hop.Next.{Next}
+use Rattle.maint_packets.specs.declared.next_hop.Next.TheVariants.{Nowhere, RegisterUnit, Port}
+use Rattle.maint_packets.specs.NextHops.{is_foreign, is_at_end, to_port, next_of, moved}
+use Rattle.fabric_model.specs.Network.{Network}
+use Rattle.fabric_model.specs.Serving.{next_at}
+use Rattle.fabric_model.specs.Laws.Leaving.{IsLoweredFrom, OnceMore}
+
+-- what a flow knows of a packet beside its destination: whether it is of format type 8, and the hop count of a maintenance
+-- packet
+pub record Key : Type 0 where
+  pub eight : Bool
+  pub hop : Option ℕ
+
+abbrev pub key_of : List ℕ → Key
+key_of packet = record { eight = ftype_of packet == 8; hop = hop_of packet }
+
+-- as it moves on
+abbrev pub moved_key : Key → Key
+moved_key key = record { eight = key.eight; hop = option_map (λ h. h - 1) key.hop }
+
+closed_is : (message : List ℕ) → closed message ≡ with_crc message
+unfolding closed
+closed_is message = sym (with_crc-is message)
+
+-- what stays of a packet that moves on
+pub record MovesOn (old new : List ℕ) : Type 0 where
+  pub passes : Passes new
+  pub lowered : (taken : List ℕ) → IsLoweredFrom taken old → IsLoweredFrom taken new
+  pub prio : prio_of new ≡ prio_of old
+  pub dest : dest_of new ≡ dest_of old
+  pub key : key_of new ≡ moved_key (key_of old)
+
+module _ (old : List ℕ) (passes : Passes old) (m : is_maintenance old ≡ true) (hops : 1 ≤ get_or old 6 0) where
+  is_lowered : Lowered old (lowered old)
+  is_lowered = Lowered-renewed old passes m hops (lowered old) (closed_is _)
+
+  byte : (k : ℕ) → k < 6 → get_or (lowered old) k 0 ≡ get_or old k 0
+  byte k below = let size = (maintenance_size old m).least in is_lowered.others k (omega arith) (omega arith)
+
+  hop_is : hop_of (lowered old) ≡ option_map (λ h. h - 1) (hop_of old)
+  hop_is = let six = is_lowered.hop in rw (m, is_lowered.is) (ap Some (omega arith))
+
+  moves_lowered : MovesOn old (lowered old)
+  moves_lowered = record {
+    passes = Passes-lowered old passes m hops (lowered old) (closed_is _);
+    lowered = λ taken from. OnceMore from is_lowered;
+    prio = ap (λ b. b / 64) (byte 1 (omega arith));
+    dest = rw (byte 1 (omega arith), byte 2 (omega arith)) refl;
+    key = λ i. record { eight = byte 1 (omega arith) i % 16 == 8; hop = hop_is i };
+  }
+
+moves_as_is : (old : List ℕ) → Passes old → is_maintenance old ≡ false → MovesOn old old
+moves_as_is old passes other = record {
+  passes = passes;
+  lowered = λ taken from. from;
+  prio = refl;
+  dest = refl;
+  key = rw other refl;
+}
+
+-- what is not at its end moves on
+pub moves_on : (old : List ℕ) → Passes old → is_at_end old ≡ false → MovesOn old (moved old)
+moves_on old passes goes = go (is_maintenance old) refl
+  where
+    some : (n : ℕ) → (n == 0) ≡ false → 1 ≤ n
+    some zero none = absurd (false≢true (sym none))
+    some (suc n) none = omega arith
+
+    go : (t : Bool) → is_maintenance old ≡ t → MovesOn old (cond t (lowered old) old)
+    go true m = moves_lowered old passes m (some (get_or old 6 0) (subst (λ t. (t && (get_or old 6 0 == 0)) ≡ false) m goes))
+    go false other = moves_as_is old passes other
+
+-- a packet for which a switch names a port is not at its end
+pub named_goes : (device : Device) (packet : List ℕ) (n : ℕ) → next_of device packet ≡ Port n → is_at_end packet ≡ false
+named_goes device packet n = go (is_foreign packet) (is_at_end packet) (is_request packet) (to_port (next_port device (get_or packet 2 0)))
+  where
+    go : (foreign ends asks : Bool) (next : Next) → cond foreign Nowhere (cond ends (cond asks RegisterUnit Nowhere) next) ≡ Port n → ends ≡ false
+    go true ends asks next is = absurd (cc)
+    go false true true next is = absurd (cc)
+    go false true false next is = absurd (cc)
+    go false false asks next is = refl
+
+-- the port to which a switch with this route sends what has this key
+abbrev pub by_key : Bool → Option ℕ → Option ℕ → Option ℕ
+by_key true None route = None
+by_key false None route = route
+by_key eight (Some zero) route = None
+by_key eight (Some (suc h)) route = route
+
+-- a port, or none, and where a packet goes
+abbrev pub Agrees : Option ℕ → Next → Type 0
+Agrees (Some n) (Port m) = n ≡ m
+Agrees (Some n) Nowhere = ⊥
+Agrees (Some n) RegisterUnit = ⊥
+Agrees None (Port m) = ⊥
+Agrees None Nowhere = ⊤
+Agrees None RegisterUnit = ⊤
+
+to_port_agrees : (o : Option ℕ) → Agrees o (to_port o)
+to_port_agrees None = tt
+to_port_agrees (Some n) = refl
+
+-- what a switch does with a packet, by what the packet says
+agrees : (narrow eight long asks : Bool) (hop dest : ℕ) (route : ℕ → Option ℕ)
+    → Agrees (by_key eight (cond (eight && (narrow && long)) (Some hop) None) (option_and_then route (cond narrow (Some dest) None)))
+    (cond (not narrow || (eight && not (eight && (narrow && long)))) Nowhere
+    (cond ((eight && (narrow && long)) && (hop == 0)) (cond ((eight && (narrow && long)) && asks) RegisterUnit Nowhere) (to_port (route dest))))
+agrees false true long asks hop dest route = tt
+agrees false false long asks hop dest route = tt
+agrees true false long asks hop dest route = to_port_agrees (route dest)
+agrees true true false asks hop dest route = tt
+agrees true true true true zero dest route = tt
+agrees true true true false zero dest route = tt
+agrees true true true asks (suc hop) dest route = rw (ne_eqb (suc hop) 0 (λ same. omega arith)) (to_port_agrees (route dest))
+
+pub next_agrees : (device : Device) (packet : List ℕ) → Agrees (by_key (ftype_of packet == 8) (hop_of packet) (option_and_then (next_port device) (dest_of packet))) (next_of device packet)
+next_agrees device packet = agrees (tt_of packet == 0) (ftype_of packet == 8) (is_maintenance_length (length packet)) (nat_lt (ttype_of packet) 2) (get_or packet 6 0) (get_or packet 2 0) (next_port device)
+
+-- the switch that sends a packet
+pub record SentBy (net : Network) (n : ℕ) (packet : List ℕ) (next : Next) : Type 0 where
+  pub device : Device
+  pub known : slice_get net.registers n ≡ Some device
+  pub switch : is_switch device ≡ true
+  pub sends : next_of device packet ≡ next
+
+pub sent_by : (net : Network) (n : ℕ) (packet : List ℕ) (next : Next) → next_at net n packet ≡ Some next → SentBy net n packet next
+sent_by net n packet next named = go (slice_get net.registers n) refl named
+  where
+    go : (o : Option Device) → slice_get net.registers n ≡ o → option_and_then (λ device. cond (is_switch device) (Some (next_of device packet)) None) o ≡ Some next → SentBy net n packet next
+    go None known is = absurd (cc)
+    go (Some device) known is = by_kind (is_switch device) refl is
+      where
+        by_kind : (t : Bool) → is_switch device ≡ t → cond t (Some (next_of device packet)) None ≡ Some next → SentBy net n packet next
+        by_kind true switch is = record { device = device; known = known; switch = switch; sends = cc }
+        by_kind false other is = absurd (cc)

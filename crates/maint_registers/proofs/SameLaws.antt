@@ -1,0 +1,31 @@
+-- A write leaves a device the same: of its kind, with its ports and its links.
+use Rattle.std.proofs.Common.{◌≡◌, ℕ, Option, Some, None, refl, subst}
+use Rattle.std.specs.Option.{option_and_then}
+use Rattle.maint_registers.specs.declared.table.Register.{Register}
+use Rattle.maint_registers.specs.declared.table.Register.TheVariants.{Fixed, PortInformation, BaseId, HostLock, ComponentTag, RouteSelect, RouteEntry, DefaultPort}
+use Rattle.maint_registers.specs.Devices.{Device, IsSameDevice}
+use Rattle.maint_registers.specs.Table.{register_at}
+use Rattle.maint_registers.specs.Access.{written_to, written_at}
+
+-- a device that is the same but for what was written
+one_same : (device written next : Device) → IsSameDevice device written → Some written ≡ Some next → IsSameDevice device next
+one_same device written next same is =
+    let whole : written ≡ next = cc in
+    subst (IsSameDevice device) whole same
+
+register_same : (device next : Device) (value : ℕ) (register : Register) → written_to device value register ≡ Some next → IsSameDevice device next
+register_same device next value (Fixed shown) is = absurd (cc)
+register_same device next value PortInformation is = absurd (cc)
+register_same device next value BaseId is = one_same device _ next (record { kind = refl; ports = refl; linked = refl }) is
+register_same device next value HostLock is = one_same device _ next (record { kind = refl; ports = refl; linked = refl }) is
+register_same device next value ComponentTag is = one_same device _ next (record { kind = refl; ports = refl; linked = refl }) is
+register_same device next value RouteSelect is = one_same device _ next (record { kind = refl; ports = refl; linked = refl }) is
+register_same device next value RouteEntry is = one_same device _ next (record { kind = refl; ports = refl; linked = refl }) is
+register_same device next value DefaultPort is = one_same device _ next (record { kind = refl; ports = refl; linked = refl }) is
+
+pub written_same : (device next : Device) (offset value : ℕ) → written_at device offset value ≡ Some next → IsSameDevice device next
+written_same device next offset value = go (register_at device offset)
+  where
+    go : (o : Option Register) → option_and_then (written_to device value) o ≡ Some next → IsSameDevice device next
+    go None is = absurd (cc)
+    go (Some register) is = register_same device next value register is
