@@ -20,7 +20,7 @@ use Rattle.fabric_map.proofs.Given.{endpoint_from_id, found-by_id}
 use Rattle.fabric_map.proofs.Fronts.{some_port, front_listed}
 
 -- Each switch of the list sends packets for an ID down the tree, or home.
-pub SendsById : Topology → Registers → List Device → ℕ → Type 0
+abbrev pub SendsById : Topology → Registers → List Device → ℕ → Type 0
 SendsById topology registers devices id =
     (member : Device) (ports entry node : ℕ) → Contains devices member
     → member.kind ≡ Switch ports entry → node_at topology member.path ≡ Some node
@@ -57,7 +57,6 @@ module _ (topology : Topology) (registers : Registers) (host_id id to : ℕ)
   sends_at : (path : List ℕ) (at : PortRef) (ports : ℕ) → Contains (paths_of devices) path
       → entered topology path ≡ Some at → topology.switch_ports at.node ≡ Some ports
       → next_port (registers at.node) id ≡ Some (port_for devices path at.port id)
-  unfolding SendsById
   sends_at path at ports within enters is =
       let found = listed-switch topology host_id devices path at ports described within enters is
       in
