@@ -1,18 +1,21 @@
 -- The lists of steps through switches.
-use Rattle.std.proofs.Common.{true, ◌≡◌, [], ◌∷◌, Some, take, drop, refl, arith, map}
+use Rattle.std.proofs.Common.{true, inr, ◌≡◌, [], ◌∷◌, Some, take, drop, refl, arith, map}
 use Rattle.rio_packets.specs.LinkForm.{Passes}
 use Rattle.rio_packets.specs.Fields.{dest_of}
 use Rattle.rio_packets.specs.Carries.{passes}
+use Rattle.rio_packets.specs.Hops.{closed}
 use Rattle.rio_packets.specs.Register.{fed, shifted, shifted_times}
 use Rattle.rio_packets.proofs.CarriesLaws.{decides_passes}
 use Rattle.maint_packets.specs.declared.next_hop.Next.TheVariants.{Nowhere, Port}
 use Rattle.fabric_model.specs.Network.{Item, port_of}
 use Rattle.fabric_model.specs.Steps.{Take, Leave, AtNode, after, after_all, LegalFrom}
+use Rattle.fabric_model.specs.Serving.{response_at}
+use Rattle.fabric_model.specs.Laws.History.{gone}
 use Rattle.fabric_model.specs.Laws.Proper.{AreProper}
 use Rattle.fabric_model.specs.Laws.Flows.{SameFlow, RoutesStand, EarlierFirst, InOrder}
 use Rattle.fabric_model.specs.Laws.Tables.{ByTables}
 use Rattle.fabric_model.specs.Laws.Examples.{packet, other, first}
-use Rattle.fabric_model.specs.Laws.Switches.{port_at, around, for_5, for_9, later_for_9, through, circle, parting, SamePriority, moved_elsewhere, dropped_on_its_way}
+use Rattle.fabric_model.specs.Laws.Switches.{port_at, around, for_5, for_9, later_for_9, through, circle, parting, SamePriority, moved_elsewhere, dropped_on_its_way, for_7, later_for_7, request, response, changing, with_hop_0, with_hop_5, with_hop_3, hopping, taken_as}
 use Rattle.fabric_model.proofs.Worked.{packet_passes}
 
 test_for_5 : passes for_5 ≡ true
@@ -124,3 +127,61 @@ pub dropped_breaks : ByTables around dropped_on_its_way → ⊥
 dropped_breaks law =
     let named : Some (Port 1) ≡ Some Nowhere = law.dropped (take 2 dropped_on_its_way) [] (port_at 2 0) packet refl in
     absurd (cc)
+
+test_for_7 : passes for_7 ≡ true
+unfolding fed shifted_times shifted
+test_for_7 = refl
+
+passes_for_7 : Passes for_7
+passes_for_7 = (decides_passes for_7).0 test_for_7
+
+test_later_for_7 : passes later_for_7 ≡ true
+unfolding fed shifted_times shifted
+test_later_for_7 = refl
+
+passes_later_for_7 : Passes later_for_7
+passes_later_for_7 = (decides_passes later_for_7).0 test_later_for_7
+
+test_request : passes request ≡ true
+unfolding fed shifted_times shifted
+test_request = refl
+
+passes_request : Passes request
+passes_request = (decides_passes request).0 test_request
+
+test_response : passes response ≡ true
+unfolding fed shifted_times shifted
+test_response = refl
+
+passes_response : Passes response
+passes_response = (decides_passes response).0 test_response
+
+test_with_hop_0 : passes with_hop_0 ≡ true
+unfolding fed shifted_times shifted
+test_with_hop_0 = refl
+
+passes_with_hop_0 : Passes with_hop_0
+passes_with_hop_0 = (decides_passes with_hop_0).0 test_with_hop_0
+
+test_with_hop_5 : passes with_hop_5 ≡ true
+unfolding fed shifted_times shifted
+test_with_hop_5 = refl
+
+passes_with_hop_5 : Passes with_hop_5
+passes_with_hop_5 = (decides_passes with_hop_5).0 test_with_hop_5
+
+-- the registers answer the write
+written : response_at around (port_at 2 0) request ≡ Some response
+unfolding closed fed shifted_times shifted
+written = refl
+
+pub changing_legal : LegalFrom around changing (after_all around changing)
+changing_legal = ((refl, passes_for_7, refl), ((port_of 0, refl, refl, refl), ((refl, refl, refl, refl), ((refl, passes_request, refl), ((port_of 0, refl, refl, refl), ((refl, inr refl, written, passes_response, refl), ((refl, passes_later_for_7, refl), ((port_of 0, refl, refl, refl), ((refl, refl, refl, refl), ((port_at 2 2, refl, refl, refl), ((refl, refl, refl, refl), ((port_at 3 0, refl, refl, refl), ((refl, refl, refl), refl)))))))))))))
+
+pub hopping_legal : LegalFrom around hopping (after_all around hopping)
+unfolding closed fed shifted_times shifted
+hopping_legal = ((refl, passes_with_hop_0, refl), ((refl, passes_with_hop_5, refl), ((port_of 0, refl, refl, refl), ((refl, refl), ((port_of 0, refl, refl, refl), ((refl, refl, refl, refl), ((port_at 2 1, refl, refl, refl), ((refl, refl, refl, refl), ((port_at 3 0, refl, refl, refl), ((refl, refl, refl), refl))))))))))
+
+pub hopping_gone : gone around hopping ≡ taken_as 1 with_hop_5 with_hop_3 ∷ []
+unfolding closed fed shifted_times shifted
+hopping_gone = refl

@@ -6,7 +6,7 @@ ghost use Rattle.fabric_model.specs.Network.{port_of};
 ghost use Rattle.fabric_model.specs.Steps.{LegalFrom, after_all};
 ghost use Rattle.fabric_model.specs.Lines.{steps_of};
 ghost use Rattle.fabric_model.specs.Runs.{Runs};
-ghost use Rattle.fabric_model.specs.Laws.History.{gone};
+ghost use Rattle.fabric_model.specs.Laws.History.{Dropped, ended, gone};
 ghost use Rattle.fabric_model.specs.Laws.Holding.{HoldingExactly};
 ghost use Rattle.fabric_model.specs.Laws.Leaving.{Once, Unchanged};
 ghost use Rattle.fabric_model.specs.Laws.Freeing.{FreedAfterHeld};
@@ -15,7 +15,7 @@ ghost use Rattle.fabric_model.specs.Laws.Tables.{ByTables};
 ghost use Rattle.fabric_model.specs.Laws.Proper.{AreProper};
 ghost use Rattle.fabric_model.specs.Laws.Settling.{IsSettled};
 ghost use Rattle.fabric_model.specs.Laws.Examples.{pair_script, pair_lines, pair, first, held_once, kept_too, left_twice, left_as_other, freed_too_early, not_passed, fork, overtaking};
-ghost use Rattle.fabric_model.specs.Laws.Switches.{port_at, around, through, circle, parting, SamePriority, moved_elsewhere, dropped_on_its_way};
+ghost use Rattle.fabric_model.specs.Laws.Switches.{port_at, around, through, circle, parting, SamePriority, moved_elsewhere, dropped_on_its_way, for_7, later_for_7, changing, with_hop_0, with_hop_5, with_hop_3, hopping, taken_as};
 
 /// A packet is sent over the one link of two endpoints and collected. The lines are the trace of
 /// the script, and their steps are legal.
@@ -63,4 +63,21 @@ pub fn circles_are_legal()
 pub fn flows_can_part()
     ensures legal { LegalFrom around parting (after_all around parting) }
     ensures order { EarlierFirst SamePriority around parting → ⊥ }
+{}
+
+/// The order of a flow needs that the routes of its destination stand: registers answer a write that
+/// changes one, and the later of two packets leaves while the earlier one waits.
+pub fn routes_can_change()
+    ensures legal { LegalFrom around changing (after_all around changing) }
+    ensures left { gone around changing ≡ taken_as 3 later_for_7 later_for_7 ∷ [] }
+    ensures waits { (after_all around changing).waiting (port_at 2 1) 0
+        ≡ taken_as 0 for_7 for_7 ∷ [] }
+{}
+
+/// A flow has one hop count: the earlier of two packets that differ in it is dropped at the end of its hops,
+/// and the later one leaves, with its hop count lowered at each switch.
+pub fn hop_counts_part_flows()
+    ensures legal { LegalFrom around hopping (after_all around hopping) }
+    ensures dropped { ended around hopping Dropped ≡ taken_as 0 with_hop_0 with_hop_0 ∷ [] }
+    ensures left { gone around hopping ≡ taken_as 1 with_hop_5 with_hop_3 ∷ [] }
 {}

@@ -29,7 +29,8 @@ mod examples;
 mod laws;
 
 pub use examples::{
-    circles_are_legal, flows_can_part, laws_can_fail, through_switches, worked_run,
+    circles_are_legal, flows_can_part, hop_counts_part_flows, laws_can_fail, routes_can_change,
+    through_switches, worked_run,
 };
 pub use laws::{
     by_priority, by_tables, first_blocks_are_a_front, freed_after_held, holding_exactly, in_order,
