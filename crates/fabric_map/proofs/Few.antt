@@ -1,45 +1,54 @@
 -- A walk meets no more devices than there are.
-use Rattle.std.proofs.Common.{◌≡◌, ◌≢◌, ℕ, ◌<◌, ◌≤◌, ◌||◌, Bool, true, false, eqb, List, [], ◌∷◌, length, map, Option, Some, None, IsSome, option_map, unwrap_or, AllPairs, Contains, subst, sym, refl, ap, ◌∙◌, ne_eqb}
+use Rattle.std.proofs.Common.{◌≡◌, ◌≢◌, ℕ, ◌<◌, ◌≤◌, ◌||◌, Bool, true, false, eqb, List, [], ◌∷◌, length, map, Option, Some, None, IsSome, option_map, unwrap_or, AllPairs, Contains, arith, subst, sym, refl, ap, ◌∙◌, ne_eqb}
 use Rattle.std.specs.List.{list_any, IsDistinct, AllByRecursion}
 use Rattle.std.specs.Option.{option_and_then}
 use Rattle.std.proofs.lemmas.Bool.{eqb-true}
 use Rattle.std.proofs.lemmas.List.Elements.{All-contains}
+use Rattle.std.proofs.lemmas.Option.{same_Some}
 use Rattle.std.proofs.lemmas.List.{length-map}
 use Rattle.std.proofs.lemmas.Map.Steps.{length-le_from_distinct_below}
 use Rattle.std.proofs.lemmas.Map.Keys.{IsDistinct-cons}
 use Rattle.fabric_script.specs.declared.ports.PortRef.{PortRef}
-use Rattle.fabric_map.specs.Topology.{Topology, IsTopology, port_at, behind, along, entered, node_at}
+use Rattle.fabric_map.specs.Topology.{Topology, IsTopology, IsPort, port_at, ports_of, behind, along, entered, node_at}
 use Rattle.fabric_map.specs.Walked.{Before, Walked}
 use Rattle.fabric_map.proofs.Order.{Before-irreflexive}
 use Rattle.fabric_map.proofs.Lists.{Contains-first, Contains-rest, AllPairs-first, AllPairs-rest}
 use Rattle.fabric_map.proofs.Ways.{behind-link}
 
-along-inside : (topology : Topology) (at last : PortRef) (path : List ℕ)
-    → IsTopology topology → at.node < topology.nodes → along topology at path ≡ Some last
-    → last.node < topology.nodes
-along-inside topology at last [] proper inside leads =
-    let same : at ≡ last = cc in
-    subst (λ (p : PortRef). p.node < topology.nodes) same inside
-along-inside topology at last (port ∷ path) proper inside leads =
+along-port : (topology : Topology) (at last : PortRef) (path : List ℕ)
+    → IsTopology topology → IsPort topology at → along topology at path ≡ Some last
+    → IsPort topology last
+along-port topology at last [] proper is leads =
+    subst (λ p. IsPort topology p) (same_Some at last leads) is
+along-port topology at last (port ∷ path) proper is leads =
     go (behind topology at.node port) refl leads
-    (λ next there on. along-inside topology next last path proper there on)
+    (λ next there on. along-port topology next last path proper there on)
   where
     go : (o : Option PortRef) → behind topology at.node port ≡ o
         → option_and_then (λ next. along topology next path) o ≡ Some last
-        → ((next : PortRef) → next.node < topology.nodes → along topology next path ≡ Some last
-        → last.node < topology.nodes)
-        → last.node < topology.nodes
-    go None is leads on = absurd (cc)
-    go (Some next) is leads on =
-        let link = behind-link topology at.node port next is in
+        → ((next : PortRef) → IsPort topology next → along topology next path ≡ Some last
+        → IsPort topology last)
+        → IsPort topology last
+    go None is_next leads on = absurd (cc)
+    go (Some next) is_next leads on =
+        let link = behind-link topology at.node port next is_next in
         on next (proper.ports next (port_at at.node port)
-        (proper.both_ways (port_at at.node port) next link.0)).node leads
+        (proper.both_ways (port_at at.node port) next link.0)) leads
 
--- a path leads to one of the devices
+-- a path enters its device by one of its ports
+pub entered-port : (topology : Topology) (path : List ℕ) (at : PortRef)
+    → IsTopology topology → entered topology path ≡ Some at → IsPort topology at
+entered-port topology path at proper leads =
+    along-port topology (port_at topology.host 0) at path proper
+    (record { node = proper.host; port = subst (λ n. 0 < n) (sym one) (omega arith) }) leads
+  where
+    one : ports_of topology topology.host ≡ 1
+    one = ap (λ o. unwrap_or o 1) proper.host_is_endpoint
+
+-- and this is one of the devices
 pub entered-inside : (topology : Topology) (path : List ℕ) (at : PortRef)
     → IsTopology topology → entered topology path ≡ Some at → at.node < topology.nodes
-entered-inside topology path at proper leads =
-    along-inside topology (port_at topology.host 0) at path proper proper.host leads
+entered-inside topology path at proper leads = (entered-port topology path at proper leads).node
 
 abbrev number_of : Topology → List ℕ → ℕ
 number_of topology path = unwrap_or (node_at topology path) 0
