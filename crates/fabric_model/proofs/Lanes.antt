@@ -1,10 +1,11 @@
 -- Each list of a network holds packets of its own priority alone.
-use Rattle.std.proofs.Common.{◌≡◌, List, [], ◌++◌, refl}
+use Rattle.std.proofs.Common.{◌≡◌, ℕ, List, [], ◌∷◌, ◌++◌, Some, refl, subst}
 use Rattle.std.specs.Bool.{⊤}
 use Rattle.std.specs.List.{AllByRecursion}
 use Rattle.rio_packets.specs.Fields.{prio_of}
 use Rattle.rio_packets.specs.LinkForm.{Passes}
-use Rattle.fabric_model.specs.Network.{Item, Network}
+use Rattle.fabric_script.specs.declared.ports.PortRef.{PortRef}
+use Rattle.fabric_model.specs.Network.{Item, Network, first_packet}
 use Rattle.fabric_model.specs.Steps.{Step, after, LegalFrom}
 use Rattle.fabric_model.specs.Laws.History.{IsEmptyNetwork, taken_by, ended_by, ended}
 use Rattle.fabric_model.specs.Laws.Priorities.{ByPriority}
@@ -34,13 +35,25 @@ goes_well net from to item moved allowed well =
     let along = allowed_along net from to item moved allowed well.0 in
     (along.passes, goes_to net from to item moved allowed along well.1)
 
+-- all that stands anywhere
+all_well : (start : Network) (steps : List Step) (end : Network) → IsEmptyNetwork start → LegalFrom start steps end → AllOn StandsWell (items_at end (ended start steps))
+all_well start steps end empty legal =
+    carried (λ net made out. AllOn StandsWell (items_at net out))
+    (λ net made out step needs held. AllOn-step StandsWell net (after net step) (taken_by net step) (items_at net out) (items_at (after net step) (λ e. out e ++ ended_by e net step)) (step_on net out step needs) (λ p packet passes. (passes, refl)) (goes_well net) held)
+    start [] (λ e. []) steps end (AllOn-empty StandsWell start empty) legal
+
 pub by_priority : (start : Network) (steps : List Step) (end : Network) → IsEmptyNetwork start → LegalFrom start steps end → ByPriority end
 by_priority start steps end empty legal = record { received = λ p r. only (Received p r); waiting = λ p r. only (Waiting p r) }
   where
-    all : AllOn StandsWell (items_at end (ended start steps))
-    all = carried (λ net made out. AllOn StandsWell (items_at net out))
-        (λ net made out step needs held. AllOn-step StandsWell net (after net step) (taken_by net step) (items_at net out) (items_at (after net step) (λ e. out e ++ ended_by e net step)) (step_on net out step needs) (λ p packet passes. (passes, refl)) (goes_well net) held)
-        start [] (λ e. []) steps end (AllOn-empty StandsWell start empty) legal
-
     only : (place : Place) → AllByRecursion (HasPriority place) (items_at end (ended start steps) place)
-    only place = all_weaker (StandsWell place) (HasPriority place) (λ item well. well.1) (items_at end (ended start steps) place) (all place)
+    only place = all_weaker (StandsWell place) (HasPriority place) (λ item well. well.1) (items_at end (ended start steps) place) (all_well start steps end empty legal place)
+
+-- the first packet that a port has received is one in its link form
+pub first_passes : (start : Network) (steps : List Step) (end : Network) → IsEmptyNetwork start → LegalFrom start steps end → (p : PortRef) (r : ℕ) (packet : List ℕ) → first_packet (end.received p r) ≡ Some packet → Passes packet
+first_passes start steps end empty legal p r packet is = go (end.received p r) is (all_well start steps end empty legal (Received p r))
+  where
+    go : (items : List Item) → first_packet items ≡ Some packet → AllByRecursion (StandsWell (Received p r)) items → Passes packet
+    go [] is all = absurd (cc)
+    go (item ∷ items) is all =
+        let same : item.now ≡ packet = cc in
+        subst Passes same all.0.0

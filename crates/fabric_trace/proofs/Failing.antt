@@ -21,14 +21,14 @@ use Rattle.link_machine.specs.Calls.{sent_notes, pump_notes, has_chars, delivery
 use Rattle.link_machine.proofs.Machine.{none_failed}
 use Rattle.fabric_script.specs.declared.ports.PortRef.{PortRef}
 use Rattle.fabric_model.specs.Network.{same_port, peer_in}
-use Rattle.fabric_model.specs.Steps.{AtNode}
+use Rattle.fabric_model.specs.Steps.{AtNode, ByDevice}
 use Rattle.fabric_model.proofs.Peers.{port_is}
 use Rattle.fabric_trace.specs.Lines.{TraceLine, Begun, Stepped, Signed, Lacked, Ended, Undetected, Sent, Got, Fired, steps_of}
 use Rattle.fabric_trace.specs.Views.{Half, half_of}
 use Rattle.fabric_trace.specs.Known.{Seen, with_half, peer_of, port_at, link_at}
 use Rattle.fabric_trace.specs.Fold.{edit_of, edited_by, symbol_leaves, packet_leaves, event_leaves, sends, says, half_sent, taken_from, half_after, found_at, got_from, fired_from, signed, seen_line, seen}
 use Rattle.fabric_trace.specs.Blocks.{lines_of}
-use Rattle.fabric_trace.specs.Parts.{Part, Begins, Lacks, Ends, Names, Steps, Turns, Delivers, Fires, Made, Done, Then}
+use Rattle.fabric_trace.specs.Parts.{Part, Begins, Lacks, Ends, Names, Steps, Serves, Turns, Delivers, Fires, Made, Done, Then}
 use Rattle.fabric_trace.specs.Firsts.{FindsFirst}
 use Rattle.fabric_trace.specs.Working.{NoneFailed, NeverFail}
 use Rattle.fabric_trace.proofs.Folding.{seen-append, half_own}
@@ -240,6 +240,7 @@ part_works {s} good (Lacks lack is) none = works_by is (quiet_works s (Lacked la
 part_works {s} good (Ends is) none = works_by is (quiet_works s (Ended ∷ []) tt none)
 part_works {s} good (Names number q e found is) none = works_by is (quiet_works s (Undetected number q e ∷ []) tt none)
 part_works {s} good (Steps step needs few is) none = works_by is (quiet_works s (Stepped (AtNode step) ∷ []) tt none)
+part_works {s} good (Serves step needs is) none = works_by is (quiet_works s (Stepped (ByDevice step) ∷ []) tt none)
 part_works {s} good (Turns p q n peer faithful is) none =
     works_by is (quiet_works s (lines_of p q (pump_notes A n (link_at s p q))) (sent_quiet p q A (bursts n (link_at s p q).a).chars) none)
 part_works {s} {lines} good (Delivers p q n peer faithful has is) none =

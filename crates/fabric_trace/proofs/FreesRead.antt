@@ -34,7 +34,7 @@ use Rattle.fabric_trace.specs.Fold.{edit_of, edited_by, event_leaves, sends, say
 use Rattle.fabric_trace.specs.Blocks.{port_at_side, lines_of}
 use Rattle.fabric_trace.specs.Frees.{IsSaid, Gotten, nothing_got, gets, completed, frees_by, FreeSaid, FreesSaid}
 use Rattle.fabric_trace.specs.Links.{IsLink}
-use Rattle.fabric_trace.specs.Parts.{Part, Begins, Lacks, Ends, Names, Steps, Turns, Delivers, Fires, Made, Done, Then}
+use Rattle.fabric_trace.specs.Parts.{Part, Begins, Lacks, Ends, Names, Steps, Serves, Turns, Delivers, Fires, Made, Done, Then}
 use Rattle.fabric_trace.proofs.Cuts.{taken_again, through_place}
 use Rattle.fabric_trace.proofs.Folding.{seen-append, lines-append, half_own, half_other, moves_seen}
 use Rattle.fabric_trace.proofs.Heard.{freed_count, HaveFreed, delivered_frees}
@@ -351,6 +351,7 @@ part_freed {s} before c good (Lacks lack is) h = subst (λ (x : List TraceLine).
 part_freed {s} before c good (Ends is) h = subst (λ (x : List TraceLine). IsFreed (before ++ x) (seen s x) c) (sym is) (still_freed (Ended ∷ []) before s c tt h)
 part_freed {s} before c good (Names number q e found is) h = subst (λ (x : List TraceLine). IsFreed (before ++ x) (seen s x) c) (sym is) (still_freed (Undetected number q e ∷ []) before s c tt h)
 part_freed {s} before c good (Steps step needs few is) h = subst (λ (x : List TraceLine). IsFreed (before ++ x) (seen s x) c) (sym is) (still_freed (Stepped (AtNode step) ∷ []) before s c tt h)
+part_freed {s} before c good (Serves step needs is) h = subst (λ (x : List TraceLine). IsFreed (before ++ x) (seen s x) c) (sym is) (still_freed (Stepped (ByDevice step) ∷ []) before s c tt h)
 part_freed {s} before c good (Turns p q n peer none is) h =
     subst (λ (x : List TraceLine). IsFreed (before ++ x) (seen s x) c) (sym is) (still_freed (lines_of p q (pump_notes A n (link_at s p q))) before s c (sent_still p q A (bursts n (link_at s p q).a).chars) h)
 part_freed {s} before c good (Delivers p q n peer none has is) h =

@@ -18,7 +18,7 @@ use Rattle.fabric_trace.specs.Lines.{TraceLine, Begun, Stepped, Signed, Lacked, 
 use Rattle.fabric_trace.specs.Known.{Seen, link_at}
 use Rattle.fabric_trace.specs.Fold.{says, seen}
 use Rattle.fabric_trace.specs.Blocks.{lines_of}
-use Rattle.fabric_trace.specs.Parts.{Part, Begins, Lacks, Ends, Names, Steps, Turns, Delivers, Fires, Made, Done, Then}
+use Rattle.fabric_trace.specs.Parts.{Part, Begins, Lacks, Ends, Names, Steps, Serves, Turns, Delivers, Fires, Made, Done, Then}
 use Rattle.fabric_trace.specs.Wires.{WireChars, WireFold, on_wires}
 use Rattle.fabric_trace.specs.Holds.{got, holds, numbered, HoldsCame}
 use Rattle.fabric_trace.specs.Frees.{Gotten, FreesSaid, gets, frees_by}
@@ -103,6 +103,7 @@ gets_first {s} (Lacks lack is) = subst GetsFirst (sym is) tt
 gets_first {s} (Ends is) = subst GetsFirst (sym is) tt
 gets_first {s} (Names number q e found is) = subst GetsFirst (sym is) tt
 gets_first {s} (Steps step needs few is) = subst GetsFirst (sym is) tt
+gets_first {s} (Serves step needs is) = subst GetsFirst (sym is) tt
 gets_first {s} (Turns p q n peer none is) = subst GetsFirst (sym is) (sent_first p q A (bursts n (link_at s p q).a).chars)
 gets_first {s} (Delivers p q n peer none has is) = subst GetsFirst (sym is) (told_first s p q n (has_chars A n (link_at s p q)))
 gets_first {s} (Fires p q peer none silent is) = subst GetsFirst (sym is) (fired_first p q (is_silent (link_at s p q)))

@@ -29,7 +29,7 @@ use Rattle.fabric_trace.specs.Known.{Seen, with_half, peer_of, port_at, kept_of,
 use Rattle.fabric_trace.specs.Fold.{edit_of, edited_by, says, taken_from, half_after, found_at, got_from, fired_from, seen}
 use Rattle.fabric_trace.specs.Blocks.{port_at_side, lines_of}
 use Rattle.fabric_trace.specs.Holds.{got_by, got, held_by, holds, numbered, HoldsCame}
-use Rattle.fabric_trace.specs.Parts.{Part, Begins, Lacks, Ends, Names, Steps, Turns, Delivers, Fires, Made, Done, Then}
+use Rattle.fabric_trace.specs.Parts.{Part, Begins, Lacks, Ends, Names, Steps, Serves, Turns, Delivers, Fires, Made, Done, Then}
 use Rattle.fabric_trace.proofs.Coming.{held_in, HaveCome, within-append, numbered-append, delivered_comes}
 use Rattle.fabric_trace.proofs.Cuts.{taken_again, through_place}
 use Rattle.fabric_trace.proofs.Folding.{seen-append, lines-append, half_own, half_other, moves_seen}
@@ -257,6 +257,7 @@ part_read {s} before c good (Lacks lack is) h = subst (λ (x : List TraceLine). 
 part_read {s} before c good (Ends is) h = subst (λ (x : List TraceLine). IsRead (before ++ x) (seen s x) c) (sym is) (still_read (Ended ∷ []) before s c tt h)
 part_read {s} before c good (Names number q e found is) h = subst (λ (x : List TraceLine). IsRead (before ++ x) (seen s x) c) (sym is) (still_read (Undetected number q e ∷ []) before s c tt h)
 part_read {s} before c good (Steps step needs few is) h = subst (λ (x : List TraceLine). IsRead (before ++ x) (seen s x) c) (sym is) (still_read (Stepped (AtNode step) ∷ []) before s c tt h)
+part_read {s} before c good (Serves step needs is) h = subst (λ (x : List TraceLine). IsRead (before ++ x) (seen s x) c) (sym is) (still_read (Stepped (ByDevice step) ∷ []) before s c tt h)
 part_read {s} before c good (Turns p q n peer none is) h =
     subst (λ (x : List TraceLine). IsRead (before ++ x) (seen s x) c) (sym is) (still_read (lines_of p q (pump_notes A n (link_at s p q))) before s c (sent_still p q A (bursts n (link_at s p q).a).chars) h)
 part_read {s} before c good (Delivers p q n peer none has is) h =

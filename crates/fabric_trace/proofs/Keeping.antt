@@ -1,7 +1,11 @@
 -- Every part of a trace is legal and keeps the links sound.
-use Rattle.std.proofs.Common.{◌≡◌, ℕ, ◌<◌, ◌++◌, Bool, true, false, List, [], ◌∷◌, Option, Some, None, refl, sym, ap, subst, if◌then◌else◌}
+use Rattle.std.proofs.Common.{◌≡◌, ℕ, ◌+◌, ◌<◌, ◌++◌, map, IsTrue, ◌∙◌, Bool, true, false, List, [], ◌∷◌, get_or, arith, Option, Some, None, refl, sym, ap, subst, if◌then◌else◌}
 use Rattle.rio_chars.specs.declared.chars.Char.{Char}
 use Rattle.rio_packets.specs.Fields.{prio_of}
+use Rattle.rio_packets.specs.LinkForm.{Passes}
+use Rattle.maint_packets.specs.declared.next_hop.Next.TheVariants.{Port}
+use Rattle.maint_packets.specs.NextHops.{moved}
+use Rattle.maint_packets.specs.Requests.{request_of}
 use Rattle.link_watch.specs.declared.note.Note.TheVariants as Notes
 use Rattle.link_watch.specs.declared.side.Side.{Side}
 use Rattle.link_watch.specs.declared.side.Side.TheVariants.{A}
@@ -10,25 +14,27 @@ use Rattle.link_machine.specs.States.{LinkState}
 use Rattle.link_machine.specs.Calls.{sent_notes, pump_notes, is_silent, time_out_notes, has_chars, delivery_notes}
 use Rattle.link_wires.specs.Wires.{bursts}
 use Rattle.fabric_script.specs.declared.ports.PortRef.{PortRef}
-use Rattle.fabric_model.specs.Network.{Network, port_of}
-use Rattle.fabric_model.specs.Steps.{Take, Leave, NodeStep, Step, AtNode, Needs, LegalFrom}
+use Rattle.fabric_model.specs.Network.{Network, port_of, room_out, with_device}
+use Rattle.fabric_model.specs.Serving.{device_after}
+use Rattle.fabric_model.specs.Steps.{Take, Leave, NodeStep, Move, Drop, Answer, DeviceStep, Step, AtNode, ByDevice, Needs, IsFirst, only_first, moved_item, item_of, without_first, with_waiting, after, LegalFrom}
 use Rattle.fabric_model.specs.Laws.History.{IsEmptyNetwork}
 use Rattle.fabric_model.specs.Laws.Proper.{AreProper}
 use Rattle.fabric_model.specs.Laws.Priorities.{ByPriority}
 use Rattle.fabric_model.proofs.Joining.{legal_joined}
-use Rattle.fabric_model.proofs.Lanes.{by_priority}
+use Rattle.fabric_model.proofs.Moving.{moves_on, named_goes, sent_by}
+use Rattle.fabric_model.proofs.Boards.{first_item}
+use Rattle.fabric_model.proofs.Lanes.{by_priority, first_passes}
 use Rattle.fabric_model.proofs.Peers.{ArePeers, peer_back}
 use Rattle.fabric_trace.specs.Lines.{TraceLine, Begun, Stepped, Signed, Lacked, Ended, Undetected, steps_of}
 use Rattle.fabric_trace.specs.Known.{Seen, Found, peer_of, link_at}
 use Rattle.fabric_trace.specs.Fold.{edit_of, edited_by, seen_line, seen}
 use Rattle.fabric_trace.specs.Blocks.{lines_of}
 use Rattle.fabric_trace.specs.Links.{AreLinks}
-use Rattle.fabric_trace.specs.Parts.{packet_of, Part, Begins, Lacks, Ends, Names, Steps, Turns, Delivers, Fires, Made, Done, Then}
+use Rattle.fabric_trace.specs.Parts.{packet_of, Part, Begins, Lacks, Ends, Names, Steps, Serves, Turns, Delivers, Fires, Made, Done, Then}
 use Rattle.fabric_trace.proofs.Calling.{IsCall, turns_call, fires_call}
 use Rattle.fabric_trace.proofs.Delivering.{delivers_call}
 use Rattle.fabric_trace.proofs.Folding.{seen-append}
-use Rattle.fabric_trace.proofs.Lanes.{lane_other}
-use Rattle.fabric_trace.proofs.Serving.{apart_peer, by_pair, by_port, edited_link, taken_link, left_link}
+use Rattle.fabric_trace.proofs.Serving.{apart_peer, by_pair, edited_link, with_more, fewer_links, more_links}
 
 pub steps_of-append : (xs ys : List TraceLine) → steps_of (xs ++ ys) ≡ steps_of xs ++ steps_of ys
 steps_of-append [] ys = refl
@@ -128,45 +134,62 @@ begun_net : (s : Seen) (edit : Option (PortRef × Edit)) → (edited_by s edit).
 begun_net s None = refl
 begun_net s (Some edit) = refl
 
-take_links : (s : Seen) (n : ℕ) (packet : List ℕ) → AreProper s.network.links → Needs s.network (AtNode (Take n packet)) → prio_of packet < 4 → AreLinks s
-    → AreLinks (seen_line s (Stepped (AtNode (Take n packet))))
-take_links s n packet proper needs few are =
-    by_port s (seen_line s (Stepped (AtNode (Take n packet)))) (port_of n) proper refl
-    (λ q peers is. taken_link s n packet q few needs peers is)
-    (λ c apart. record {
-      lists = record { received = refl; waiting = lane_other s.network.waiting (port_of n) (prio_of packet) _ c apart; lent = refl; buffers = refl };
-      wire = refl;
-      half = refl;
-    }) are
+pub few_prio : (packet : List ℕ) → Passes packet → prio_of packet < 4
+few_prio packet is = let second : get_or packet 1 0 < 256 = is.range 1 0 (omega (arith, is.least)) in omega (arith, second)
 
-leave_links : (s : Seen) (n : ℕ) (packet : List ℕ) → AreProper s.network.links → Needs s.network (AtNode (Leave n packet)) → prio_of packet < 4 → AreLinks s
-    → AreLinks (seen_line s (Stepped (AtNode (Leave n packet))))
-leave_links s n packet proper needs few are =
-    by_port s (seen_line s (Stepped (AtNode (Leave n packet)))) (port_of n) proper refl
-    (λ q peers is. left_link s n packet q few needs peers is)
-    (λ c apart. record {
-      lists = record { received = lane_other s.network.received (port_of n) (prio_of packet) _ c apart; waiting = refl; lent = refl; buffers = refl };
-      wire = refl;
-      half = refl;
-    }) are
+-- a step that leaves links sound
+step_keeps : (s : Seen) (step : Step) → IsGood s → Needs s.network step → (AreLinks s → AreLinks (seen_line s (Stepped step))) → (after s.network step).links ≡ s.network.links → IsKept s (Stepped step ∷ [])
+step_keeps s step good needs links same = record {
+  legal = (needs, refl);
+  good = record {
+    reached = reached_on (step ∷ []) good.reached (needs, refl);
+    proper = subst AreProper (sym same) good.proper;
+    links = λ none. links (good.links none);
+  };
+}
 
 node_keeps : (s : Seen) (step : NodeStep) → IsGood s → Needs s.network (AtNode step) → prio_of (packet_of step) < 4 → IsKept s (Stepped (AtNode step) ∷ [])
-node_keeps s (Take n packet) good needs few = record {
-  legal = (needs, refl);
-  good = record {
-    reached = reached_on (AtNode (Take n packet) ∷ []) good.reached (needs, refl);
-    proper = good.proper;
-    links = λ none. take_links s n packet good.proper needs few (good.links none);
-  };
-}
-node_keeps s (Leave n packet) good needs few = record {
-  legal = (needs, refl);
-  good = record {
-    reached = reached_on (AtNode (Leave n packet) ∷ []) good.reached (needs, refl);
-    proper = good.proper;
-    links = λ none. leave_links s n packet good.proper needs few (good.links none);
-  };
-}
+node_keeps s (Take n packet) good needs few =
+    step_keeps s (AtNode (Take n packet)) good needs (more_links s (port_of n) (item_of s.network (port_of n) packet) (s.network.given + 1) s.network.registers good.proper few needs.1 needs.2) refl
+node_keeps s (Leave n packet) good needs few =
+    step_keeps s (AtNode (Leave n packet)) good needs (fewer_links s (port_of n) packet good.proper few needs.1) refl
+
+-- a packet that a port has received first is one in its link form
+passes_first : (s : Seen) → IsGood s → (p : PortRef) (packet : List ℕ) → IsFirst s.network p packet → Passes packet
+passes_first s good p packet first = first_passes good.reached.start good.reached.steps s.network good.reached.empty good.reached.legal p (prio_of packet) packet first
+
+-- a packet moves to another port of a switch, or to the same
+move_links : (s : Seen) (p q : PortRef) (packet : List ℕ) → AreProper s.network.links → Passes packet → Needs s.network (ByDevice (Move p q packet)) → AreLinks s → AreLinks (seen_line s (Stepped (ByDevice (Move p q packet))))
+move_links s p q packet proper passes needs are =
+    let r = prio_of packet in
+    let net = s.network in
+    let s1 : Seen = record s { network = without_first s.network p (prio_of packet) } in
+    let first = first_item (net.received p r) packet needs.1 in
+    let sent = sent_by net p.node packet (Port q.port) needs.2 in
+    let on = moves_on packet passes (named_goes sent.device packet q.port sent.sends) in
+    let now : moved first.item.now ≡ moved packet = ap moved first.now in
+    let prio : prio_of (moved first.item.now) ≡ prio_of packet = ap prio_of now ∙ on.prio in
+    let few : prio_of (moved first.item.now) < 4 = few_prio _ (subst Passes (sym now) on.passes) in
+    let only : only_first (map moved_item (net.received p r)) ≡ moved_item first.item ∷ [] = ap (λ xs. only_first (map moved_item xs)) first.whole in
+    let there : with_more s1.network q (moved_item first.item) net.given net.registers ≡ (after net (ByDevice (Move p q packet))) =
+    λ i. with_waiting (without_first net p r) q (prio i) (sym only i) in
+    subst (λ (n : Network). AreLinks (record s { network = n })) there
+    (more_links s1 q (moved_item first.item) net.given net.registers proper few (subst Passes (sym now) on.passes) (subst (λ k. IsTrue (room_out net q k)) (sym prio) needs.3)
+    (fewer_links s p packet proper (few_prio packet passes) needs.1 are))
+
+answer_links : (s : Seen) (p : PortRef) (packet response : List ℕ) → AreProper s.network.links → Passes packet → Needs s.network (ByDevice (Answer p packet response)) → AreLinks s → AreLinks (seen_line s (Stepped (ByDevice (Answer p packet response))))
+answer_links s p packet response proper passes needs are =
+    let s1 : Seen = record s { network = without_first s.network p (prio_of packet) } in
+    more_links s1 p (item_of s.network p response) (s.network.given + 1) (with_device s.network.registers p.node (device_after p.port (request_of packet))) proper (few_prio response needs.3) needs.3 needs.4
+    (fewer_links s p packet proper (few_prio packet passes) needs.0 are)
+
+device_keeps : (s : Seen) (step : DeviceStep) → IsGood s → Needs s.network (ByDevice step) → IsKept s (Stepped (ByDevice step) ∷ [])
+device_keeps s (Move p q packet) good needs =
+    step_keeps s (ByDevice (Move p q packet)) good needs (move_links s p q packet good.proper (passes_first s good p packet needs.1) needs) refl
+device_keeps s (Drop p packet) good needs =
+    step_keeps s (ByDevice (Drop p packet)) good needs (fewer_links s p packet good.proper (few_prio packet (passes_first s good p packet needs.0)) needs.0) refl
+device_keeps s (Answer p packet response) good needs =
+    step_keeps s (ByDevice (Answer p packet response)) good needs (answer_links s p packet response good.proper (passes_first s good p packet needs.0) needs) refl
 
 -- ---- parts
 
@@ -179,6 +202,7 @@ part_keeps {s} good (Lacks lack is) = kept_by is (record { legal = refl; good = 
 part_keeps {s} good (Ends is) = kept_by is (record { legal = refl; good = good })
 part_keeps {s} good (Names number q e found is) = kept_by is (record { legal = refl; good = good })
 part_keeps {s} good (Steps step needs few is) = kept_by is (node_keeps s step good needs few)
+part_keeps {s} good (Serves step needs is) = kept_by is (device_keeps s step good needs)
 part_keeps {s} good (Turns p q n peer none is) = kept_by is (turns_keep s p q n good peer none)
 part_keeps {s} good (Delivers p q n peer none has is) = kept_by is (delivers_keep s p q n good peer none has)
 part_keeps {s} good (Fires p q peer none silent is) = kept_by is (fires_keep s p q good peer none silent)

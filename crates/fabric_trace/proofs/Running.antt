@@ -1,5 +1,5 @@
 -- Blocks and runs are made of parts; what a script sets up is good.
-use Rattle.std.proofs.Common.{◌≡◌, ◌⊎◌, inl, inr, ℕ, ◌<◌, ◌&&◌, ◌++◌, Bool, true, false, List, [], ◌∷◌, get_or, Option, Some, None, MatchBool, refl, sym, ap, ◌∙◌, subst, arith, if◌then◌else◌}
+use Rattle.std.proofs.Common.{◌≡◌, ◌⊎◌, inl, inr, ℕ, ◌<◌, ◌&&◌, ◌++◌, Bool, true, false, List, [], ◌∷◌, Option, Some, None, MatchBool, refl, sym, ap, ◌∙◌, subst, arith, if◌then◌else◌}
 use Rattle.std.specs.List.{AllByRecursion}
 use Rattle.link_model.specs.declared.event.Event.{Event}
 use Rattle.rio_packets.specs.Fields.{prio_of}
@@ -32,7 +32,7 @@ use Rattle.fabric_trace.specs.Blocks.{takes, Leaves, port_at_side, lines_of, pum
 use Rattle.fabric_trace.specs.Runs.{has_block, Follows, BlockThen, Names as NamesLast, RunsFrom}
 use Rattle.fabric_trace.specs.Parts.{Begins, Lacks, Ends, Names, Steps, Turns, Delivers, Fires, Made, Done, Then}
 use Rattle.fabric_trace.proofs.Folding.{seen-append, lines-append}
-use Rattle.fabric_trace.proofs.Keeping.{IsGood, good_by_priority, made_keeps}
+use Rattle.fabric_trace.proofs.Keeping.{few_prio, IsGood, good_by_priority, made_keeps}
 use Rattle.fabric_trace.proofs.Making.{Reaches, at_is, one_part, made-append, made_by, sent_round, delivery_round, pump_reaches, fire_reaches, deliver_reaches}
 use Rattle.fabric_trace.proofs.Walks.{peers_round}
 
@@ -199,9 +199,6 @@ acts_reach (act ∷ acts) s a b good none peers =
     (λ m still is. subst (λ (x : LinkState). Reaches t a b (lines_of a b (acts_notes (At x) acts)) (goes (At x) acts)) is (acts_reach acts t a b kept.good still there)))
 
 -- ---- blocks
-
-few_prio : (packet : List ℕ) → Passes packet → prio_of packet < 4
-few_prio packet is = let second : get_or packet 1 0 < 256 = is.range 1 0 (omega (arith, is.least)) in omega (arith, second)
 
 takes_made : (s : Seen) (node : ℕ) (packet : List ℕ) → IsEndpoint s.network node → Passes packet → Made s (takes s node packet)
 takes_made s node packet endpoint passes = by_room (room_out s.network (port_of node) (prio_of packet)) refl

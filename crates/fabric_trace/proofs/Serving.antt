@@ -1,9 +1,10 @@
 -- Links of other ports, and what edits and steps at nodes make of a link.
-use Rattle.std.proofs.Common.{◌≡◌, ℕ, ◌<◌, ◌==◌, ◌++◌, Bool, true, false, List, [], ◌∷◌, filter, length, drop, take, slice_set, Option, Some, None, unwrap_or, refl, sym, ap, ◌∙◌, subst, arith, cond, if◌then◌else◌, length-append}
+use Rattle.std.proofs.Common.{◌≡◌, ℕ, ◌<◌, ◌==◌, ◌++◌, Bool, true, false, List, [], ◌∷◌, filter, length, drop, take, slice_set, Option, Some, None, unwrap_or, IsTrue, refl, sym, ap, ◌∙◌, subst, arith, cond, if◌then◌else◌, length-append}
 use Rattle.std.proofs.lemmas.Bool.{ltb-true}
 use Rattle.std.proofs.lemmas.List.{length-map}
 use Rattle.rio_chars.specs.declared.chars.Char.{Char}
 use Rattle.rio_packets.specs.Fields.{prio_of}
+use Rattle.rio_packets.specs.LinkForm.{Passes}
 use Rattle.link_buffers.specs.Queues.{Buffered, list_at, appended, popped}
 use Rattle.link_buffers.proofs.PriorityLaws.{Covers-take, packets_of-appended, lists_without-appended}
 use Rattle.link_buffers.proofs.StoreLemmas.{IsInStore-popped}
@@ -19,14 +20,14 @@ use Rattle.link_wires.specs.declared.edits.Edit.{Edit}
 use Rattle.link_machine.specs.Queues.{Queues, queues_round}
 use Rattle.link_machine.proofs.Machine.{round_keeps}
 use Rattle.fabric_script.specs.declared.ports.PortRef.{PortRef}
-use Rattle.fabric_model.specs.Network.{Item, Network, same_port, peer_in, port_of, with_lane, first_packet, to_send}
-use Rattle.fabric_model.specs.Steps.{Take, Leave, AtNode, Needs, behind_first}
+use Rattle.maint_registers.specs.Devices.{Device}
+use Rattle.fabric_model.specs.Network.{Item, Network, same_port, peer_in, with_lane, first_packet, to_send, room_out}
+use Rattle.fabric_model.specs.Steps.{behind_first, without_first, with_waiting}
 use Rattle.fabric_model.specs.Laws.Proper.{AreProper}
 use Rattle.fabric_model.proofs.Peers.{ArePeers, port_is, apart_back, peer_back, same_port-refl, unlinked_apart}
 use Rattle.fabric_trace.specs.Views.{packets_in, lists_in, queue}
 use Rattle.fabric_trace.specs.Known.{Wire, Seen, with_wire, port_at, kept_of, wire_state, link_at}
-use Rattle.fabric_trace.specs.Fold.{changed, edited_by, seen_line}
-use Rattle.fabric_trace.specs.Lines.{Stepped}
+use Rattle.fabric_trace.specs.Fold.{changed, edited_by}
 use Rattle.fabric_trace.specs.Links.{queues_in, IsKept, IsLink, AreLinks}
 use Rattle.fabric_trace.proofs.Lanes.{packets-append, behind_is, lane_at, lists_set, lane_other}
 use Rattle.fabric_trace.proofs.Walks.{AreSame}
@@ -175,21 +176,26 @@ queue_length net p r few =
     let both = length-append (filter (λ (item : Item). prio_of item.now == r) (net.lent p)) (net.waiting p r) in
     omega (arith, at, packets, both)
 
-pub taken_link : (s : Seen) (n : ℕ) (packet : List ℕ) (b : PortRef) → prio_of packet < 4 → Needs s.network (AtNode (Take n packet)) → ArePeers s.network.links (port_of n) b
-    → IsLink s (port_of n) b → IsLink (seen_line s (Stepped (AtNode (Take n packet)))) (port_of n) b
-taken_link s n packet b few needs peers is =
-    let c = port_of n in
+-- a network with one more item that waits at a port, whatever was given out and the registers are
+abbrev pub with_more : Network → PortRef → Item → ℕ → List Device → Network
+with_more net c item given devices =
+    record (with_waiting net c (prio_of item.now) (item ∷ [])) { given = given; registers = devices }
+
+-- the link of that port
+more_link : (s : Seen) (c : PortRef) (item : Item) (given : ℕ) (devices : List Device) (b : PortRef) → prio_of item.now < 4 → Passes item.now → IsTrue (room_out s.network c (prio_of item.now)) → ArePeers s.network.links c b
+    → IsLink s c b → IsLink (record s { network = with_more s.network c item given devices }) c b
+more_link s c item given devices b few passes fits_in peers is =
+    let packet = item.now in
     let r = prio_of packet in
     let net = s.network in
-    let t = seen_line s (Stepped (AtNode (Take n packet))) in
+    let t : Seen = record s { network = with_more s.network c item given devices } in
     let l = link_at s c b in
-    let item : Item = record { number = net.given; port = c; taken = packet; now = packet } in
     let next = record l.a { queued = appended l.a.queued r packet } in
     let m = record l { a = next } in
     let prios = take (distance (oldest_of l.a.output) (expected_of l.b.input)) (prios_of l.a.output) in
     let covers = Covers-take (distance (oldest_of l.a.output) (expected_of l.b.input)) (prios_of l.a.output) l.a.queued is.sound.port_a.covered in
     let within : r < length l.a.queued = omega (arith, few) in
-    let room : length (list_at l.a.queued r) < 16 = (let fits = ltb-true (to_send net c r) 16 needs.2 in let counts = queue_length net c r few in omega (arith, fits, counts)) in
+    let room : length (list_at l.a.queued r) < 16 = (let fits = ltb-true (to_send net c r) 16 fits_in in let counts = queue_length net c r few in omega (arith, fits, counts)) in
     let waits : lists_in (with_lane net.waiting c r (net.waiting c r ++ item ∷ []) c) ≡ appended (lists_in (net.waiting c)) r packet =
     lists_set net.waiting c r (net.waiting c r ++ item ∷ []) few
     ∙ ap (slice_set (lists_in (net.waiting c)) r) (packets-append (net.waiting c r) (item ∷ []) ∙ ap (λ (x : List (List ℕ)). x ++ packet ∷ []) (sym (lane_at (net.waiting c) r few))) in
@@ -197,7 +203,7 @@ taken_link s n packet b few needs peers is =
     let waiting_a = waits ∙ ap (λ (q : Queues). appended q.waiting_a r packet) is.stands ∙ sym (lists_without-appended prios l.a.queued r packet covers within) in
     let waiting_b = ap lists_in (lane_other net.waiting c r (net.waiting c r ++ item ∷ []) b (apart_back c b peers.apart)) ∙ ap (λ (q : Queues). q.waiting_b) is.stands in
     is_link t c b m (record {
-      port_a = put_port l.a packet few needs.1 room is.sound.port_a;
+      port_a = put_port l.a packet few passes room is.sound.port_a;
       port_b = is.sound.port_b;
       sound = put_keeps l.a l.b l.wire_a.kept l.wire_b.kept r packet is.sound.port_a.covered within is.sound.sound;
     })
@@ -221,20 +227,20 @@ some_first : (items : List Item) (packet : List ℕ) → first_packet items ≡ 
 some_first [] packet is = absurd cc
 some_first (item ∷ items) packet is = omega arith
 
-pub left_link : (s : Seen) (n : ℕ) (packet : List ℕ) (b : PortRef) → prio_of packet < 4 → Needs s.network (AtNode (Leave n packet)) → ArePeers s.network.links (port_of n) b
-    → IsLink s (port_of n) b → IsLink (seen_line s (Stepped (AtNode (Leave n packet)))) (port_of n) b
-left_link s n packet b few needs peers is =
-    let c = port_of n in
+-- the link of a port without the first packet that it has received
+fewer_link : (s : Seen) (c : PortRef) (packet : List ℕ) (b : PortRef) → prio_of packet < 4 → first_packet (s.network.received c (prio_of packet)) ≡ Some packet → ArePeers s.network.links c b
+    → IsLink s c b → IsLink (record s { network = without_first s.network c (prio_of packet) }) c b
+fewer_link s c packet b few first peers is =
     let r = prio_of packet in
     let net = s.network in
-    let t = seen_line s (Stepped (AtNode (Leave n packet))) in
+    let t : Seen = record s { network = without_first s.network c (prio_of packet) } in
     let l = link_at s c b in
     let lists = l.a.received.lists in
     let received : Buffered = record { lists = popped lists r; buffers = net.buffers c } in
     let next = record l.a { received = received } in
     let m = record l { a = next } in
     let lane = lane_at (net.received c) r few in
-    let some : 0 < length (list_at lists r) = subst (λ (x : List (List ℕ)). 0 < length x) (sym lane) (some_first (net.received c r) packet needs.1) in
+    let some : 0 < length (list_at lists r) = subst (λ (x : List (List ℕ)). 0 < length x) (sym lane) (some_first (net.received c r) packet first) in
     let leaves : lists_in (with_lane net.received c r (behind_first (net.received c r)) c) ≡ popped lists r =
     lists_set net.received c r (behind_first (net.received c r)) few ∙ ap (slice_set lists r) (behind_is (net.received c r) ∙ ap (drop 1) (sym lane)) in
     let others = ap lists_in (lane_other net.received c r (behind_first (net.received c r)) b (apart_back c b peers.apart)) in
@@ -258,3 +264,27 @@ left_link s n packet b few needs peers is =
       wire_b = refl;
     })
     is.kept_a is.kept_b
+
+-- ---- all links after a step
+
+pub fewer_links : (s : Seen) (c : PortRef) (packet : List ℕ) → AreProper s.network.links → prio_of packet < 4 → first_packet (s.network.received c (prio_of packet)) ≡ Some packet → AreLinks s
+    → AreLinks (record s { network = without_first s.network c (prio_of packet) })
+fewer_links s c packet proper few first are =
+    by_port s (record s { network = without_first s.network c (prio_of packet) }) c proper refl
+    (λ b peers is. fewer_link s c packet b few first peers is)
+    (λ d apart. record {
+      lists = record { received = lane_other s.network.received c (prio_of packet) _ d apart; waiting = refl; lent = refl; buffers = refl };
+      wire = refl;
+      half = refl;
+    }) are
+
+pub more_links : (s : Seen) (c : PortRef) (item : Item) (given : ℕ) (devices : List Device) → AreProper s.network.links → prio_of item.now < 4 → Passes item.now → IsTrue (room_out s.network c (prio_of item.now)) → AreLinks s
+    → AreLinks (record s { network = with_more s.network c item given devices })
+more_links s c item given devices proper few passes room are =
+    by_port s (record s { network = with_more s.network c item given devices }) c proper refl
+    (λ b peers is. more_link s c item given devices b few passes room peers is)
+    (λ d apart. record {
+      lists = record { received = refl; waiting = lane_other s.network.waiting c (prio_of item.now) _ d apart; lent = refl; buffers = refl };
+      wire = refl;
+      half = refl;
+    }) are

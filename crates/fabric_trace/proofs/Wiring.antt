@@ -21,7 +21,7 @@ use Rattle.fabric_trace.specs.Lines.{Sign, Sent, Got, Fired, TraceLine, Begun, S
 use Rattle.fabric_trace.specs.Known.{Wire, Seen, with_wire, peer_of, link_at}
 use Rattle.fabric_trace.specs.Fold.{edit_of, changed, edited_by, wire_sent, taken_from, got_from, silenced, fired_from, signed, seen_line, seen}
 use Rattle.fabric_trace.specs.Blocks.{lines_of}
-use Rattle.fabric_trace.specs.Parts.{Part, Begins, Lacks, Ends, Names, Steps, Turns, Delivers, Fires, Made, Done, Then}
+use Rattle.fabric_trace.specs.Parts.{Part, Begins, Lacks, Ends, Names, Steps, Serves, Turns, Delivers, Fires, Made, Done, Then}
 use Rattle.fabric_trace.specs.Wires.{WireChars, with_chars, edited_chars, taken_chars, signed_chars, on_wires, WireFold}
 use Rattle.fabric_trace.proofs.Folding.{network_is}
 use Rattle.fabric_trace.proofs.Keeping.{IsGood, part_keeps}
@@ -162,6 +162,7 @@ part_fold {s} links same good (Lacks lack is) = subst (WireFold links (chars_of 
 part_fold {s} links same good (Ends is) = subst (WireFold links (chars_of s)) (sym is) (tt, tt)
 part_fold {s} links same good (Names number q e found is) = subst (WireFold links (chars_of s)) (sym is) (tt, tt)
 part_fold {s} links same good (Steps step needs few is) = subst (WireFold links (chars_of s)) (sym is) (tt, tt)
+part_fold {s} links same good (Serves step needs is) = subst (WireFold links (chars_of s)) (sym is) (tt, tt)
 part_fold {s} links same good (Turns p q n peer none is) =
     subst (WireFold links (chars_of s)) (sym is) (quiet (lines_of p q (pump_notes A n (link_at s p q))) links (chars_of s) (sent_quiet p q A (bursts n (link_at s p q).a).chars))
 part_fold {s} links same good (Delivers p q n peer none has is) =

@@ -7,7 +7,7 @@ use Rattle.link_watch.specs.declared.side.Side.TheVariants.{A}
 use Rattle.link_machine.specs.Calls.{has_chars, pump_notes, delivery_notes, is_silent, time_out_notes}
 use Rattle.fabric_script.specs.declared.ports.PortRef.{PortRef}
 use Rattle.fabric_script.specs.declared.lines.Line.{Line}
-use Rattle.fabric_model.specs.Steps.{NodeStep, Take, Leave, AtNode, Needs}
+use Rattle.fabric_model.specs.Steps.{NodeStep, Take, Leave, DeviceStep, AtNode, ByDevice, Needs}
 use Rattle.fabric_trace.specs.Lines.{Lack, TraceLine, Begun, Stepped, Lacked, Ended, Undetected}
 use Rattle.fabric_trace.specs.Known.{Seen, peer_of, link_at}
 use Rattle.fabric_trace.specs.Fold.{seen}
@@ -29,9 +29,12 @@ pub data Part (s : Seen) (lines : List TraceLine) : Type 0 where
   Names : (number : ℕ) (q : PortRef) (e : Event)
       → s.unfaithful ≡ Some (record { port = q; event = e }) → lines ≡ Undetected number q e ∷ []
       → Part s lines
-  -- a step at a node
+  -- a step at an endpoint
   Steps : (step : NodeStep) → Needs s.network (AtNode step) → prio_of (packet_of step) < 4
       → lines ≡ Stepped (AtNode step) ∷ [] → Part s lines
+  -- a step of a device
+  Serves : (step : DeviceStep) → Needs s.network (ByDevice step)
+      → lines ≡ Stepped (ByDevice step) ∷ [] → Part s lines
   -- turns of a port
   Turns : (p q : PortRef) (n : ℕ) → peer_of s p ≡ Some q → s.unfaithful ≡ None
       → lines ≡ lines_of p q (pump_notes A n (link_at s p q)) → Part s lines
