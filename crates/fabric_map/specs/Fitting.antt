@@ -8,6 +8,7 @@ use Rattle.fabric_map.specs.Routes.{Registers}
 pub record Fits (topology : Topology) (registers : Registers) : Type 0 where
   pub devices : (node : ℕ) → node < topology.nodes → IsDevice (registers node)
   pub ids : (node : ℕ) → node < topology.nodes → (registers node).base_id < 256
+  pub locks : (node : ℕ) → node < topology.nodes → (registers node).lock < 65536
   pub endpoints : (node : ℕ) → node < topology.nodes → topology.switch_ports node ≡ None
       → is_switch (registers node) ≡ false
   pub switches : (node ports : ℕ) → node < topology.nodes

@@ -1,6 +1,7 @@
 //! The types of a map.
 
-ghost use Rattle.std.specs.Prelude.{◌≡◌};
+ghost use Rattle.std.specs.Prelude.{◌≡◌, ◌<◌, [], length};
+ghost use Rattle.fabric_map.specs.Walked.{onward};
 
 use arrayvec::ArrayVec;
 use std::marker::Model;
@@ -26,6 +27,37 @@ impl Path {
         ensures { result ≡ items.items }
     {
         Path { items }
+    }
+
+    /// The path of the host.
+    pub fn of_host() -> Path
+        ensures { result ≡ [] }
+    {
+        Path {
+            items: ArrayVec::new(),
+        }
+    }
+
+    /// A path of the same ports.
+    pub fn copied(&self) -> Path
+        ensures { result ≡ self.now }
+    {
+        let ports = &self.items;
+        let mut items = ArrayVec::new();
+        match items.try_extend_from_slice(ports.as_slice()) {
+            Ok(()) => Path { items },
+            Err(_) => unreachable!(),
+        }
+    }
+
+    /// The path and one port more.
+    pub fn onward(&self, port: u8) -> Path
+        requires { length self.now < 64 }
+        ensures { result ≡ onward self.now port }
+    {
+        let mut path = self.copied();
+        path.items.push(port);
+        path
     }
 
     /// The ports of the path.

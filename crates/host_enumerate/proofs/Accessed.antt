@@ -18,12 +18,14 @@ pub record Keeps (before after : Device) : Type 0 where
   pub same : IsSameDevice before after
   pub device : IsDevice before → IsDevice after
   pub id : before.base_id < 256 → after.base_id < 256
+  pub lock : before.lock < 65536 → after.lock < 65536
 
 keeps_itself : (device : Device) → Keeps device device
 keeps_itself device = record {
   same = record { kind = refl; ports = refl; linked = refl };
   device = λ is. is;
   id = λ is. is;
+  lock = λ is. is;
 }
 
 -- what holds of one device and of any other holds of the device under a number
@@ -47,6 +49,7 @@ pub fits-with : (topology : Topology) (registers : Registers) (node : ℕ) (devi
 fits-with topology registers node device fits keeps = record {
   devices = λ other inside. (kept other).device (fits.devices other inside);
   ids = λ other inside. (kept other).id (fits.ids other inside);
+  locks = λ other inside. (kept other).lock (fits.locks other inside);
   endpoints = λ other inside is. is_switch-same (registers other) (after other) (kept other).same
       ∙ fits.endpoints other inside is;
   switches = λ other ports inside is. is_switch-same (registers other) (after other)
@@ -169,7 +172,8 @@ module _ (devices : List Device) (links : List (PortRef × PortRef)) (host : ℕ
     (at : PortRef) (access : Access) (before after : Device) (inside : at.node < length devices)
     (read : before ≡ slice_index_or devices at.node before)
     (becomes : after ≡ (answered before at.port access).device)
-    (same : IsSameDevice before after) (device : IsDevice after) (id : after.base_id < 256) where
+    (same : IsSameDevice before after) (device : IsDevice after) (id : after.base_id < 256)
+    (lock : after.lock < 65536) where
   becomes_so : after ≡ (answered (registers_of devices at.node) at.port access).device
   becomes_so =
       becomes ∙ ap (λ d. (answered d at.port access).device)
@@ -177,7 +181,7 @@ module _ (devices : List Device) (links : List (PortRef × PortRef)) (host : ℕ
 
   keeps : Keeps (registers_of devices at.node) after
   keeps = subst (λ d. Keeps d after) (sym (registers_of-read devices at.node before inside read))
-      (record { same = same; device = λ _. device; id = λ _. id })
+      (record { same = same; device = λ _. device; id = λ _. id; lock = λ _. lock })
 
   -- the registers after an access
   pub accessed-registers : registers_of (slice_set devices at.node after)

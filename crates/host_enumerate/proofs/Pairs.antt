@@ -104,6 +104,8 @@ pair-fits = record {
   devices = both (λ node. IsDevice (registers_of pair_devices node)) (new_endpoint-device 5)
       (new_endpoint-device 255);
   ids = both (λ node. (registers_of pair_devices node).base_id < 256) (omega arith) (omega arith);
+  locks = both (λ node. (registers_of pair_devices node).lock < 65536) (omega arith)
+      (omega arith);
   endpoints = both (λ node. (topology_of pair_devices pair_links 0).switch_ports node ≡ None
       → is_switch (registers_of pair_devices node) ≡ false) (λ _. refl) (λ _. refl);
   switches = λ node ports inside is. both

@@ -106,6 +106,7 @@ pub(crate) fn respond(device: &mut Registers, port: u8, access: Access) -> Answe
     ensures same { IsSameDevice device.old device.new }
     ensures device { IsDevice device.new }
     ensures id { device.new.base_id < 256 }
+    ensures lock { device.new.lock < 2 ^ 16 }
 {
     let answer = match access {
         Access::Read(offset) => match device.read(offset, port) {
@@ -121,6 +122,7 @@ pub(crate) fn respond(device: &mut Registers, port: u8, access: Access) -> Answe
         }
     };
     prove!(device.base_id() <= u8::MAX);
+    prove!(device.lock() <= u16::MAX);
     prove!(device.ports() <= 16);
     answer
 }

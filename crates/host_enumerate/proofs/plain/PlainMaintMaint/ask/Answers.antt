@@ -17,7 +17,7 @@ returns-clause-registers c at is =
     (port_at c.args.self.now.host 0) c.in-Some.at c.requires.whole.0
     (sym c.walk.ensures ∙ c.in-Some.is))
     c.index_mut.ensures.value c.respond.ensures.becomes c.respond.ensures.same
-    c.respond.ensures.device c.respond.ensures.id
+    c.respond.ensures.device c.respond.ensures.id c.respond.ensures.lock
     ∙ same
   where
     same : after_access (registers_of c.args.self.now.devices.items) c.in-Some.at c.args.access
@@ -35,7 +35,7 @@ returns-clause-topology c =
     (port_at c.args.self.now.host 0) c.in-Some.at c.requires.whole.0
     (sym c.walk.ensures ∙ c.in-Some.is))
     c.index_mut.ensures.value c.respond.ensures.becomes c.respond.ensures.same
-    c.respond.ensures.device c.respond.ensures.id
+    c.respond.ensures.device c.respond.ensures.id c.respond.ensures.lock
 
 pub returns-clause-whole : goal.returns-clause-whole
 returns-clause-whole c =
@@ -46,4 +46,4 @@ returns-clause-whole c =
     (port_at c.args.self.now.host 0) c.in-Some.at c.requires.whole.0
     (sym c.walk.ensures ∙ c.in-Some.is))
     c.index_mut.ensures.value c.respond.ensures.becomes c.respond.ensures.same
-    c.respond.ensures.device c.respond.ensures.id c.requires.whole
+    c.respond.ensures.device c.respond.ensures.id c.respond.ensures.lock c.requires.whole

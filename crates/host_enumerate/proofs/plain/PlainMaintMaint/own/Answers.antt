@@ -8,7 +8,7 @@ returns-clause-registers c =
     c.args.self.now.host (port_at c.args.self.now.host 0) c.args.access
     c.index_mut.result.now c.respond.new.device c.requires.whole.0.host
     c.index_mut.ensures.value c.respond.ensures.becomes
-    c.respond.ensures.same c.respond.ensures.device c.respond.ensures.id
+    c.respond.ensures.same c.respond.ensures.device c.respond.ensures.id c.respond.ensures.lock
 
 pub returns-clause-topology : goal.returns-clause-topology
 returns-clause-topology c =
@@ -16,7 +16,7 @@ returns-clause-topology c =
     c.args.self.now.host (port_at c.args.self.now.host 0) c.args.access
     c.index_mut.result.now c.respond.new.device c.requires.whole.0.host
     c.index_mut.ensures.value c.respond.ensures.becomes
-    c.respond.ensures.same c.respond.ensures.device c.respond.ensures.id
+    c.respond.ensures.same c.respond.ensures.device c.respond.ensures.id c.respond.ensures.lock
 
 pub returns-clause-whole : goal.returns-clause-whole
 returns-clause-whole c =
@@ -24,4 +24,4 @@ returns-clause-whole c =
     c.args.self.now.host (port_at c.args.self.now.host 0) c.args.access
     c.index_mut.result.now c.respond.new.device c.requires.whole.0.host
     c.index_mut.ensures.value c.respond.ensures.becomes
-    c.respond.ensures.same c.respond.ensures.device c.respond.ensures.id c.requires.whole
+    c.respond.ensures.same c.respond.ensures.device c.respond.ensures.id c.respond.ensures.lock c.requires.whole
