@@ -29,6 +29,6 @@ pub by_tables : (start : Network) (steps : List Step) (end : Network) → LegalF
 by_tables start steps end legal = record {
   moved = λ before later p q packet parts. (let needs = needs_of start steps end legal before later _ parts in (needs.0, needs.2));
   dropped = λ before later p packet parts. (needs_of start steps end legal before later _ parts).1;
-  answered = λ before later p packet response parts. (needs_of start steps end legal before later _ parts).1;
+  answered = λ before later p packet response parts. (let needs = needs_of start steps end legal before later _ parts in (needs.1, needs.2));
   stand = λ before later step parts other. registers_stay (after_all start before) step other;
 }

@@ -3,7 +3,7 @@ use Rattle.std.specs.Prelude.{◌≡◌, Bool, true, false, List, ◌∷◌, ◌
 use Rattle.maint_packets.specs.declared.next_hop.Next.TheVariants.{Nowhere, Port}
 use Rattle.fabric_script.specs.declared.ports.PortRef.{PortRef}
 use Rattle.fabric_model.specs.Network.{Network}
-use Rattle.fabric_model.specs.Serving.{next_at}
+use Rattle.fabric_model.specs.Serving.{next_at, response_at}
 use Rattle.fabric_model.specs.Steps.{Move, Drop, Answer, Step, ByDevice, IsForRegisters, after, after_all}
 
 abbrev pub is_answer : Step → Bool
@@ -19,10 +19,11 @@ pub record ByTables (start : Network) (steps : List Step) : Type 0 where
   pub dropped : (before later : List Step) (p : PortRef) (packet : List ℕ)
       → steps ≡ before ++ ByDevice (Drop p packet) ∷ later
       → next_at (after_all start before) p.node packet ≡ Some Nowhere
-  -- one is answered where it is for the registers
+  -- one is answered where it is for the registers, by what they give
   pub answered : (before later : List Step) (p : PortRef) (packet response : List ℕ)
       → steps ≡ before ++ ByDevice (Answer p packet response) ∷ later
       → IsForRegisters (after_all start before) p packet
+      × (response_at (after_all start before) p packet ≡ Some response)
   -- and nothing but an answer changes registers
   pub stand : (before later : List Step) (step : Step) → steps ≡ before ++ step ∷ later
       → is_answer step ≡ false
