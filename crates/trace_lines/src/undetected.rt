@@ -42,7 +42,7 @@ fn write_event<K: Sink>(outbox: &mut Outbox<K>, event: &Event)
 {
     match event {
         Event::Ctl(symbol) => write_symbol(outbox, symbol),
-        Event::Pkt(ack, packet) => write_packet(outbox, *ack, packet),
+        Event::Pkt(ack, packet) => write_packet_with_ack(outbox, *ack, packet),
         Event::Bad(_) => {}
     }
 }
@@ -64,7 +64,7 @@ fn write_symbol<K: Sink>(outbox: &mut Outbox<K>, symbol: &Symbol)
 }
 
 /// Writes a packet, behind the ackID that it came with.
-fn write_packet<K: Sink>(outbox: &mut Outbox<K>, ack: u8, packet: &Packet)
+fn write_packet_with_ack<K: Sink>(outbox: &mut Outbox<K>, ack: u8, packet: &Packet)
     ensures { Writes K.written K.faults outbox.old outbox.new (event_text (Pkt ack packet.now)) }
 {
     outbox.write(b"packet ");
