@@ -17,6 +17,9 @@ use std::test::Fail;
 /// The bytes of a packet of type 15, from one endpoint to the other.
 const FORM: [u8; 12] = [0, 15, 2, 1, 0xca, 0xfe, 0, 1, 0xa9, 0xbb, 0, 0];
 
+/// The same with no data.
+const SHORT_FORM: [u8; 8] = [0, 15, 2, 1, 0xde, 0xb2, 0, 0];
+
 const SYMBOL: [Char; 4] = [
     Char::Special(0x1c),
     Char::Data(0),
@@ -30,7 +33,9 @@ pub(crate) const FAR: PortRef = PortRef { node: 1, port: 0 };
 
 const LINES: &[u8] = b"take A 000f0201cafe0001a9bb0000\nfire A.0\nsent B.0 k1c d00 dff d16\n\
 got A.0 k1c d00 dff d16\nhold B.0 000f0201cafe0001a9bb0000\nfree A.0 000f0201cafe0001a9bb0000\n\
-leave B 000f0201cafe0001a9bb0000\nfull\nempty\nshort\nearly\nend\n";
+leave B 000f0201cafe0001a9bb0000\nmove A.0 B.0 000f0201cafe0001a9bb0000\n\
+drop B.0 000f0201cafe0001a9bb0000\nanswer B.0 000f0201cafe0001a9bb0000 000f0201deb20000\n\
+full\nempty\nshort\nearly\nend\n";
 
 const NOTES: &[u8] = b"fire A.0\nsent A.0 k1c d00 dff d16\ngot B.0 k1c d00 dff d16\n\
 hold B.0 000f0201cafe0001a9bb0000\nsent B.0 k1c d00 dff d16\ngot A.0 k1c d00 dff d16\n\
@@ -46,9 +51,14 @@ pub(crate) fn two_names(rt: &impl Abort, alloc: Global) -> Result<Vec<Name>, Fai
     Ok(vec![in alloc; first, second]?)
 }
 
-/// The packet of these bytes.
+/// The packet.
 pub(crate) fn a_packet(rt: &impl Abort) -> Packet {
-    let Ok((_, packet)) = check(&FORM) else {
+    read_packet(rt, &FORM)
+}
+
+/// The packet of these bytes.
+fn read_packet(rt: &impl Abort, form: &[u8]) -> Packet {
+    let Ok((_, packet)) = check(form) else {
         panic!(rt; "no packet");
     };
     packet
@@ -105,6 +115,7 @@ fn lines_are_those_of_a_trace(rt: HostRuntime) -> Result<(), Fail> {
     let alloc = rt.alloc();
     let names = two_names(&rt, alloc)?;
     let packet = a_packet(&rt);
+    let response = read_packet(&rt, &SHORT_FORM);
     let mut sink = MemSink::new(alloc, 512, 64, Vec::new(alloc))?;
     let mut buffer = TextBuffer::new(alloc)?;
     let mut outbox = Outbox::new(&mut buffer, &mut sink);
@@ -115,6 +126,9 @@ fn lines_are_those_of_a_trace(rt: HostRuntime) -> Result<(), Fail> {
     write_hold(&mut outbox, &names, FAR, &packet);
     write_free(&mut outbox, &names, NEAR, &packet);
     write_leave(&mut outbox, &names, 1, &packet);
+    write_move(&mut outbox, &names, NEAR, FAR, &packet);
+    write_drop(&mut outbox, &names, FAR, &packet);
+    write_answer(&mut outbox, &names, FAR, &packet, &response);
     write_full(&mut outbox);
     write_empty(&mut outbox);
     write_short(&mut outbox);

@@ -3,7 +3,7 @@ ghost use Rattle.std.specs.Prelude.{◌<◌, ◌++◌, length, codes, []};
 ghost use Rattle.rio_chars.specs.HexText.{hex_of};
 ghost use Rattle.rio_chars.specs.CharText.{spaced_chars};
 ghost use Rattle.rio_chars.specs.Written.{Writes};
-ghost use Rattle.fabric_model.specs.Steps.{Hold, Free, Linked, Take, Leave, AtNode};
+ghost use Rattle.fabric_model.specs.Steps.{Hold, Free, Linked, Take, Leave, AtNode, Move, Drop, Answer, ByDevice};
 ghost use Rattle.fabric_script.specs.Names.{name_of};
 ghost use Rattle.fabric_script.specs.Texts.{port_text};
 ghost use Rattle.fabric_trace.specs.Lines.{Sent, Got, Fired, Full, Empty, Short, Early, Stepped, Signed, Lacked, Ended};
@@ -55,6 +55,56 @@ pub fn write_leave<K: Sink>(outbox: &mut Outbox<K>, names: &[Name], node: u8, pa
     outbox.write(b"leave ");
     write_name(outbox, names, node);
     write_packet(outbox, packet);
+}
+
+/// Writes that a switch moves a packet from a port to a port. The packet is as it came.
+pub fn write_move<K: Sink>(
+    outbox: &mut Outbox<K>,
+    names: &[Name],
+    from: PortRef,
+    to: PortRef,
+    packet: &Packet,
+)
+    requires from { from.node < length names.now }
+    requires to { to.node < length names.now }
+    ensures { Writes K.written K.faults outbox.old outbox.new
+        (trace_line_text names.now (Stepped (ByDevice (Move from to packet.now))) ++ codes "\n") }
+{
+    outbox.write(b"move ");
+    write_port(outbox, names, from);
+    outbox.write(b" ");
+    write_port(outbox, names, to);
+    write_packet(outbox, packet);
+}
+
+/// Writes that a switch drops a packet, which a port received.
+pub fn write_drop<K: Sink>(outbox: &mut Outbox<K>, names: &[Name], port: PortRef, packet: &Packet)
+    requires { port.node < length names.now }
+    ensures { Writes K.written K.faults outbox.old outbox.new
+        (trace_line_text names.now (Stepped (ByDevice (Drop port packet.now))) ++ codes "\n") }
+{
+    outbox.write(b"drop ");
+    write_port(outbox, names, port);
+    write_packet(outbox, packet);
+}
+
+/// Writes that the registers of a node answer a packet, which a port received, with a response.
+pub fn write_answer<K: Sink>(
+    outbox: &mut Outbox<K>,
+    names: &[Name],
+    port: PortRef,
+    packet: &Packet,
+    response: &Packet,
+)
+    requires { port.node < length names.now }
+    ensures { Writes K.written K.faults outbox.old outbox.new (trace_line_text names.now
+        (Stepped (ByDevice (Answer port packet.now response.now))) ++ codes "\n") }
+{
+    outbox.write(b"answer ");
+    write_port(outbox, names, port);
+    outbox.write(b" ");
+    outbox.write_hex(packet.bytes());
+    write_packet(outbox, response);
 }
 
 /// Writes that a port put these characters on its wire.
