@@ -13,7 +13,6 @@ use Rattle.fabric_model.specs.Serving.{next_at}
 use Rattle.fabric_model.specs.Steps.{Hold, Free, Take, Leave, Move, Drop, Answer, Step, Linked, AtNode, ByDevice, Needs, IsForRegisters, only_first, behind_first, moved_item, without_first, item_of, after_hold, after}
 use Rattle.fabric_model.specs.Laws.History.{IsEmptyNetwork, End, Left, Dropped, Answered, same_end, taken_by, ended_by}
 use Rattle.fabric_model.specs.Laws.Holding.{Place, Received, Waiting, Over, same_place, items_at}
-use Rattle.fabric_model.specs.Laws.Leaving.{IsLoweredFrom}
 use Rattle.fabric_model.proofs.Peers.{port_is}
 use Rattle.fabric_model.proofs.Moving.{moves_on, named_goes, sent_by}
 
@@ -69,19 +68,18 @@ pub record Along (item moved : Item) : Type 0 where
   pub port : moved.port ≡ item.port
   pub taken : moved.taken ≡ item.taken
   pub passes : Passes moved.now
-  pub lowered : IsLoweredFrom item.taken item.now → IsLoweredFrom moved.taken moved.now
   pub prio : prio_of moved.now ≡ prio_of item.now
   pub dest : dest_of moved.now ≡ dest_of item.now
 
 as_is : (item : Item) → Passes item.now → Along item item
-as_is item passes = record { number = refl; port = refl; taken = refl; passes = passes; lowered = λ from. from; prio = refl; dest = refl }
+as_is item passes = record { number = refl; port = refl; taken = refl; passes = passes; prio = refl; dest = refl }
 
 pub allowed_along : (net : Network) (from to : Place) (item moved : Item) → Allowed net from to item moved → Passes item.now → Along item moved
 allowed_along net from to item moved (Crosses p q r item2 peer) passes = as_is item passes
 allowed_along net from to item moved2 (Turns p q item2 same named) passes =
     let s = sent_by net p.node item.now (Port q.port) named in
     let on = moves_on item.now passes (named_goes s.device item.now q.port s.sends) in
-    record { number = refl; port = refl; taken = refl; passes = on.passes; lowered = λ from. on.lowered item.taken from; prio = on.prio; dest = on.dest }
+    record { number = refl; port = refl; taken = refl; passes = on.passes; prio = on.prio; dest = on.dest }
 allowed_along net from to item moved (Leaves n item2 endpoint other) passes = as_is item passes
 allowed_along net from to item moved (Falls p item2 named) passes = as_is item passes
 allowed_along net from to item moved (IsHeard p item2 heard) passes = as_is item passes
@@ -128,23 +126,23 @@ abbrev pub ending : (End → List Item) → End → List Item → End → List I
 ending out end items e = out e ++ cond (same_end e end) items []
 
 module _ (net : Network) (out : End → List Item) where
-  holds_on : (q p : PortRef) (r : ℕ) (item : Item) → only_first (net.waiting p r) ≡ item ∷ [] → (place : Place) → items_at (after_hold net q (Some p) r) (λ e. out e ++ []) place ≡ put (cut (items_at net out) (Waiting p r) (behind_first (net.waiting p r))) (Received q r) item place
+  pub holds_on : (q p : PortRef) (r : ℕ) (item : Item) → only_first (net.waiting p r) ≡ item ∷ [] → (place : Place) → items_at (after_hold net q (Some p) r) (λ e. out e ++ []) place ≡ put (cut (items_at net out) (Waiting p r) (behind_first (net.waiting p r))) (Received q r) item place
   holds_on q p r item only (Received s t) = rw only refl
   holds_on q p r item only (Waiting s t) = refl
   holds_on q p r item only (Over e) = append-nil (out e)
 
-  frees_on : (p : PortRef) (packet : List ℕ) (place : Place) → items_at (after net (Linked (Free p packet))) (λ e. out e ++ []) place ≡ items_at net out place
+  pub frees_on : (p : PortRef) (packet : List ℕ) (place : Place) → items_at (after net (Linked (Free p packet))) (λ e. out e ++ []) place ≡ items_at net out place
   frees_on p packet (Received s t) = refl
   frees_on p packet (Waiting s t) = refl
   frees_on p packet (Over e) = append-nil (out e)
 
-  takes_on : (n : ℕ) (packet : List ℕ) (place : Place) → items_at (after net (AtNode (Take n packet))) (λ e. out e ++ []) place ≡ put (items_at net out) (Waiting (port_of n) (prio_of packet)) (item_of net (port_of n) packet) place
+  pub takes_on : (n : ℕ) (packet : List ℕ) (place : Place) → items_at (after net (AtNode (Take n packet))) (λ e. out e ++ []) place ≡ put (items_at net out) (Waiting (port_of n) (prio_of packet)) (item_of net (port_of n) packet) place
   takes_on n packet (Received s t) = refl
   takes_on n packet (Waiting s t) = refl
   takes_on n packet (Over e) = append-nil (out e)
 
   -- an item ends
-  ends_on : (p : PortRef) (r : ℕ) (end : End) (item : Item) → only_first (net.received p r) ≡ item ∷ [] → (place : Place) → items_at (without_first net p r) (ending out end (only_first (net.received p r))) place ≡ put (cut (items_at net out) (Received p r) (behind_first (net.received p r))) (Over end) item place
+  pub ends_on : (p : PortRef) (r : ℕ) (end : End) (item : Item) → only_first (net.received p r) ≡ item ∷ [] → (place : Place) → items_at (without_first net p r) (ending out end (only_first (net.received p r))) place ≡ put (cut (items_at net out) (Received p r) (behind_first (net.received p r))) (Over end) item place
   ends_on p r end item only (Received s t) = refl
   ends_on p r end item only (Waiting s t) = refl
   ends_on p r end item only (Over e) = rw only (go (same_end e end) refl)
@@ -153,12 +151,12 @@ module _ (net : Network) (out : End → List Item) where
       go true same = ap (λ x. out x ++ item ∷ []) (end_is e end same)
       go false apart = append-nil (out e)
 
-  turns_on : (p q : PortRef) (packet : List ℕ) (item : Item) → only_first (map moved_item (net.received p (prio_of packet))) ≡ moved_item item ∷ [] → (place : Place) → items_at (after net (ByDevice (Move p q packet))) (λ e. out e ++ []) place ≡ put (cut (items_at net out) (Received p (prio_of packet)) (behind_first (net.received p (prio_of packet)))) (Waiting q (prio_of packet)) (moved_item item) place
+  pub turns_on : (p q : PortRef) (packet : List ℕ) (item : Item) → only_first (map moved_item (net.received p (prio_of packet))) ≡ moved_item item ∷ [] → (place : Place) → items_at (after net (ByDevice (Move p q packet))) (λ e. out e ++ []) place ≡ put (cut (items_at net out) (Received p (prio_of packet)) (behind_first (net.received p (prio_of packet)))) (Waiting q (prio_of packet)) (moved_item item) place
   turns_on p q packet item only (Received s t) = refl
   turns_on p q packet item only (Waiting s t) = rw only refl
   turns_on p q packet item only (Over e) = append-nil (out e)
 
-  answers_on : (p : PortRef) (packet response : List ℕ) (place : Place) → items_at (after net (ByDevice (Answer p packet response))) (ending out Answered (only_first (net.received p (prio_of packet)))) place ≡ put (items_at (without_first net p (prio_of packet)) (ending out Answered (only_first (net.received p (prio_of packet))))) (Waiting p (prio_of response)) (item_of net p response) place
+  pub answers_on : (p : PortRef) (packet response : List ℕ) (place : Place) → items_at (after net (ByDevice (Answer p packet response))) (ending out Answered (only_first (net.received p (prio_of packet)))) place ≡ put (items_at (without_first net p (prio_of packet)) (ending out Answered (only_first (net.received p (prio_of packet))))) (Waiting p (prio_of response)) (item_of net p response) place
   answers_on p packet response (Received s t) = refl
   answers_on p packet response (Waiting s t) = refl
   answers_on p packet response (Over e) = refl

@@ -1,5 +1,5 @@
 -- In order per flow, over any list of legal steps.
-use Rattle.std.proofs.Common.{◌≡◌, ◌⊎◌, inl, inr, ℕ, zero, suc, ◌+◌, ◌-◌, ◌≤◌, ◌<◌, Bool, true, false, eqb, leb, List, [], ◌∷◌, ◌++◌, Option, Some, None, option_map, length, slice_get, sym, ap, ◌∙◌, subst, refl, cond, arith, append_assoc, append-nil}
+use Rattle.std.proofs.Common.{◌≡◌, ◌⊎◌, inl, inr, ℕ, zero, suc, ◌+◌, ◌-◌, ◌≤◌, ◌<◌, Bool, true, false, eqb, leb, List, [], ◌∷◌, ◌++◌, Option, Some, None, option_map, slice_get, sym, ap, ◌∙◌, subst, refl, cond, arith, append_assoc, append-nil}
 use Rattle.std.specs.List.{AllByRecursion}
 use Rattle.std.proofs.lemmas.Bool.{eq-eqb}
 use Rattle.rio_packets.specs.Fields.{prio_of, dest_of}
@@ -22,7 +22,7 @@ use Rattle.fabric_model.specs.Laws.Proper.{AreProper}
 use Rattle.fabric_model.proofs.Joining.{legal_parts, links_stay}
 use Rattle.fabric_model.proofs.Boards.{place_is, step_on, AllOn, all_weaker}
 use Rattle.fabric_model.proofs.Tables.{registers_stay}
-use Rattle.fabric_model.proofs.Holding.{AsTaken, Held, held_along, how_often-append}
+use Rattle.fabric_model.proofs.Holding.{slice_below, AsTaken, Held, held_along, how_often-append}
 use Rattle.fabric_model.proofs.Courses.{Chart, chart_of, course, onward, Fits, fits_left, course_ends, at_node}
 use Rattle.fabric_model.proofs.Journal.{Entry, lane, all-without, all-both, FirstAt, first_at, since}
 use Rattle.fabric_model.proofs.Order.{Some_of, some_without, some_with, some_both, first_spot, WellEntry, IsOwn, Journal, Behind, all_behind, journal-begins, journal-step, leb_of, fits_from}
@@ -107,11 +107,6 @@ ended_none n net none end (ByDevice (Answer p packet response)) =
     if_none n (same_end end Answered) (only_first (net.received p (prio_of packet))) (omega (arith, first_fewer n (net.received p (prio_of packet)), none p (prio_of packet)))
 
 -- ---- the journal along the steps
-
-slice_below : (items : List Item) (k : ℕ) (item : Item) → slice_get items k ≡ Some item → k < length items
-slice_below [] k item found = absurd (cc)
-slice_below (x ∷ items) zero item found = omega arith
-slice_below (x ∷ items) (suc k) item found = omega (arith, slice_below items k item found)
 
 -- all that stands anywhere has a lesser number than the next
 older : (net : Network) (made : List Item) (out : End → List Item) → Held net made out → AllOn (λ place item. item.number < net.given) (items_at net (λ e. []))

@@ -4,10 +4,9 @@ use Rattle.std.proofs.lemmas.Bool.{ne_eqb, eq-eqb, cases_eq}
 use Rattle.rio_packets.specs.Fields.{prio_of}
 use Rattle.rio_packets.specs.LinkForm.{Passes}
 use Rattle.fabric_model.specs.Network.{Item, Network}
-use Rattle.fabric_model.specs.Steps.{Step, item_of, after, LegalFrom}
+use Rattle.fabric_model.specs.Steps.{Step, Needs, item_of, after, LegalFrom}
 use Rattle.fabric_model.specs.Laws.History.{IsEmptyNetwork, End, taken_by, ended_by, taken, ended, WasTaken}
 use Rattle.fabric_model.specs.Laws.Holding.{Place, Waiting, same_place, items_at, how_often, StandsAt, HoldingExactly}
-use Rattle.fabric_model.specs.Laws.Leaving.{IsLoweredFrom, AsItWas}
 use Rattle.fabric_model.proofs.Joining.{carried}
 use Rattle.fabric_model.proofs.Boards.{place_is, Board, put, cut, Allowed, allowed_along, Goes, Comes, StepOn, Stays, IsTaken, IsMoved, IsAnswered, step_on, AllOn, all_weaker, AllOn-same, AllOn-put, AllOn-cut, AllOn-goes, nothing_at, AllOn-empty}
 
@@ -28,7 +27,7 @@ how_often-put n old to item place = go (same_place place to) refl
         omega (arith, how_often-append n (old to) (item ∷ []), here)
     go false apart = omega arith
 
-how_often-cut : (n : ℕ) (old : Board) (from : Place) (item : Item) (rest : List Item) → old from ≡ item ∷ rest → (place : Place) → how_often n (cut old from rest place) + cond (same_place place from) (one n item) 0 ≡ how_often n (old place)
+pub how_often-cut : (n : ℕ) (old : Board) (from : Place) (item : Item) (rest : List Item) → old from ≡ item ∷ rest → (place : Place) → how_often n (cut old from rest place) + cond (same_place place from) (one n item) 0 ≡ how_often n (old place)
 how_often-cut n old from item rest was place = go (same_place place from) refl
   where
     go : (t : Bool) → same_place place from ≡ t → how_often n (cond t rest (old place)) + cond t (one n item) 0 ≡ how_often n (old place)
@@ -129,10 +128,14 @@ slice_get-last : (xs : List Item) (x : Item) → slice_get (xs ++ x ∷ []) (len
 slice_get-last [] x = refl
 slice_get-last (y ∷ xs) x = slice_get-last xs x
 
--- the item is what was taken under its number, but for the hop count
+pub slice_below : (items : List Item) (k : ℕ) (item : Item) → slice_get items k ≡ Some item → k < length items
+slice_below [] k item found = absurd (cc)
+slice_below (x ∷ items) zero item found = omega arith
+slice_below (x ∷ items) (suc k) item found = omega (arith, slice_below items k item found)
+
+-- the item was taken under its number, and is in its link form
 pub record AsTaken (made : List Item) (item : Item) : Type 0 where
   pub passes : Passes item.now
-  pub lowered : IsLoweredFrom item.taken item.now
   pub known : slice_get made item.number ≡ Some (record item { now = item.taken })
 
 -- what holds of a network all along, with the items taken and what stands where
@@ -158,7 +161,6 @@ goes_as_taken net from to item moved made allowed was =
     λ i. Some (record { number = sym along.number i; port = sym along.port i; taken = sym along.taken i; now = sym along.taken i }) in
     record {
       passes = along.passes;
-      lowered = along.lowered was.lowered;
       known = ap (slice_get made) along.number ∙ (was.known ∙ same);
     }
 
@@ -186,12 +188,11 @@ HeldOn-comes made more net old new c held = subst (λ x. HeldOn (net.given + 1) 
     item = item_of net c.port c.packet
 
     before : AllOn (λ place. AsTaken (made ++ item_of net c.port c.packet ∷ [])) old
-    before place = all_weaker (AsTaken made) (AsTaken (made ++ item_of net c.port c.packet ∷ [])) (λ x was. record { passes = was.passes; lowered = was.lowered; known = slice_get-append made (item_of net c.port c.packet ∷ []) x.number (record x { now = x.taken }) was.known }) (old place) (held.known place)
+    before place = all_weaker (AsTaken made) (AsTaken (made ++ item_of net c.port c.packet ∷ [])) (λ x was. record { passes = was.passes; known = slice_get-append made (item_of net c.port c.packet ∷ []) x.number (record x { now = x.taken }) was.known }) (old place) (held.known place)
 
     own : AsTaken (made ++ item_of net c.port c.packet ∷ []) (item_of net c.port c.packet)
     own = record {
       passes = c.passes;
-      lowered = AsItWas;
       known = subst (λ k. slice_get (made ++ item_of net c.port c.packet ∷ []) k ≡ Some (item_of net c.port c.packet)) (sym held.counted) (slice_get-last made (item_of net c.port c.packet));
     }
 
@@ -204,7 +205,11 @@ held_on net next made more old new (IsMoved none given g) held =
 held_on net next made more old new (IsAnswered mid given g c) held =
     rw given (HeldOn-comes made more net mid new c (HeldOn-goes net.given made net old mid g held))
 
-Held-empty : (net : Network) → IsEmptyNetwork net → Held net [] (λ e. [])
+pub held_step : (net : Network) (made : List Item) (out : End → List Item) (step : Step) → Needs net step → Held net made out → Held (after net step) (made ++ taken_by net step) (λ e. out e ++ ended_by e net step)
+held_step net made out step needs held =
+    held_on net (after net step) made (taken_by net step) (items_at net out) (items_at (after net step) (λ e. out e ++ ended_by e net step)) (step_on net out step needs) held
+
+pub Held-empty : (net : Network) → IsEmptyNetwork net → Held net [] (λ e. [])
 Held-empty net empty = record {
   counted = empty.given;
   standing = record { placed = λ n below. absurd (omega (arith, empty.given)); fresh = λ n above place. ap (how_often n) (nothing_at net empty place) };
@@ -214,7 +219,7 @@ Held-empty net empty = record {
 -- along all legal steps from an empty network
 pub held_along : (start : Network) (steps : List Step) (end : Network) → IsEmptyNetwork start → LegalFrom start steps end → Held end (taken start steps) (ended start steps)
 held_along start steps end empty legal =
-    carried Held (λ net made out step needs held. held_on net (after net step) made (taken_by net step) (items_at net out) (items_at (after net step) (λ e. out e ++ ended_by e net step)) (step_on net out step needs) held) start [] (λ e. []) steps end (Held-empty start empty) legal
+    carried Held held_step start [] (λ e. []) steps end (Held-empty start empty) legal
 
 pub holding_exactly : (start : Network) (steps : List Step) (end : Network) → IsEmptyNetwork start → LegalFrom start steps end → HoldingExactly start steps end
 holding_exactly start steps end empty legal =

@@ -7,9 +7,10 @@ use Rattle.fabric_model.specs.Network.{Network, port_of}
 use Rattle.fabric_model.specs.Steps.{Take, Leave, Move, Drop, Answer, Step, Linked, AtNode, ByDevice, Needs, after, LegalFrom}
 use Rattle.fabric_model.specs.Laws.History.{IsEmptyNetwork, Left, ended_by, taken, ended, gone, WasTaken}
 use Rattle.fabric_model.specs.Laws.Holding.{Over, same_place, how_often}
-use Rattle.fabric_model.specs.Laws.Leaving.{packet_left, packets_left, IsLoweredFrom, Once, Unchanged}
+use Rattle.fabric_model.specs.Laws.Leaving.{packet_left, packets_left, moves, Once, Unchanged}
 use Rattle.fabric_model.proofs.Freeing.{packets, packets-append, packets-only_first}
-use Rattle.fabric_model.proofs.Boards.{all_weaker}
+use Rattle.fabric_model.proofs.Journal.{all-both}
+use Rattle.fabric_model.proofs.Moves.{HasMoved, moved_along}
 use Rattle.fabric_model.proofs.Holding.{AsTaken, Held, held_along}
 
 left_shown : (net : Network) (step : Step) → Needs net step → packet_left step ≡ packets (ended_by Left net step)
@@ -31,7 +32,7 @@ unchanged start steps end empty legal =
     let held = held_along start steps end empty legal in
     record {
       shown = gone_shown start steps end legal;
-      same = all_weaker (AsTaken (taken start steps)) (λ item. IsLoweredFrom item.taken item.now × WasTaken start steps item) (λ item was. (was.lowered, was.known)) (gone start steps) (held.known (Over Left));
+      same = all-both (AsTaken (taken start steps)) (HasMoved (moves start steps)) (λ item. HasMoved (moves start steps) item × WasTaken start steps item) (λ item was after. (after, was.known)) (gone start steps) (held.known (Over Left)) ((moved_along start steps end empty legal).after (Over Left));
     }
 
 at_most_one : (t : Bool) (n : ℕ) → n ≡ cond t 1 0 → n ≤ 1

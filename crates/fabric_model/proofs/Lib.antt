@@ -5,6 +5,7 @@ pub mod Peers
 pub mod Freeing
 pub mod Boards
 pub mod Holding
+pub mod Moves
 pub mod Leaving
 pub mod Moving
 pub mod Tables

@@ -16,7 +16,7 @@ use Rattle.maint_packets.specs.declared.next_hop.Next.TheVariants.{Nowhere, Regi
 use Rattle.maint_packets.specs.NextHops.{is_foreign, is_at_end, to_port, next_of, moved}
 use Rattle.fabric_model.specs.Network.{Network}
 use Rattle.fabric_model.specs.Serving.{next_at}
-use Rattle.fabric_model.specs.Laws.Leaving.{IsLoweredFrom, OnceMore}
+use Rattle.fabric_model.specs.Laws.Leaving.{MovesTo}
 
 -- what a flow knows of a packet beside its destination: whether it is of format type 8, and the hop count of a maintenance
 -- packet
@@ -38,7 +38,7 @@ closed_is message = sym (with_crc-is message)
 -- what stays of a packet that moves on
 pub record MovesOn (old new : List ℕ) : Type 0 where
   pub passes : Passes new
-  pub lowered : (taken : List ℕ) → IsLoweredFrom taken old → IsLoweredFrom taken new
+  pub once : MovesTo old new
   pub prio : prio_of new ≡ prio_of old
   pub dest : dest_of new ≡ dest_of old
   pub key : key_of new ≡ moved_key (key_of old)
@@ -56,7 +56,7 @@ module _ (old : List ℕ) (passes : Passes old) (m : is_maintenance old ≡ true
   moves_lowered : MovesOn old (lowered old)
   moves_lowered = record {
     passes = Passes-lowered old passes m hops (lowered old) (closed_is _);
-    lowered = λ taken from. OnceMore from is_lowered;
+    once = rw m is_lowered;
     prio = ap (λ b. b / 64) (byte 1 (omega arith));
     dest = rw (byte 1 (omega arith), byte 2 (omega arith)) refl;
     key = λ i. record { eight = byte 1 (omega arith) i % 16 == 8; hop = hop_is i };
@@ -65,7 +65,7 @@ module _ (old : List ℕ) (passes : Passes old) (m : is_maintenance old ≡ true
 moves_as_is : (old : List ℕ) → Passes old → is_maintenance old ≡ false → MovesOn old old
 moves_as_is old passes other = record {
   passes = passes;
-  lowered = λ taken from. from;
+  once = rw other refl;
   prio = refl;
   dest = refl;
   key = rw other refl;

@@ -51,7 +51,8 @@ pub fn once()
         → LegalFrom start steps end → Once start steps }
 {}
 
-/// What leaves is what was taken, but for the hop count of a maintenance packet and the CRC over it.
+/// What leaves is what was taken, after as many moves as it has made: the hop count of a maintenance packet
+/// is lowered by one for each, with its CRC made again, and no other packet changes.
 pub fn unchanged()
     ensures { (start : Network) (steps : List Step) (end : Network) → IsEmptyNetwork start
         → LegalFrom start steps end → Unchanged start steps }
