@@ -12,3 +12,4 @@ pub mod Places
 pub mod Fronts
 pub mod ReadingSpelt
 pub mod Said
+pub mod Prelude

@@ -1,8 +1,7 @@
 -- The packet that the last character ended.
 use Rattle.std.proofs.Common.{◌≡◌, ℕ, ◌≤◌, Bool, true, false, Some, Result, List, length, sym, ap, ◌∙◌, subst, refl}
 use Rattle.std.specs.Prelude.{IsSome}
-use Rattle.rio_packets.specs.declared.cause.Cause.{Cause}
-use Rattle.rio_packets.specs.Carries.{checked}
+use Rattle.link_model.specs.Prelude.{Cause, checked}
 use Rattle.link_model.specs.declared.reading_kinds.Pending.{Pending}
 use Rattle.link_model.specs.Events.{checked_event}
 use Rattle.link_model.proofs.EventLaws.{event-checked}

@@ -1,10 +1,9 @@
 -- What a loop over characters keeps: the events so far and those of the rest are the events of all.
 use Rattle.std.proofs.Common.{◌≡◌, ℕ, ◌+◌, ◌<◌, ◌≤◌, List, ◌∷◌, ◌++◌, length, drop, get_or, refl, sym, ap, ◌∙◌, append_assoc, append-nil, subst, add-one, drop-cons}
 use Rattle.std.proofs.lemmas.List.{drop_all}
-use Rattle.rio_chars.specs.declared.chars.Char.{Char}
+use Rattle.link_model.specs.Prelude.{Char, placed, Place, start, step, run, place_after}
 use Rattle.link_model.specs.declared.event.Event.{Event}
-use Rattle.link_model.specs.Reading.{placed, IsReading}
-use Rattle.link_model.specs.Places.{Place, start, step, run, place_after}
+use Rattle.link_model.specs.Reading.{IsReading}
 use Rattle.link_model.proofs.PlacesLaws.{reading_exists, run-none, run-cons, place_after-none, place_after-cons}
 
 front : (i : ℕ) (cs : List Char) (d : Char) → i < length cs

@@ -1,10 +1,9 @@
 -- The events of a step as a list of at most two, and how each function of the framer comes to them.
 use Rattle.std.proofs.Common.{◌≡◌, List, [], ◌∷◌, refl}
-use Rattle.rio_chars.specs.declared.chars.Char.{Char}
+use Rattle.link_model.specs.Prelude.{Char, Place, step, telling_front}
 use Rattle.link_model.specs.declared.event.Event.{Event}
 use Rattle.link_model.specs.declared.event.Event.TheVariants.{Ctl, Pkt, Bad}
-use Rattle.link_model.specs.Places.{Place, step, AreGiven}
-use Rattle.link_model.specs.Fronts.{telling_front}
+use Rattle.link_model.specs.Places.{AreGiven}
 use Rattle.link_model.proofs.PlacesLaws.{given}
 use Rattle.link_model.proofs.FrontLaws.{front-given}
 use Rattle.rio_framer.specs.Giving.{listed, events_of, told_of, events_by, IsPaired}

@@ -1,22 +1,16 @@
 -- The parts of a run that a framer takes at once.
 use Rattle.std.proofs.Common.{◌≡◌, ℕ, suc, ◌+◌, ◌-◌, ◌<◌, ◌≤◌, Bool, true, false, Option, Some, None, List, [], ◌∷◌, ◌++◌, length, drop, if◌then◌else◌, refl, sym, ap, ◌∙◌, subst, arith, append_assoc, append-nil, length-append}
 use Rattle.std.proofs.lemmas.List.{length-map}
-use Rattle.rio_chars.specs.declared.chars.Char.{Char}
-use Rattle.rio_chars.specs.declared.chars.Char.TheVariants.{Data}
-use Rattle.rio_symbols.specs.declared.characters.Delimiter.{Delimiter}
-use Rattle.rio_symbols.specs.Delimiters.{allowed}
-use Rattle.rio_symbols.specs.Fields.{Fields}
-use Rattle.rio_symbols.specs.Spelling.{spelled}
+use Rattle.link_model.specs.Prelude.{Char, Data, Delimiter, allowed, Fields, spelled, telling_front, Place, place, step, Text, Plain, Skipped, Within, data_chars}
 use Rattle.link_model.specs.declared.event.Event.{Event}
 use Rattle.link_model.specs.declared.event.Event.TheVariants.{Ctl}
 use Rattle.link_model.specs.declared.reading_kinds.Kind.TheVariants.{Opens}
 use Rattle.link_model.specs.declared.reading_kinds.Pending.{Pending}
 use Rattle.link_model.specs.declared.reading_kinds.Pending.TheVariants.{Nothing, Opened, One, Two}
-use Rattle.link_model.specs.Fronts.{Front, front_by, telling_front}
-use Rattle.link_model.specs.Places.{Place, Step, place, opened, added, taken, finished, step_by, step}
-use Rattle.link_model.specs.Reading.{Text, Plain, Skipped, Within, ended, ends_packet}
+use Rattle.link_model.specs.Fronts.{Front, front_by}
+use Rattle.link_model.specs.Places.{Step, opened, added, taken, finished, step_by}
+use Rattle.link_model.specs.Reading.{ended, ends_packet}
 use Rattle.link_model.specs.ReadingKinds.{kind}
-use Rattle.link_model.specs.ReadingSpelt.{data_chars}
 use Rattle.link_model.proofs.ReadingSpeltLaws.{kind-data}
 use Rattle.link_model.proofs.ReadingSteps.{below}
 use Rattle.rio_framer.specs.Framing.{Framing, framing_at, framing_after, ended_of}

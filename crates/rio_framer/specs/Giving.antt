@@ -1,12 +1,10 @@
 -- The events of one character, as a list of at most two, as a value, and as an outcome of a few
 -- bytes.
 use Rattle.std.specs.Prelude.{◌≡◌, ℕ, ◌⊎◌, List, [], ◌∷◌, Option, Some, None}
-use Rattle.rio_symbols.specs.declared.stype1.TheConstants.{START_OF_PACKET, END_OF_PACKET}
-use Rattle.rio_symbols.specs.Fields.{Fields}
+use Rattle.link_model.specs.Prelude.{START_OF_PACKET, END_OF_PACKET, Fields, General}
 use Rattle.link_model.specs.declared.event.Event.{Event}
 use Rattle.link_model.specs.declared.event.Event.TheVariants.{Ctl, Pkt, Bad}
 use Rattle.link_model.specs.Events.{packet_event}
-use Rattle.rio_packets.specs.declared.cause.Cause.TheVariants.{General}
 use Rattle.rio_framer.specs.declared.events.Events.{Events}
 use Rattle.rio_framer.specs.declared.events.Told.{Told}
 use Rattle.rio_framer.specs.declared.events.Told.TheVariants as told

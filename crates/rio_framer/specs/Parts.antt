@@ -1,15 +1,11 @@
 -- A part of the characters of a run, which a framer takes at once.
 use Rattle.std.specs.Prelude.{◌≡◌, ℕ, ◌+◌, ◌<◌, ◌≤◌, List, ◌∷◌, ◌++◌, length, drop}
-use Rattle.rio_chars.specs.declared.chars.Char.{Char}
-use Rattle.link_model.specs.Fronts.{Front, telling_front}
+use Rattle.link_model.specs.Prelude.{Char, telling_front, Place, Text, Plain, Skipped, Within, Delimiter, Data}
+use Rattle.link_model.specs.Fronts.{Front}
 use Rattle.link_model.specs.declared.reading_kinds.Pending.{Pending}
 use Rattle.link_model.specs.declared.reading_kinds.Pending.TheVariants.{Nothing, Opened, One, Two}
-use Rattle.link_model.specs.Places.{Place}
-use Rattle.link_model.specs.Reading.{Text, Plain, Skipped, Within}
-use Rattle.rio_symbols.specs.declared.characters.Delimiter.{Delimiter}
 use Rattle.link_model.specs.declared.reading_kinds.Kind.TheVariants.{Opens}
 use Rattle.link_model.specs.ReadingKinds.{kind}
-use Rattle.rio_chars.specs.declared.chars.Char.TheVariants.{Data}
 use Rattle.rio_framer.specs.Framing.{Framing, framing_at, framing_after}
 use Rattle.rio_framer.specs.Giving.{told_of}
 use Rattle.rio_framer.specs.declared.events.Told.{Told}

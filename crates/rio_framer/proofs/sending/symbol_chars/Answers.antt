@@ -1,6 +1,5 @@
 use Rattle.std.proofs.Common.{refl}
-use Rattle.rio_symbols.specs.Spelling.{symbol_bytes}
-use Rattle.link_model.specs.ReadingSpelt.{symbol_chars_of}
+use Rattle.link_model.specs.Prelude.{symbol_bytes, symbol_chars_of}
 use Rattle.rio_framer.proofs.sending.symbol_chars.Goals as goal
 
 pub returns : goal.returns
