@@ -1,3 +1,4 @@
 pub mod Queues
 pub mod Rings
 pub mod Priorities
+pub mod Prelude

@@ -1,11 +1,9 @@
 //! `InOk`: packets are taken.
 ghost use Rattle.std.specs.Prelude.{◌≡◌, ◌<◌, ◌==◌};
-ghost use Rattle.rio_packets.specs.CauseNumbers.{number_of};
-ghost use Rattle.rio_packets.specs.Fields.{prio_of};
+ghost use Rattle.link_model.specs.Prelude.{number_of, prio_of, Received, packet_arrival, receives, Input, Damaged};
 ghost use Rattle.link_buffers.specs.Queues.{room_for, stored};
-ghost use Rattle.link_model.specs.Input.{Received, packet_arrival, receives, replied};
-ghost use Rattle.link_model.specs.Input.{Input};
-ghost use Rattle.link_model.specs.Input.Arrival.{Damaged, RestartFromRetry, LinkRequest};
+ghost use Rattle.link_model.specs.Input.{replied};
+ghost use Rattle.link_model.specs.Input.Arrival.{RestartFromRetry, LinkRequest};
 ghost use Rattle.link_receiver.specs.Answers.{after_packet};
 
 use crate::in_error_stopped::InErrorStopped;

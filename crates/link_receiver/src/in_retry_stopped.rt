@@ -1,9 +1,8 @@
 //! `InRetryStopped`: a packet was asked for again, and packets are dropped.
 ghost use Rattle.std.specs.Prelude.{◌≡◌, ◌<◌};
-ghost use Rattle.rio_packets.specs.CauseNumbers.{number_of};
-ghost use Rattle.link_model.specs.Input.{receives, replied, silent};
-ghost use Rattle.link_model.specs.Input.{Input};
-ghost use Rattle.link_model.specs.Input.Arrival.{Damaged, RestartFromRetry, LinkRequest};
+ghost use Rattle.link_model.specs.Prelude.{number_of, receives, Input, Damaged};
+ghost use Rattle.link_model.specs.Input.{replied, silent};
+ghost use Rattle.link_model.specs.Input.Arrival.{RestartFromRetry, LinkRequest};
 
 use crate::in_error_stopped::InErrorStopped;
 use crate::in_ok::InOk;

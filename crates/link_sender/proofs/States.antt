@@ -1,6 +1,5 @@
 -- What a state of the table knows.
-use Rattle.link_model.specs.Output.{Output}
-use Rattle.link_model.specs.Outstanding.{Outstanding, from_ack}
+use Rattle.link_model.specs.Prelude.{Output, Outstanding, from_ack}
 
 -- the outstanding packets; a sender that has failed knows of none
 abbrev pub outstanding_of : Output → Outstanding

@@ -1,11 +1,9 @@
 //! `OutErrorStopped`: the sender has to ask which packet the far port expects.
 ghost use Rattle.std.specs.Prelude.{◌≡◌, ℕ, ◌<◌, [], false, length, take, Option};
 ghost use Rattle.link_buffers.specs.Priorities.{packets_of, lists_without, Covers};
-ghost use Rattle.link_model.specs.Output.{hears, times_out, turned, turns};
-ghost use Rattle.link_model.specs.Output.{Output};
-ghost use Rattle.link_model.specs.Output.{Sends};
+ghost use Rattle.link_model.specs.Prelude.{hears, times_out, turns, Output, Sends, IsOutstanding};
+ghost use Rattle.link_model.specs.Output.{turned};
 ghost use Rattle.link_model.specs.Output.Stype0.{LinkResponse};
-ghost use Rattle.link_model.specs.Outstanding.{IsOutstanding};
 ghost use Rattle.link_sender.specs.Answers.{after_response, error_stopped};
 
 use crate::answers::{AfterResponse, OutFailed};

@@ -2,10 +2,9 @@
 ghost use Rattle.std.specs.Prelude.{◌≡◌, ℕ, [], length, take, IfSome, ◌<◌};
 ghost use Rattle.link_buffers.specs.Queues.{list_at};
 ghost use Rattle.link_buffers.specs.Priorities.{packets_of, lists_without, count_of, highest, Covers};
-ghost use Rattle.link_model.specs.Output.{Heard, hears, times_out, turns};
-ghost use Rattle.link_model.specs.Output.{Output};
+ghost use Rattle.link_model.specs.Prelude.{hears, times_out, turns, Output, IsOutstanding, from_ack};
+ghost use Rattle.link_model.specs.Output.{Heard};
 ghost use Rattle.link_model.specs.Output.Stype0.{PacketAccepted, PacketRetry, PacketNotAccepted};
-ghost use Rattle.link_model.specs.Outstanding.{IsOutstanding, from_ack};
 ghost use Rattle.link_sender.specs.Answers.{after_accepted, after_retry, after_turn, error_stopped};
 
 use crate::answers::{AfterAccepted, AfterRetry, Started};

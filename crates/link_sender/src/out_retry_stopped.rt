@@ -1,10 +1,8 @@
 //! `OutRetryStopped`: the far port asked for the oldest packet again.
 ghost use Rattle.std.specs.Prelude.{◌≡◌, ℕ, length, Option};
-ghost use Rattle.link_model.specs.Output.{hears, turned, turns};
-ghost use Rattle.link_model.specs.Output.{Output};
-ghost use Rattle.link_model.specs.Output.{Sends};
+ghost use Rattle.link_model.specs.Prelude.{hears, turns, Output, Sends, IsOutstanding};
+ghost use Rattle.link_model.specs.Output.{turned};
 ghost use Rattle.link_model.specs.Output.Stype0.{PacketAccepted, PacketRetry, PacketNotAccepted};
-ghost use Rattle.link_model.specs.Outstanding.{IsOutstanding};
 ghost use Rattle.link_sender.specs.Answers.{error_stopped};
 
 use crate::out_error_stopped::OutErrorStopped;
