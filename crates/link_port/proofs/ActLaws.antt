@@ -2,10 +2,7 @@
 use Rattle.std.proofs.Common.{◌≡◌, ℕ, Option, Some, None, List, [], IfSome, refl, sym, ap, ◌∙◌, subst, if◌then◌else◌, nat_lt, length}
 use Rattle.std.specs.Option.{option_or}
 use Rattle.std.proofs.lemmas.List.{append-nil}
-use Rattle.rio_symbols.specs.Fields.{Fields}
-use Rattle.rio_packets.specs.Carries.{carried}
-use Rattle.rio_packets.specs.declared.cause.Cause.{Cause}
-use Rattle.rio_packets.specs.declared.cause.Cause.TheVariants.{BadPacket, General}
+use Rattle.link_model.specs.Prelude.{Fields, carried, Cause, BadPacket, General}
 use Rattle.link_model.specs.declared.event.Event.{Event}
 use Rattle.link_model.specs.Events.{packet_event, packet_or_cause}
 use Rattle.rio_framer.specs.Giving.{listed, IsPaired}

@@ -1,19 +1,14 @@
 -- What a port answers is an answer, and an answer is read as itself from any place.
 use Rattle.std.proofs.Common.{◌≡◌, ℕ, ◌+◌, ◌<◌, ◌==◌, ◌&&◌, Bool, true, false, Option, Some, List, [], ◌∷◌, ◌++◌, refl, ap, ◌∙◌, if◌then◌else◌, subst, arith}
-use Rattle.rio_symbols.specs.Fields.{Fields}
-use Rattle.rio_packets.specs.CauseNumbers.{number_of}
-use Rattle.rio_packets.specs.Fields.{prio_of}
-use Rattle.rio_packets.specs.declared.cause.Cause.{Cause}
-use Rattle.rio_packets.specs.declared.cause.Cause.TheVariants.{UnexpectedAck, BadSymbol, BadPacket, BadChar, General}
+use Rattle.link_model.specs.Prelude.{Fields, number_of, prio_of, Cause, BadSymbol, BadPacket, BadChar, General, Input, Arrival, packet_arrival, symbol_arrival, receives, run, place, place_after, Text, placed, symbol_chars_of}
+use Rattle.rio_packets.specs.declared.cause.Cause.TheVariants.{UnexpectedAck}
 use Rattle.link_buffers.specs.Queues.{room_for}
 use Rattle.link_model.specs.declared.event.Event.{Event}
 use Rattle.link_model.specs.declared.event.Event.TheVariants.{Ctl, Pkt, Bad}
 use Rattle.link_model.specs.declared.reading_kinds.Pending.{Pending}
 use Rattle.link_model.specs.declared.reading_kinds.Pending.TheVariants.{Nothing}
-use Rattle.link_model.specs.Input.{Input, Arrival, packet_arrival, symbol_arrival, receives}
-use Rattle.link_model.specs.Places.{broken_off, begins_in, run, place, place_after}
-use Rattle.link_model.specs.Reading.{Text, text_after, told, ends_packet, ended, placed}
-use Rattle.link_model.specs.ReadingSpelt.{symbol_chars_of}
+use Rattle.link_model.specs.Places.{broken_off, begins_in}
+use Rattle.link_model.specs.Reading.{text_after, told, ends_packet, ended}
 use Rattle.link_model.specs.Symbols.{answer}
 use Rattle.link_model.proofs.ReadingSpeltLaws.{run-symbol_anywhere, place_after-symbol_anywhere}
 use Rattle.link_port.specs.Ports.{PortState}

@@ -1,9 +1,7 @@
 -- One character has at most one reply.
 use Rattle.std.proofs.Common.{◌≡◌, ℕ, ◌⊎◌, ◌≤◌, inl, inr, Option, Some, None, option_to_list, List, [], ◌∷◌, ◌++◌, length, refl, sym, ap, ◌∙◌, subst, arith}
-use Rattle.rio_chars.specs.declared.chars.Char.{Char}
-use Rattle.rio_symbols.specs.Fields.{Fields}
+use Rattle.link_model.specs.Prelude.{Char, Fields, Input, receives, symbol_arrival}
 use Rattle.link_model.specs.declared.event.Event.{Event}
-use Rattle.link_model.specs.Input.{Input, receives, symbol_arrival}
 use Rattle.link_model.specs.Input.Arrival.{OtherStype1}
 use Rattle.link_model.specs.Places.{AreGiven}
 use Rattle.link_model.proofs.PlacesLaws.{given}

@@ -1,10 +1,9 @@
 -- What a run of characters completes.
 use Rattle.std.proofs.Common.{◌≡◌, List, [], ◌∷◌, take, refl, sym, ap, ◌∙◌, subst}
-use Rattle.rio_chars.specs.declared.chars.Char.{Char}
+use Rattle.link_model.specs.Prelude.{Char, Place, IsBounded, telling_front}
 use Rattle.link_model.specs.declared.event.Event.{Event}
 use Rattle.link_model.specs.declared.event.Event.TheVariants.{Ctl, Pkt, Bad}
-use Rattle.link_model.specs.Places.{Place, AreGiven, IsBounded}
-use Rattle.link_model.specs.Fronts.{telling_front}
+use Rattle.link_model.specs.Places.{AreGiven}
 use Rattle.link_model.proofs.PlacesBounds.{after_all}
 use Rattle.link_model.proofs.FrontLaws.{front-place, front-given}
 use Rattle.rio_framer.specs.declared.events.Events.{Events}

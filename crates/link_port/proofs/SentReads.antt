@@ -1,18 +1,12 @@
 -- What a port sends is read as what it sent.
 use Rattle.std.proofs.Common.{◌≡◌, ℕ, ◌+◌, ◌<◌, Bool, true, false, nat_lt, if◌then◌else◌, Option, Some, None, List, map, length, slice_get, refl, ap, arith}
-use Rattle.rio_symbols.specs.Fields.{InRange}
-use Rattle.rio_packets.specs.LinkForm.{Passes}
-use Rattle.link_buffers.specs.Queues.{list_at, IsOutStore}
-use Rattle.link_buffers.specs.Priorities.{highest}
+use Rattle.link_model.specs.Prelude.{InRange, Passes, Plain, run, place_after, Output, Sends, turns, Outstanding, window, start_of_packet, end_of_packet, restart_from_retry, link_request}
+use Rattle.link_buffers.specs.Prelude.{list_at, IsOutStore, highest}
 use Rattle.link_buffers.proofs.QueueLemmas.{Passes-at}
 use Rattle.link_buffers.proofs.PriorityLaws.{highest_below-some, IsOutStore-lists_without}
 use Rattle.link_model.specs.declared.event.Event.{Event}
-use Rattle.link_model.specs.Reading.{Plain}
-use Rattle.link_model.specs.Places.{run, place_after}
-use Rattle.link_model.specs.Output.{Output, Sends, turns, started, startable}
-use Rattle.link_model.specs.Outstanding.{Outstanding}
-use Rattle.link_model.specs.Window.{window}
-use Rattle.link_model.specs.Symbols.{start_of_packet, end_of_packet, restart_from_retry, link_request, status_with}
+use Rattle.link_model.specs.Output.{started, startable}
+use Rattle.link_model.specs.Symbols.{status_with}
 use Rattle.link_model.proofs.ReadingSpeltLaws.{run-symbol, place_after-symbol, run-packet, place_after-packet}
 use Rattle.link_port.specs.States.{prios_of}
 use Rattle.link_port.specs.Ports.{PortState, IsPort}

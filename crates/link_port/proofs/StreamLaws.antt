@@ -2,12 +2,10 @@
 use Rattle.std.proofs.Common.{◌≡◌, ℕ, suc, Option, Some, None, option_to_list, List, [], ◌∷◌, ◌++◌, map, refl, sym, ap, ◌∙◌, append_assoc, append-nil}
 use Rattle.std.specs.Option.{option_or}
 use Rattle.std.proofs.lemmas.List.{map-append}
-use Rattle.rio_chars.specs.declared.chars.Char.{Char}
+use Rattle.link_model.specs.Prelude.{Char, Place, step, run, place_after, placed, said}
 use Rattle.link_model.specs.declared.event.Event.{Event}
 use Rattle.link_model.specs.declared.event.Event.TheVariants.{Ctl, Pkt, Bad}
-use Rattle.link_model.specs.Places.{Place, AreGiven, step, run, place_after}
-use Rattle.link_model.specs.Reading.{placed}
-use Rattle.link_model.specs.Said.{said}
+use Rattle.link_model.specs.Places.{AreGiven}
 use Rattle.link_model.proofs.PlacesLaws.{given}
 use Rattle.link_port.specs.Ports.{PortState}
 use Rattle.link_port.specs.Steps.{Acted, acts, acts_all, joined, takes, read, after_reading, after_hearing}

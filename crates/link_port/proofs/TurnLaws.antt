@@ -1,7 +1,6 @@
 -- What a turn sends.
 use Rattle.std.proofs.Common.{◌≡◌, ℕ, List, slice_get, refl, sym, ap, ◌∙◌}
-use Rattle.link_buffers.specs.Queues.{list_at}
-use Rattle.link_buffers.specs.Priorities.{lists_without, highest}
+use Rattle.link_buffers.specs.Prelude.{list_at, lists_without, highest}
 use Rattle.link_buffers.proofs.PriorityLists.{slice_get-lists_without}
 use Rattle.link_model.specs.Output.{Output, Turned, turned, turns}
 use Rattle.link_port.specs.declared.output_half.Sends.{Sends}

@@ -11,3 +11,4 @@ pub mod Bursts
 pub mod Acts
 pub mod Answers
 pub mod Streams
+pub mod Prelude

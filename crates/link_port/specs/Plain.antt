@@ -1,8 +1,7 @@
 -- A port with no protocol, and what passes between two of them.
 use Rattle.std.specs.Prelude.{ℕ, List, Option, Some, None, true, slice_get, if◌then◌else◌}
 use Rattle.rio_packets.specs.Fields.{prio_of}
-use Rattle.link_buffers.specs.Queues.{Buffered, list_at, popped, room_for, stored}
-use Rattle.link_buffers.specs.Priorities.{highest}
+use Rattle.link_buffers.specs.Prelude.{Buffered, list_at, popped, room_for, stored, highest}
 
 -- what contracts see of a port with no protocol: the packets to be sent, and those that came in
 pub record Plain : Type 0 where

@@ -1,11 +1,7 @@
 -- A port.
 use Rattle.std.specs.Prelude.{◌≡◌, ℕ, ◌<◌, List}
-use Rattle.link_buffers.specs.Queues.{Buffered, no_packets, IsInStore, IsOutStore}
-use Rattle.link_buffers.specs.Priorities.{Covers}
-use Rattle.link_model.specs.Places.{Place, start, IsBounded}
-use Rattle.link_model.specs.Outstanding.{from_ack}
-use Rattle.link_model.specs.Output.{Output}
-use Rattle.link_model.specs.Input.{Input}
+use Rattle.link_buffers.specs.Prelude.{Buffered, no_packets, IsInStore, IsOutStore, Covers}
+use Rattle.link_model.specs.Prelude.{Place, start, IsBounded, from_ack, Output, Input}
 use Rattle.link_port.specs.States.{prios_of, IsOutput, expected_of}
 
 -- what contracts see of a port: the place of its framer, its two halves, the packets to be sent,

@@ -2,19 +2,11 @@
 -- (RapidIO Interconnect Specification 1.3, Part 6, packet acknowledgment and error recovery).
 use Rattle.std.specs.Prelude.{ℕ, ◌++◌, Bool, true, false, if◌then◌else◌, List, [], ◌∷◌, take, Option, Some, None}
 use Rattle.std.specs.Option.{option_or}
-use Rattle.rio_chars.specs.declared.chars.Char.{Char}
-use Rattle.rio_symbols.specs.Fields.{Fields}
-use Rattle.rio_packets.specs.CauseNumbers.{number_of}
-use Rattle.rio_packets.specs.Fields.{prio_of}
-use Rattle.rio_packets.specs.declared.cause.Cause.{Cause}
-use Rattle.link_buffers.specs.Queues.{room_for, stored}
-use Rattle.link_buffers.specs.Priorities.{packets_of, lists_without}
+use Rattle.link_model.specs.Prelude.{Char, Fields, number_of, prio_of, Cause, step, hears, Received, packet_arrival, symbol_arrival, receives, Damaged}
+use Rattle.link_buffers.specs.Prelude.{room_for, stored, packets_of, lists_without}
 use Rattle.link_model.specs.declared.event.Event.{Event}
 use Rattle.link_model.specs.declared.event.Event.TheVariants.{Ctl, Pkt, Bad}
-use Rattle.link_model.specs.Places.{step}
-use Rattle.link_model.specs.Output.{Heard, hears, stype0}
-use Rattle.link_model.specs.Input.{Received, packet_arrival, symbol_arrival, receives}
-use Rattle.link_model.specs.Input.Arrival.{Damaged}
+use Rattle.link_model.specs.Output.{Heard, stype0}
 use Rattle.link_port.specs.States.{prios_of, expected_of, expects}
 use Rattle.link_port.specs.Ports.{PortState}
 

@@ -1,7 +1,6 @@
 -- What characters do in a port, one after another, and what events do.
 use Rattle.std.specs.Prelude.{ℕ, option_to_list, List, [], ◌∷◌, ◌++◌}
-use Rattle.rio_chars.specs.declared.chars.Char.{Char}
-use Rattle.rio_symbols.specs.Fields.{Fields}
+use Rattle.link_model.specs.Prelude.{Char, Fields}
 use Rattle.link_model.specs.declared.event.Event.{Event}
 use Rattle.link_port.specs.Ports.{PortState}
 use Rattle.link_port.specs.Steps.{Acted, acts, takes}

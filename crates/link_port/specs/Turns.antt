@@ -1,16 +1,10 @@
 -- What a turn of a port and a time-out do, by the step tables.
 use Rattle.std.specs.Prelude.{◌≡◌, ℕ, List, [], ◌∷◌, Option, Some, None, slice_get}
-use Rattle.rio_chars.specs.declared.chars.Char.{Char}
-use Rattle.rio_symbols.specs.Fields.{Fields}
-use Rattle.link_buffers.specs.Queues.{list_at}
-use Rattle.link_buffers.specs.Priorities.{lists_without, highest}
+use Rattle.link_model.specs.Prelude.{Char, Fields, Sends, turns, times_out, symbol_chars_of, packet_chars_of, start, place_after, said, start_of_packet, end_of_packet, restart_from_retry, link_request}
+use Rattle.link_buffers.specs.Prelude.{list_at, lists_without, highest}
 use Rattle.link_model.specs.declared.event.Event.{Event}
 use Rattle.link_model.specs.declared.event.Event.TheVariants.{Ctl, Pkt}
-use Rattle.link_model.specs.Output.{Sends, Turned, turns, times_out}
-use Rattle.link_model.specs.ReadingSpelt.{symbol_chars_of, packet_chars_of}
-use Rattle.link_model.specs.Places.{start, place_after}
-use Rattle.link_model.specs.Said.{said}
-use Rattle.link_model.specs.Symbols.{start_of_packet, end_of_packet, restart_from_retry, link_request}
+use Rattle.link_model.specs.Output.{Turned}
 use Rattle.link_port.specs.States.{prios_of, expected_of}
 use Rattle.link_port.specs.Ports.{PortState}
 

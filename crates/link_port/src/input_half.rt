@@ -1,11 +1,10 @@
 //! `Input`: the input half of a port, in any of its states.
 ghost use Rattle.std.specs.Prelude.{◌≡◌, ◌<◌, false};
-ghost use Rattle.rio_packets.specs.CauseNumbers.{number_of};
-ghost use Rattle.rio_packets.specs.Fields.{prio_of};
+ghost use Rattle.link_model.specs.Prelude.{number_of, prio_of, packet_arrival, symbol_arrival, receives, Damaged};
 ghost use Rattle.link_buffers.specs.Queues.{room_for, stored};
-ghost use Rattle.link_model.specs.Input.{packet_arrival, symbol_arrival, receives, replied, silent};
+ghost use Rattle.link_model.specs.Input.{replied, silent};
 ghost use Rattle.link_model.specs.Input as in_half;
-ghost use Rattle.link_model.specs.Input.Arrival.{Damaged, RestartFromRetry, LinkRequest};
+ghost use Rattle.link_model.specs.Input.Arrival.{RestartFromRetry, LinkRequest};
 ghost use Rattle.link_receiver.specs.Answers.{after_packet};
 ghost use Rattle.link_port.specs.States.{expected_of, expects};
 ghost use Rattle.link_port.specs.Halves.{input_of, in_kind_of};

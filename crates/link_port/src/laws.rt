@@ -1,13 +1,9 @@
 //! What holds of every port. The calls do nothing: their clauses are the laws.
 ghost use Rattle.std.specs.Prelude.{◌≡◌, ◌≤◌, ◌⊎◌, ℕ, ◌+◌, Some, None, List, length, [], ◌∷◌, ◌++◌};
-ghost use Rattle.rio_chars.specs.declared.chars.Char.{Char};
-ghost use Rattle.rio_symbols.specs.Fields.{Fields};
+ghost use Rattle.link_model.specs.Prelude.{Char, Fields, place, place_after, run, Text, placed, symbol_chars_of, said};
 ghost use Rattle.link_model.specs.declared.event.Event.{Event};
 ghost use Rattle.link_model.specs.declared.reading_kinds.Pending.{Pending};
-ghost use Rattle.link_model.specs.Places.{place, place_after, run, broken_off, begins_in};
-ghost use Rattle.link_model.specs.Reading.{Text, placed};
-ghost use Rattle.link_model.specs.ReadingSpelt.{symbol_chars_of};
-ghost use Rattle.link_model.specs.Said.{said};
+ghost use Rattle.link_model.specs.Places.{broken_off, begins_in};
 ghost use Rattle.link_port.specs.Answers.{IsReply};
 ghost use Rattle.link_port.specs.Ports.{PortState, IsPort};
 ghost use Rattle.link_port.specs.Steps.{read, after_reading, acts, acts_symbol};

@@ -1,10 +1,7 @@
 //! `Port`: the end of a link.
 ghost use Rattle.std.specs.Prelude.{◌≡◌, ◌<◌, ◌≤◌, ◌↔◌, [], length, slice_get, IsTrue, IfOk};
-ghost use Rattle.rio_packets.specs.Fields.{prio_of};
+ghost use Rattle.link_model.specs.Prelude.{prio_of, at_rest as rests, start, place_after, said, window};
 ghost use Rattle.link_buffers.specs.Queues.{list_at, appended, popped, packet_count};
-ghost use Rattle.link_model.specs.Places.{at_rest as rests, start, place_after};
-ghost use Rattle.link_model.specs.Said.{said};
-ghost use Rattle.link_model.specs.Window.{window};
 ghost use Rattle.link_port.specs.States.{prios_of, has_asked};
 ghost use Rattle.link_port.specs.Halves.{out_kind_of, in_kind_of};
 ghost use Rattle.link_port.specs.Ports.{AreAlike, IsPort, new_port};

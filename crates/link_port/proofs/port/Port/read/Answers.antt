@@ -1,7 +1,6 @@
 use Rattle.std.proofs.Common.{Option, sym, ap, ◌∙◌, subst}
 use Rattle.link_model.specs.declared.event.Event.{Event}
-use Rattle.link_model.specs.Fronts.{telling_front}
-use Rattle.link_model.specs.Places.{IsBounded}
+use Rattle.link_model.specs.Prelude.{telling_front, IsBounded}
 use Rattle.rio_framer.specs.declared.events.Told.{Told}
 use Rattle.rio_framer.specs.Framing.{Framing, framing_after}
 use Rattle.rio_framer.specs.Giving.{listed, events_by}

@@ -4,8 +4,7 @@ use Rattle.link_port.specs.Halves.{output_of, input_of}
 use Rattle.link_port.specs.Bursts.{burst_by}
 use Rattle.link_port.specs.Turns.{Burst, turn_sends}
 use Rattle.link_port.specs.Ports.{PortState}
-use Rattle.link_model.specs.Places.{start, place_after}
-use Rattle.link_model.specs.Said.{said}
+use Rattle.link_model.specs.Prelude.{start, place_after, said}
 use Rattle.link_port.proofs.TurnLaws.{turn_is}
 use Rattle.link_port.proofs.SentReads.{turn_read}
 use Rattle.link_port.proofs.port.Port.turn.Goals as goal
