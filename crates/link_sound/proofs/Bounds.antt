@@ -2,14 +2,12 @@
 use Rattle.std.proofs.Common.{◌≡◌, ℕ, ◌-◌, ◌%◌, ◌<◌, ◌≤◌, true, false, Option, Some, None, List, [], ◌∷◌, length, take, inl, inr, refl, ap, ◌∙◌, arith, length-append, length-drop}
 use Rattle.std.proofs.lemmas.Bool.{cases_lt, le-leb}
 use Rattle.std.proofs.lemmas.List.Elements.{All-nil, All-cons, All-drop, All-append}
-use Rattle.link_buffers.specs.Queues.{packet_count}
-use Rattle.link_buffers.specs.Priorities.{lists_without, highest, Covers}
+use Rattle.link_buffers.specs.Prelude.{packet_count, lists_without, highest, Covers}
 use Rattle.link_buffers.proofs.PriorityLaws.{Covers-drop, Covers-highest, highest_below-some}
-use Rattle.link_model.specs.Input.{Input}
-use Rattle.link_model.specs.Output.{Output, Stype0, hears, accepted, retried, responded, turns, started, times_out}
+use Rattle.link_model.specs.Prelude.{Input, Output, hears, turns, times_out, Outstanding, IsOutstanding, distance, from_ack, window}
+use Rattle.link_model.specs.Output.{Stype0, accepted, retried, responded, started}
 use Rattle.link_model.specs.Output.Stype0.{PacketAccepted, PacketRetry, PacketNotAccepted, LinkResponse, OtherStype0}
-use Rattle.link_model.specs.Outstanding.{Outstanding, IsOutstanding, distance, from_ack, without_oldest, with_next}
-use Rattle.link_model.specs.Window.{window}
+use Rattle.link_model.specs.Outstanding.{without_oldest, with_next}
 use Rattle.link_model.proofs.WindowFacts.{startable-full, startable-open}
 use Rattle.link_port.specs.States.{prios_of, IsOutput}
 use Rattle.link_sound.specs.Marks.{Forward, Backward, Response}

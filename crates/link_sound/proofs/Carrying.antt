@@ -4,19 +4,14 @@ use Rattle.std.proofs.lemmas.Bool.{cases_Bool}
 use Rattle.std.proofs.lemmas.Bool.Decides.{eqb_tells}
 use Rattle.std.proofs.lemmas.List.{append-nil}
 use Rattle.std.proofs.lemmas.List.Elements.{filter-append}
-use Rattle.rio_packets.specs.Fields.{prio_of}
+use Rattle.link_model.specs.Prelude.{prio_of, distance}
 use Rattle.link_buffers.specs.Queues.{no_packets, list_at, popped, appended, of_prio}
 use Rattle.link_buffers.specs.Priorities.{Covers, highest}
 use Rattle.link_buffers.proofs.PriorityParts.{of_prio_one, held_of_prio}
 use Rattle.link_buffers.proofs.PriorityLists.{list_at-popped}
 use Rattle.link_buffers.proofs.PriorityLaws.{list_at-appended, packets_of-appended, lists_without-appended, Covers-take, length-lists_without}
-use Rattle.link_model.specs.declared.event.Event.{Event}
+use Rattle.link_port.specs.Prelude.{Event, PortState, IsPort, acts, turns_to, timed_out, waiting_in, prios_of, expected_of}
 use Rattle.link_model.specs.Output as out
-use Rattle.link_model.specs.Outstanding.{distance}
-use Rattle.link_port.specs.Ports.{PortState, IsPort}
-use Rattle.link_port.specs.Steps.{acts}
-use Rattle.link_port.specs.Turns.{turns_to, timed_out, waiting_in}
-use Rattle.link_port.specs.States.{prios_of, expected_of}
 use Rattle.link_sound.specs.Meanings.{forward, backward, oldest_of}
 use Rattle.link_sound.specs.Sound.{IsSound}
 use Rattle.link_sound.specs.Lent.{lent, waiting, Holds, Frees}

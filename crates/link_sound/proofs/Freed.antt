@@ -5,10 +5,9 @@ use Rattle.std.proofs.lemmas.Bool.{le-leb}
 use Rattle.std.proofs.lemmas.List.{append-nil, take-append-le}
 use Rattle.link_buffers.specs.Priorities.{packets_of, lists_without, Covers}
 use Rattle.link_buffers.proofs.PriorityLists.{packets_of-append, lists_without-append}
-use Rattle.link_model.specs.Input.{Input}
-use Rattle.link_model.specs.Output.{Output, Stype0, Heard, hears, accepted, retried, responded, turns, started, startable, times_out}
+use Rattle.link_model.specs.Prelude.{Input, Output, hears, turns, times_out, Outstanding, distance}
+use Rattle.link_model.specs.Output.{Stype0, Heard, accepted, retried, responded, started, startable}
 use Rattle.link_model.specs.Output.Stype0.{PacketAccepted, PacketRetry, PacketNotAccepted, LinkResponse, OtherStype0}
-use Rattle.link_model.specs.Outstanding.{Outstanding, distance}
 use Rattle.link_sound.specs.Marks.{Forward, Backward, Accept, Response}
 use Rattle.link_sound.proofs.SenderMoves.{oldest_accepted, answered, distance_is}
 use Rattle.link_port.specs.States.{prios_of, expected_of}

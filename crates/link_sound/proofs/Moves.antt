@@ -1,19 +1,12 @@
 -- What a port holds and frees when an event comes.
 use Rattle.std.proofs.Common.{◌≡◌, ℕ, ◌==◌, ◌&&◌, Bool, true, false, Some, None, List, ◌∷◌, refl, sym, ap, subst, if◌then◌else◌}
 use Rattle.std.proofs.lemmas.Bool.{eq-eqb}
-use Rattle.rio_packets.specs.CauseNumbers.{number_of}
-use Rattle.rio_packets.specs.Fields.{prio_of}
-use Rattle.link_buffers.specs.Queues.{Buffered, room_for, stored, IsOutStore}
-use Rattle.link_buffers.specs.Priorities.{Covers}
-use Rattle.link_model.specs.declared.event.Event.{Event}
-use Rattle.link_model.specs.declared.event.Event.TheVariants.{Ctl, Pkt, Bad}
-use Rattle.link_model.specs.Input.{Input, packet_arrival, symbol_arrival, receives}
-use Rattle.link_model.specs.Input.Arrival.{ExpectedWithRoom, ExpectedWithoutRoom, UnexpectedAck, Damaged}
-use Rattle.link_model.specs.Output.{Output, stype0}
+use Rattle.link_model.specs.Prelude.{number_of, prio_of, Input, packet_arrival, symbol_arrival, receives, Damaged, Output}
+use Rattle.link_buffers.specs.Prelude.{Buffered, room_for, stored, IsOutStore, Covers}
+use Rattle.link_port.specs.Prelude.{Event, Ctl, Pkt, Bad, prios_of, expected_of, expects, PortState, acts, is_acted}
+use Rattle.link_model.specs.Input.Arrival.{ExpectedWithRoom, ExpectedWithoutRoom, UnexpectedAck}
+use Rattle.link_model.specs.Output.{stype0}
 use Rattle.link_sound.specs.Marks.{Forward, Backward, Packet}
-use Rattle.link_port.specs.States.{prios_of, expected_of, expects}
-use Rattle.link_port.specs.Ports.{PortState}
-use Rattle.link_port.specs.Steps.{acts, is_acted}
 use Rattle.link_sound.specs.Receiver.{IsShut}
 use Rattle.link_sound.specs.Meanings.{receiver_of}
 use Rattle.link_sound.specs.Between.{IsBetween}

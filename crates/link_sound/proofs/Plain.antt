@@ -1,15 +1,12 @@
 -- What a packet that is held is of the packets that wait, and what becomes of the queues.
 use Rattle.std.proofs.Common.{◌≡◌, ℕ, zero, suc, ◌+◌, ◌-◌, ◌%◌, ◌<◌, List, [], ◌∷◌, ◌++◌, length, take, drop, Some, option_map, slice_get, refl, sym, ap, ◌∙◌, subst, arith}
 use Rattle.std.proofs.lemmas.Option.{slice_get_within, slice_get-map}
-use Rattle.rio_packets.specs.Fields.{prio_of}
+use Rattle.link_model.specs.Prelude.{prio_of, Input, Output, distance}
 use Rattle.link_buffers.specs.Queues.{list_at, popped, Sorted, IsOutStore}
 use Rattle.link_buffers.specs.Priorities.{packets_of, lists_without, Covers}
 use Rattle.link_buffers.proofs.PriorityParts.{drop_at}
 use Rattle.link_buffers.proofs.PriorityLists.{lists_without-append}
 use Rattle.link_buffers.proofs.PriorityLaws.{map-prio_of-packets_of, take-packets_of, drop-packets_of, Covers-drop, Covers-first}
-use Rattle.link_model.specs.Input.{Input}
-use Rattle.link_model.specs.Output.{Output}
-use Rattle.link_model.specs.Outstanding.{distance}
 use Rattle.link_sound.specs.Marks.{Forward, Backward, Packet}
 use Rattle.link_sound.proofs.ReceiverMoves.{packet_held}
 use Rattle.link_sound.proofs.SenderMoves.{distance_is}

@@ -1,12 +1,8 @@
 -- Histories that are played: moves of two ports, one after another, of which each is a step.
 use Rattle.std.proofs.Common.{◌≡◌, ℕ, zero, suc, nat_lt, Bool, true, false, List, [], ◌∷◌, ◌++◌, length, refl, arith, if◌then◌else◌, ltb-true}
-use Rattle.rio_packets.specs.declared.cause.Cause.TheVariants.{BadPacket}
+use Rattle.link_model.specs.Prelude.{BadPacket, start}
 use Rattle.link_buffers.specs.Queues.{no_packets, list_at}
-use Rattle.link_model.specs.declared.event.Event.{Event}
-use Rattle.link_model.specs.declared.event.Event.TheVariants.{Bad}
-use Rattle.link_model.specs.Places.{start}
-use Rattle.link_port.specs.Ports.{PortState, new_port}
-use Rattle.link_port.specs.Steps.{is_acted}
+use Rattle.link_port.specs.Prelude.{Event, Bad, PortState, new_port, is_acted}
 use Rattle.link_sound.specs.Histories.{Link, turned_round, after_turn, after_event, after_put, IsStep, Turns, Acts, Others, Puts, Loses, GoesOn, IsHistory, Rests, AtFirst, AtSecond}
 use Rattle.link_sound.specs.Worked.{packet}
 use Rattle.link_sound.proofs.PortBounds.{new_is_port}

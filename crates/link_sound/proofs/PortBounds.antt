@@ -4,25 +4,16 @@ use Rattle.std.proofs.lemmas.Bool.{eq-eqb, ltb-true, cases_lt}
 use Rattle.std.proofs.lemmas.List.Elements.{All-nil}
 use Rattle.std.proofs.lemmas.Option.{slice_get_within}
 use Rattle.std.proofs.Math.ListN.{get_or-eq_default}
-use Rattle.rio_packets.specs.CauseNumbers.{number_of}
-use Rattle.rio_packets.specs.Fields.{prio_of}
-use Rattle.rio_packets.specs.LinkForm.{Passes}
+use Rattle.link_model.specs.Prelude.{number_of, prio_of, Passes, Input, Arrival, packet_arrival, symbol_arrival, receives, Damaged, Output, Place, IsBounded, distance}
 use Rattle.link_buffers.specs.Queues.{no_packets, Sorted, list_at, appended, Buffered, room_for, stored, packet_count, IsInStore, IsOutStore, ArePackets}
 use Rattle.link_buffers.specs.Priorities.{Covers}
 use Rattle.link_buffers.proofs.QueueLemmas.{Passes-at}
 use Rattle.link_buffers.proofs.StoreLemmas.{IsInStore-appended, IsOutStore-appended}
 use Rattle.link_buffers.proofs.PriorityLaws.{Covers-appended, Covers-take, IsOutStore-lists_without, length-lists_without}
-use Rattle.link_model.specs.declared.event.Event.{Event}
-use Rattle.link_model.specs.declared.event.Event.TheVariants.{Ctl, Pkt, Bad}
-use Rattle.link_model.specs.Input.{Input, Arrival, packet_arrival, symbol_arrival, receives}
-use Rattle.link_model.specs.Input.Arrival.{ExpectedWithRoom, ExpectedWithoutRoom, UnexpectedAck, Damaged, RestartFromRetry, LinkRequest, OtherStype1}
-use Rattle.link_model.specs.Output.{Output, stype0}
-use Rattle.link_model.specs.Places.{Place, IsBounded}
-use Rattle.link_model.specs.Outstanding.{distance}
-use Rattle.link_port.specs.States.{prios_of, expected_of, expects}
-use Rattle.link_port.specs.Ports.{PortState, IsPort, new_port}
-use Rattle.link_port.specs.Steps.{heard, acts, is_acted}
-use Rattle.link_port.specs.Turns.{turns_to, timed_out}
+use Rattle.link_port.specs.Prelude.{Event, Ctl, Pkt, Bad, prios_of, expected_of, expects, PortState, IsPort, new_port, acts, is_acted, turns_to, timed_out}
+use Rattle.link_model.specs.Input.Arrival.{ExpectedWithRoom, ExpectedWithoutRoom, UnexpectedAck, RestartFromRetry, LinkRequest, OtherStype1}
+use Rattle.link_model.specs.Output.{stype0}
+use Rattle.link_port.specs.Steps.{heard}
 use Rattle.link_sound.specs.Marks.{Forward, Backward, Packet}
 use Rattle.link_sound.specs.Receiver.{IsShut}
 use Rattle.link_sound.specs.Meanings.{receiver_of, oldest_of}

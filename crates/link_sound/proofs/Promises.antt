@@ -1,16 +1,11 @@
 -- What soundness promises of a sender, and what is not sound.
 use Rattle.std.proofs.Common.{ap, ◌∙◌, [], ◌∷◌, drop, length-drop, ◌≡◌, ◌≢◌, ℕ, ◌≤◌, List, length, subst, arith, map}
 use Rattle.std.proofs.lemmas.Option.{slice_get_within}
-use Rattle.link_buffers.specs.Queues.{no_packets}
-use Rattle.link_buffers.specs.Priorities.{Covers}
-use Rattle.link_model.specs.declared.event.Event.{Event}
-use Rattle.link_model.specs.Input.{Input}
-use Rattle.link_model.specs.Output.{Output}
-use Rattle.link_model.specs.Outstanding.{Outstanding, distance, from_ack}
+use Rattle.link_buffers.specs.Prelude.{no_packets, Covers}
+use Rattle.link_port.specs.Prelude.{Event, PortState, prios_of, expected_of}
+use Rattle.link_model.specs.Prelude.{Input, Output, Outstanding, distance, from_ack}
 use Rattle.link_sound.specs.Marks.{Forward, Packet, Backward, Accept, Response}
 use Rattle.link_sound.specs.Kept.{AcceptsInTurn, PacketsInTurn}
-use Rattle.link_port.specs.Ports.{PortState}
-use Rattle.link_port.specs.States.{prios_of, expected_of}
 use Rattle.link_sound.specs.Meanings.{forward, backward, oldest_of}
 use Rattle.link_sound.specs.Between.{IsBetween}
 use Rattle.link_sound.specs.Sound.{IsSound}

@@ -2,9 +2,8 @@
 use Rattle.std.proofs.Common.{◌≡◌, ◌⊎◌, ℕ, suc, ◌+◌, ◌%◌, ◌==◌, ◌&&◌, Bool, true, false, List, [], ◌∷◌, ◌++◌, inl, inr, refl, sym, subst, if◌then◌else◌, arith}
 use Rattle.std.proofs.lemmas.Bool.{eq-eqb}
 use Rattle.std.proofs.lemmas.List.{append-nil}
-use Rattle.link_model.specs.Input.{Input, Arrival, packet_arrival, symbol_arrival, receives}
-use Rattle.link_model.specs.Input.Arrival.{ExpectedWithRoom, ExpectedWithoutRoom, UnexpectedAck, Damaged, RestartFromRetry, LinkRequest, OtherStype1}
-use Rattle.link_model.specs.Output.{Output}
+use Rattle.link_model.specs.Prelude.{Input, Arrival, packet_arrival, symbol_arrival, receives, Damaged, Output}
+use Rattle.link_model.specs.Input.Arrival.{ExpectedWithRoom, ExpectedWithoutRoom, UnexpectedAck, RestartFromRetry, LinkRequest, OtherStype1}
 use Rattle.link_sound.specs.Marks.{Forward, Backward, Packet, Restart, Request, Other, Response, Neutral}
 use Rattle.link_sound.specs.Sender.{Sender}
 use Rattle.link_sound.specs.Receiver.{Receiver, IsShut}

@@ -1,8 +1,7 @@
 -- What a sender does to a direction when a symbol comes back.
 use Rattle.std.proofs.Common.{◌≡◌, ℕ, suc, ◌+◌, ◌-◌, ◌%◌, ◌<◌, ◌≤◌, List, ◌∷◌, length, take, inl, inr, refl, sym, ◌∙◌, subst, arith}
 use Rattle.std.proofs.lemmas.List.{length-take-le}
-use Rattle.link_model.specs.Outstanding.{distance}
-use Rattle.link_model.specs.Window.{window}
+use Rattle.link_model.specs.Prelude.{distance, window}
 use Rattle.link_model.proofs.WindowFacts.{window_few}
 use Rattle.link_sound.specs.Marks.{Forward, is_forward, Backward, Accept, Retry, Response, is_backward}
 use Rattle.link_sound.specs.Kept.{Lacks, AcceptsInTurn}

@@ -2,27 +2,17 @@
 use Rattle.std.proofs.Common.{◌≡◌, ℕ, Bool, true, false, Option, Some, None, List, [], ◌∷◌, ◌++◌, map, length, inl, refl, sym, ap, ◌∙◌, subst, arith, ◌<◌}
 use Rattle.std.proofs.lemmas.Bool.{eqb-true}
 use Rattle.std.proofs.lemmas.List.{map-append}
-use Rattle.rio_symbols.specs.Fields.{Fields}
-use Rattle.rio_packets.specs.CauseNumbers.{number_of}
-use Rattle.rio_packets.specs.Fields.{prio_of}
-use Rattle.link_buffers.specs.Queues.{Buffered, room_for, appended}
-use Rattle.link_buffers.specs.Priorities.{Covers}
-use Rattle.link_model.specs.declared.event.Event.{Event}
-use Rattle.link_model.specs.declared.event.Event.TheVariants.{Ctl, Pkt, Bad}
+use Rattle.link_model.specs.Prelude.{Fields, number_of, prio_of, Place, from_ack, Input, packet_arrival, symbol_arrival, receives, Damaged, times_out}
+use Rattle.link_buffers.specs.Prelude.{Buffered, room_for, appended, Covers}
+use Rattle.link_port.specs.Prelude.{Event, Ctl, Pkt, Bad, prios_of, expected_of, expects, PortState, acts, is_acted}
 use Rattle.link_buffers.proofs.PriorityLaws.{packets_of-appended}
-use Rattle.link_model.specs.Places.{Place}
-use Rattle.link_model.specs.Outstanding.{from_ack}
-use Rattle.link_model.specs.Input.{Input, packet_arrival, symbol_arrival, receives}
-use Rattle.link_model.specs.Input.Arrival.{Damaged}
 use Rattle.link_model.specs.Output as out
-use Rattle.link_model.specs.Output.{stype0, times_out}
+use Rattle.link_model.specs.Output.{stype0}
 use Rattle.link_sound.specs.Marks.{Forward, Backward, Packet, Neutral}
 use Rattle.link_sound.specs.Direction.{IsDirection}
 use Rattle.link_sound.proofs.MoveLaws.{lost_front}
 use Rattle.link_sound.proofs.TurnMoves.{emptied, time_is_out}
-use Rattle.link_port.specs.States.{prios_of, expected_of, expects}
-use Rattle.link_port.specs.Ports.{PortState}
-use Rattle.link_port.specs.Steps.{acts_symbol, acts_packet, acts, is_acted}
+use Rattle.link_port.specs.Steps.{acts_symbol, acts_packet}
 use Rattle.link_port.specs.Turns as turn
 use Rattle.link_sound.specs.Meanings.{forward, backward, reply_forward, reply_backward, sender_of, receiver_of}
 use Rattle.link_sound.specs.Between.{IsBetween}

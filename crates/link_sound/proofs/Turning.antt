@@ -2,14 +2,12 @@
 use Rattle.std.proofs.Common.{◌≡◌, ℕ, zero, suc, ◌+◌, true, false, ◌%◌, ◌<◌, ◌≤◌, List, [], ◌∷◌, ◌++◌, length, take, drop, map, Option, Some, None, slice_get, inl, inr, refl, sym, ap, ◌∙◌, subst, arith, length-drop, append_assoc}
 use Rattle.std.proofs.lemmas.Bool.{cases_lt}
 use Rattle.std.proofs.lemmas.List.{append-nil, drop-append-le}
-use Rattle.link_buffers.specs.Queues.{list_at}
-use Rattle.link_buffers.specs.Priorities.{packets_of, lists_without, highest, Covers}
+use Rattle.link_buffers.specs.Prelude.{list_at, packets_of, lists_without, highest, Covers}
 use Rattle.link_buffers.proofs.PriorityLists.{slice_get-lists_without}
 use Rattle.link_buffers.proofs.PriorityLaws.{length-packets_of, packets_of-next, highest_below-some}
-use Rattle.link_model.specs.Input.{Input}
-use Rattle.link_model.specs.Output.{Output, Sends, turns, started, startable}
-use Rattle.link_model.specs.Outstanding.{Outstanding, next_ack, with_next}
-use Rattle.link_model.specs.Window.{window}
+use Rattle.link_model.specs.Prelude.{Input, Output, Sends, turns, Outstanding, window}
+use Rattle.link_model.specs.Output.{started, startable}
+use Rattle.link_model.specs.Outstanding.{next_ack, with_next}
 use Rattle.link_model.proofs.WindowFacts.{startable-full, startable-open}
 use Rattle.link_sound.specs.Marks.{Forward, Backward, Packet, Other, Neutral}
 use Rattle.link_sound.specs.Sender.{Sender}
@@ -17,8 +15,7 @@ use Rattle.link_sound.specs.Receiver.{Receiver}
 use Rattle.link_sound.specs.Direction.{IsDirection}
 use Rattle.link_sound.proofs.MoveLaws.{other_sent, neutral_sent}
 use Rattle.link_sound.proofs.TurnMoves.{packet_started, restarted, requested}
-use Rattle.link_port.specs.States.{prios_of}
-use Rattle.link_port.specs.Turns.{burst_of, packet_burst}
+use Rattle.link_port.specs.Prelude.{prios_of, burst_of, packet_burst}
 use Rattle.link_sound.specs.Meanings.{forward, backward, sender_of, receiver_of}
 use Rattle.link_sound.specs.Between.{IsBetween}
 

@@ -1,21 +1,14 @@
 -- A packet's way between two ports, step by step.
 use Rattle.std.proofs.Common.{◌≡◌, ℕ, true, List, [], ◌∷◌, refl, subst, arith}
-use Rattle.rio_packets.specs.LinkForm.{Passes}
+use Rattle.link_model.specs.Prelude.{Passes, start, start_of_packet, end_of_packet, packet_accepted, Outstanding, from_ack, window}
 use Rattle.rio_packets.specs.Carries.{passes}
 use Rattle.rio_packets.specs.Register.{shifted, shifted_times, fed}
 use Rattle.rio_packets.proofs.CarriesLaws.{decides_passes}
 use Rattle.link_buffers.specs.Queues.{no_packets}
 use Rattle.link_buffers.specs.Priorities.{highest_below}
-use Rattle.link_model.specs.declared.event.Event.{Event}
-use Rattle.link_model.specs.declared.event.Event.TheVariants.{Ctl, Pkt}
+use Rattle.link_port.specs.Prelude.{Event, Ctl, Pkt, PortState, new_port, turns_to, turn_sends}
 use Rattle.link_model.specs.Input as in_half
 use Rattle.link_model.specs.Output as out
-use Rattle.link_model.specs.Places.{start}
-use Rattle.link_model.specs.Symbols.{start_of_packet, end_of_packet, packet_accepted}
-use Rattle.link_model.specs.Outstanding.{Outstanding, from_ack}
-use Rattle.link_model.specs.Window.{window}
-use Rattle.link_port.specs.Ports.{PortState, new_port}
-use Rattle.link_port.specs.Turns.{turns_to, turn_sends}
 use Rattle.link_sound.specs.Histories.{Link, new_link, turned_round, after_turn, after_event, after_put, IsStep, Turns, Acts, Puts, IsHistory, Rests, AtFirst, AtSecond, no_journeys}
 use Rattle.link_sound.specs.Worked.{packet, arrived}
 

@@ -2,8 +2,7 @@
 use Rattle.std.proofs.Common.{◌≡◌, ℕ, zero, suc, true, List, [], ◌∷◌, ◌++◌, refl}
 use Rattle.link_buffers.specs.Priorities.{highest_below}
 use Rattle.link_model.specs.Output as out
-use Rattle.link_model.specs.Outstanding.{from_ack}
-use Rattle.link_model.specs.Window.{window}
+use Rattle.link_model.specs.Prelude.{from_ack, window}
 use Rattle.link_sound.specs.Histories.{Link, new_link, IsHistory}
 use Rattle.link_sound.specs.Worked.{arrivals}
 use Rattle.link_sound.proofs.Played.{Move, First, Second, PutsOne, TakesTurn, Hears, Misses, MeetsError, Empties, played, is_history}

@@ -1,8 +1,7 @@
 -- The direction from a port's output half to the input half of the port at the other end.
 use Rattle.std.specs.Prelude.{◌≡◌, ℕ, ◌%◌, List, drop}
 use Rattle.link_buffers.specs.Priorities.{packets_of}
-use Rattle.link_model.specs.Input.{Input}
-use Rattle.link_model.specs.Output.{Output}
+use Rattle.link_model.specs.Prelude.{Input, Output}
 use Rattle.link_sound.specs.Marks.{Forward, Backward}
 use Rattle.link_sound.specs.Direction.{IsDirection}
 use Rattle.link_port.specs.States.{prios_of, expected_of}

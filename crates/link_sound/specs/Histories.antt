@@ -1,13 +1,8 @@
 -- Whole histories of two ports of a link, whatever is lost between them.
 use Rattle.std.specs.Prelude.{◌≡◌, ℕ, ◌<◌, ◌≤◌, length, true, false, List, [], ◌∷◌, ◌++◌, option_to_list}
-use Rattle.rio_packets.specs.Fields.{prio_of}
-use Rattle.rio_packets.specs.LinkForm.{Passes}
+use Rattle.link_model.specs.Prelude.{prio_of, Passes, Place, IsBounded}
 use Rattle.link_buffers.specs.Queues.{Buffered, list_at, appended, of_prio, IsInStore}
-use Rattle.link_model.specs.declared.event.Event.{Event}
-use Rattle.link_model.specs.Places.{Place, IsBounded}
-use Rattle.link_port.specs.Ports.{PortState, new_port}
-use Rattle.link_port.specs.Steps.{acts, is_acted}
-use Rattle.link_port.specs.Turns.{turns_to, turn_sends, timed_out}
+use Rattle.link_port.specs.Prelude.{Event, PortState, new_port, acts, is_acted, turns_to, turn_sends, timed_out}
 use Rattle.link_sound.specs.Lent.{lent, waiting}
 use Rattle.link_sound.specs.Sound.{reply_sent}
 

@@ -1,13 +1,9 @@
 -- A port's packets to be sent as plain first-in first-out queues: those that the far port holds and
 -- this one has not freed, and those that still wait.
 use Rattle.std.specs.Prelude.{◌≡◌, ℕ, ◌∷◌, ◌++◌, [], List, Option, Some, None, slice_get, take, true}
-use Rattle.rio_packets.specs.Fields.{prio_of}
-use Rattle.link_buffers.specs.Queues.{Buffered, list_at, popped, appended, room_for}
-use Rattle.link_buffers.specs.Priorities.{packets_of, lists_without}
-use Rattle.link_model.specs.Output.{Output}
-use Rattle.link_model.specs.Outstanding.{distance}
-use Rattle.link_port.specs.Ports.{PortState}
-use Rattle.link_port.specs.States.{prios_of, expected_of}
+use Rattle.link_model.specs.Prelude.{prio_of, Output, distance}
+use Rattle.link_buffers.specs.Prelude.{Buffered, list_at, popped, appended, room_for, packets_of, lists_without}
+use Rattle.link_port.specs.Prelude.{PortState, prios_of, expected_of}
 use Rattle.link_sound.specs.Meanings.{oldest_of}
 
 -- the first of the outstanding packets, up to the one that the far port expects

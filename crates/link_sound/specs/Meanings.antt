@@ -3,8 +3,7 @@
 -- back to the sender.
 use Rattle.std.specs.Prelude.{ℕ, true, false, Option, Some, None, List, [], ◌∷◌}
 use Rattle.rio_symbols.specs.Fields.{Fields}
-use Rattle.link_model.specs.declared.event.Event.{Event}
-use Rattle.link_model.specs.declared.event.Event.TheVariants.{Ctl, Pkt, Bad}
+use Rattle.link_port.specs.Prelude.{Event, Ctl, Pkt, Bad}
 use Rattle.link_model.specs.Input as in_half
 use Rattle.link_model.specs.Output as out
 use Rattle.link_sound.specs.Marks.{Forward, Packet, Restart, Request, Other, Backward, Accept, Retry, Response, Neutral}

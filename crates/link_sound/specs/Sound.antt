@@ -2,9 +2,7 @@
 -- acted on.
 use Rattle.std.specs.Prelude.{Option, Some, None, List, [], ◌∷◌, map}
 use Rattle.rio_symbols.specs.Fields.{Fields}
-use Rattle.link_model.specs.declared.event.Event.{Event}
-use Rattle.link_model.specs.declared.event.Event.TheVariants.{Ctl}
-use Rattle.link_port.specs.Ports.{PortState}
+use Rattle.link_port.specs.Prelude.{Event, Ctl, PortState}
 use Rattle.link_sound.specs.Meanings.{forward, backward}
 use Rattle.link_sound.specs.Between.{IsBetween}
 

@@ -1,18 +1,11 @@
 //! What keeps two ports sound.
 
 ghost use Rattle.std.specs.Prelude.{◌≡◌, ◌≢◌, ℕ, ◌<◌, ◌≤◌, true, false, List, [], ◌∷◌, ◌++◌, length};
-ghost use Rattle.link_buffers.specs.Queues.{Buffered, appended};
-ghost use Rattle.link_buffers.specs.Priorities.{Covers};
-ghost use Rattle.link_model.specs.declared.event.Event.{Event};
-ghost use Rattle.link_model.specs.declared.event.Event.TheVariants.{Ctl, Pkt};
+ghost use Rattle.link_buffers.specs.Prelude.{Buffered, appended, Covers};
+ghost use Rattle.link_port.specs.Prelude.{Event, Ctl, Pkt, PortState, new_port, acts, is_acted, turns_to, turn_sends, timed_out, prios_of, expected_of};
 ghost use Rattle.link_model.specs.Output as out;
-ghost use Rattle.link_model.specs.Symbols.{packet_accepted, link_response};
-ghost use Rattle.link_model.specs.Places.{Place};
-ghost use Rattle.link_model.specs.Outstanding.{Outstanding, distance};
-ghost use Rattle.link_port.specs.Ports.{PortState, new_port};
-ghost use Rattle.link_port.specs.Steps.{acts, is_acted};
-ghost use Rattle.link_port.specs.Turns.{turns_to, turn_sends, timed_out};
-ghost use Rattle.link_port.specs.States.{prios_of, expected_of};
+ghost use Rattle.link_model.specs.Prelude.{packet_accepted, Place, Outstanding, distance};
+ghost use Rattle.link_model.specs.Symbols.{link_response};
 ghost use Rattle.link_sound.specs.Meanings.{oldest_of};
 ghost use Rattle.link_sound.specs.Sound.{IsSound, reply_sent};
 

@@ -2,13 +2,8 @@
 //! port holds and this one has not freed, and those that still wait.
 
 ghost use Rattle.std.specs.Prelude.{◌≡◌, true, false, List, ◌∷◌};
-ghost use Rattle.link_buffers.specs.Queues.{IsOutStore};
-ghost use Rattle.link_buffers.specs.Priorities.{Covers};
-ghost use Rattle.link_model.specs.declared.event.Event.{Event};
-ghost use Rattle.link_port.specs.Ports.{PortState};
-ghost use Rattle.link_port.specs.Steps.{acts, is_acted};
-ghost use Rattle.link_port.specs.Turns.{turns_to, timed_out};
-ghost use Rattle.link_port.specs.States.{prios_of};
+ghost use Rattle.link_buffers.specs.Prelude.{IsOutStore, Covers};
+ghost use Rattle.link_port.specs.Prelude.{Event, PortState, acts, is_acted, turns_to, timed_out, prios_of};
 ghost use Rattle.link_sound.specs.Lent.{lent, waiting, Holds, Frees};
 ghost use Rattle.link_sound.specs.Sound.{IsSound};
 

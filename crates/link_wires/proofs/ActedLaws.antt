@@ -1,11 +1,8 @@
 -- The events that a delivery acts on are those that the search finds.
 use Rattle.std.proofs.Common.{◌≡◌, ℕ, ◌++◌, true, false, List, [], ◌∷◌, Option, Some, None, refl, ap, ◌∙◌, subst, if◌then◌else◌}
 use Rattle.std.proofs.lemmas.List.{append-nil}
-use Rattle.rio_chars.specs.declared.chars.Char.{Char}
-use Rattle.link_model.specs.declared.event.Event.{Event}
-use Rattle.link_model.specs.Places.{Place, run, place_after}
-use Rattle.link_port.specs.Ports.{PortState}
-use Rattle.link_port.specs.Steps.{is_acted}
+use Rattle.link_model.specs.Prelude.{Char, Place, run, place_after}
+use Rattle.link_port.specs.Prelude.{Event, PortState, is_acted}
 use Rattle.link_wires.specs.Kept.{behind, behind_some, behind_all}
 use Rattle.link_wires.specs.Deliveries.{Flow, Delivered, Through, Undetected, begun, done, met, comes, goes_on, come, ended, delivered}
 use Rattle.link_wires.proofs.KeptLaws.{all_then}

@@ -1,11 +1,8 @@
 -- Deliveries in pieces, and what they look for.
 use Rattle.std.proofs.Common.{◌≡◌, ℕ, ◌+◌, ◌++◌, true, false, List, [], ◌∷◌, length, length-append, Option, Some, None, refl, sym, ap, ◌∙◌, if◌then◌else◌, arith}
-use Rattle.rio_chars.specs.declared.chars.Char.{Char}
-use Rattle.link_model.specs.declared.event.Event.{Event}
-use Rattle.link_model.specs.declared.event.Event.TheVariants.{Ctl, Pkt, Bad}
-use Rattle.link_model.specs.Places.{Place, run, place_after}
+use Rattle.link_model.specs.Prelude.{Char, Place, run, place_after}
+use Rattle.link_port.specs.Prelude.{Event, Ctl, Pkt, Bad, is_acted}
 use Rattle.link_model.proofs.PlacesLaws.{run-append, place_after-append}
-use Rattle.link_port.specs.Steps.{is_acted}
 use Rattle.link_wires.specs.Kept.{behind}
 use Rattle.link_wires.specs.Deliveries.{Flow, Delivered, Through, Undetected, done, met, comes, goes_on, come, ended, flows}
 

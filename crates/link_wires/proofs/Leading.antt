@@ -1,15 +1,10 @@
 -- What the code of a delivery has done is the delivery.
 use Rattle.std.proofs.Common.{◌≡◌, ℕ, suc, ◌+◌, ◌-◌, ◌<◌, ◌≤◌, ◌++◌, List, [], ◌∷◌, length, length-drop, take, drop, Option, Some, None, refl, sym, ap, ◌∙◌, subst, arith}
 use Rattle.std.proofs.lemmas.List.{take-append-drop, drop-drop, drop_all}
-use Rattle.rio_chars.specs.declared.chars.Char.{Char}
-use Rattle.rio_symbols.specs.Fields.{Fields}
-use Rattle.link_model.specs.declared.event.Event.{Event}
-use Rattle.link_model.specs.Fronts.{telling_front}
-use Rattle.link_model.specs.Places.{Place, run, place_after}
-use Rattle.link_model.specs.Reading.{placed}
+use Rattle.link_model.specs.Prelude.{Char, Fields, telling_front, Place, run, place_after, placed}
+use Rattle.link_port.specs.Prelude.{Event, PortState}
 use Rattle.link_model.proofs.FrontLaws.{front-count, front-place, run-telling_front}
 use Rattle.link_model.proofs.PlacesLaws.{place_after-append, place_after-none, run-none}
-use Rattle.link_port.specs.Ports.{PortState}
 use Rattle.link_wires.specs.Wires.{WireState, without_front}
 use Rattle.link_wires.specs.Deliveries.{Flow, Delivered, Through, Undetected, comes, goes_on, come, ended, flows, told_of, undetected, flow_of, Shows, IsLeft}
 use Rattle.link_wires.specs.declared.moves.Move.{Move}

@@ -1,12 +1,8 @@
 -- One turn after another.
 use Rattle.std.proofs.Common.{◌≡◌, ℕ, zero, suc, ◌-◌, ◌++◌, ◌<◌, List, [], ◌∷◌, refl, ap, ◌∙◌, arith, append_assoc}
 use Rattle.std.proofs.lemmas.List.{append-nil}
-use Rattle.rio_chars.specs.declared.chars.Char.{Char}
-use Rattle.rio_symbols.specs.Fields.{Fields}
-use Rattle.link_model.specs.declared.event.Event.TheVariants.{Ctl}
-use Rattle.link_model.specs.ReadingSpelt.{symbol_chars_of}
-use Rattle.link_port.specs.Ports.{PortState}
-use Rattle.link_port.specs.Turns.{Burst, no_burst, turns_to, turn_sends}
+use Rattle.link_model.specs.Prelude.{Char, Fields, symbol_chars_of}
+use Rattle.link_port.specs.Prelude.{Ctl, PortState, Burst, no_burst, turns_to, turn_sends}
 use Rattle.link_wires.specs.Wires.{WireState, with_sent, both_bursts, turned, bursts, answers}
 
 less_one : (n : ℕ) → suc n - 1 ≡ n

@@ -1,15 +1,11 @@
 -- A turn that sends nothing leaves the port as it is, and so do all after it.
 use Rattle.std.proofs.Common.{◌≡◌, ◌==◌, ℕ, zero, suc, ◌<◌, Bool, true, false, if◌then◌else◌, Option, Some, None, List, [], ◌∷◌, length, slice_get, refl, ap, ◌∙◌, arith}
 use Rattle.std.proofs.lemmas.Bool.{eqb-true}
-use Rattle.link_buffers.specs.Queues.{list_at}
-use Rattle.link_buffers.specs.Priorities.{highest}
+use Rattle.link_buffers.specs.Prelude.{list_at, highest}
 use Rattle.link_buffers.proofs.PriorityLaws.{highest_below-some}
-use Rattle.link_model.specs.declared.event.Event.{Event}
+use Rattle.link_port.specs.Prelude.{Event, PortState, expected_of, Burst, no_burst, packet_burst, burst_of, waiting_in, turns_to, turn_sends}
 use Rattle.link_model.specs.Outstanding.{Outstanding}
 use Rattle.link_model.specs.Output.{Output, Ok, RetryStopped, ErrorStopped, Failed, turns, started, startable}
-use Rattle.link_port.specs.Ports.{PortState}
-use Rattle.link_port.specs.States.{expected_of}
-use Rattle.link_port.specs.Turns.{Burst, no_burst, packet_burst, burst_of, waiting_in, turns_to, turn_sends}
 use Rattle.link_wires.specs.Wires.{both_bursts, turned, bursts}
 
 pub none_are : (sent : List Event) → (length sent == 0) ≡ true → sent ≡ []

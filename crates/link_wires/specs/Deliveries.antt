@@ -2,12 +2,8 @@
 -- where the framer stands, are led through the step tables one after another, up to the first that
 -- is acted on and was not sent.
 use Rattle.std.specs.Prelude.{◌≡◌, ℕ, suc, ◌+◌, ◌++◌, List, [], ◌∷◌, length, map, option_to_list, Option, Some, None, if◌then◌else◌}
-use Rattle.rio_chars.specs.declared.chars.Char.{Char}
-use Rattle.rio_symbols.specs.Fields.{Fields}
-use Rattle.link_model.specs.declared.event.Event.{Event}
-use Rattle.link_model.specs.Places.{Place, run, place_after}
-use Rattle.link_port.specs.Ports.{PortState}
-use Rattle.link_port.specs.Steps.{Acted, acts, is_acted}
+use Rattle.link_model.specs.Prelude.{Char, Fields, Place, run, place_after}
+use Rattle.link_port.specs.Prelude.{Event, PortState, Acted, acts, is_acted}
 use Rattle.link_wires.specs.Kept.{behind}
 use Rattle.link_wires.specs.Wires.{WireState, without_front}
 use Rattle.link_wires.specs.declared.moves.Move.{Move}

@@ -1,3 +1,4 @@
 pub mod Kept
 pub mod Deliveries
 pub mod Wires
+pub mod Prelude

@@ -1,13 +1,8 @@
 -- One way of a link.
 use Rattle.std.specs.Prelude.{ℕ, zero, suc, ◌+◌, ◌++◌, nat_lt, nat_le, Bool, true, false, List, [], ◌∷◌, length, take, drop, map, slice_set, if◌then◌else◌}
 use Rattle.std.specs.List.{flat_map}
-use Rattle.rio_chars.specs.declared.chars.Char.{Char}
-use Rattle.rio_symbols.specs.Fields.{Fields}
-use Rattle.link_model.specs.declared.event.Event.{Event}
-use Rattle.link_model.specs.declared.event.Event.TheVariants.{Ctl}
-use Rattle.link_model.specs.ReadingSpelt.{symbol_chars_of}
-use Rattle.link_port.specs.Ports.{PortState}
-use Rattle.link_port.specs.Turns.{Burst, no_burst, turns_to, turn_sends}
+use Rattle.link_model.specs.Prelude.{Char, Fields, symbol_chars_of}
+use Rattle.link_port.specs.Prelude.{Event, Ctl, PortState, Burst, no_burst, turns_to, turn_sends}
 use Rattle.link_wires.specs.declared.edits.Edit.{Edit}
 use Rattle.link_wires.specs.declared.edits.Edit.TheVariants.{Alter, Erase, Insert}
 use Rattle.link_wires.specs.declared.edits.Edited.{Edited}

@@ -1,9 +1,7 @@
 //! What a port does with characters of a wire.
 ghost use Rattle.std.specs.Prelude.{◌≡◌, ◌≤◌, ℕ, suc, List, [], ◌∷◌, Some, None, length, take, drop, IfOk, IfNone, OnOk, IsTrue, IsFalse};
-ghost use Rattle.link_model.specs.declared.event.Event.{Event};
-ghost use Rattle.link_model.specs.declared.event.Event.TheVariants.{Ctl};
+ghost use Rattle.link_port.specs.Prelude.{Event, Ctl, completed_events};
 ghost use Rattle.link_model.specs.Reading.{placed};
-ghost use Rattle.link_port.specs.Runs.{completed_events};
 ghost use Rattle.link_wires.specs.Deliveries.{delivered, told_of, undetected, come, comes, flows, flow_of, kept_after, Shows, IsLeft};
 ghost use Rattle.link_wires.specs.Kept.{behind};
 

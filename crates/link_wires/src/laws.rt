@@ -1,8 +1,7 @@
 //! Acted events are sent ones, in order. The calls do nothing: their clauses are the laws.
 ghost use Rattle.std.specs.Prelude.{◌≡◌, ◌↔◌, List, [], ◌∷◌, ◌++◌, Some, None, IsSome};
 ghost use Rattle.rio_chars.specs.declared.chars.Char.{Char};
-ghost use Rattle.link_model.specs.declared.event.Event.{Event};
-ghost use Rattle.link_port.specs.Ports.{PortState};
+ghost use Rattle.link_port.specs.Prelude.{Event, PortState};
 ghost use Rattle.link_wires.specs.Deliveries.{Told, Flow, Through, Undetected, goes_on, flows, delivered};
 ghost use Rattle.link_wires.specs.Kept.{behind, behind_all, IsSubsequence};
 

@@ -1,8 +1,6 @@
 use Rattle.std.proofs.Common.{◌≡◌, ◌-◌, ◌<◌, ◌≤◌, List, [], ap, ◌∙◌, length, length-drop, drop, Some, None, arith}
-use Rattle.rio_chars.specs.declared.chars.Char.{Char}
-use Rattle.link_model.specs.Fronts.{telling_front}
-use Rattle.link_port.specs.Ports.{PortState}
-use Rattle.link_port.specs.Runs.{completed_events}
+use Rattle.link_model.specs.Prelude.{Char, telling_front}
+use Rattle.link_port.specs.Prelude.{PortState, completed_events}
 use Rattle.link_wires.specs.Deliveries.{flows, flow_of}
 use Rattle.link_wires.proofs.Leading.{run_shows, lead_on, lead_missed, lead_ended}
 use Rattle.link_wires.proofs.deliveries.lead.Goals as goal

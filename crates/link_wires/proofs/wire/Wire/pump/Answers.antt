@@ -1,8 +1,7 @@
 use Rattle.std.proofs.Common.{◌≡◌, ◌-◌, ◌++◌, ◌<◌, List, [], ap, ◌∙◌, sym, arith}
 use Rattle.std.proofs.lemmas.List.{append-nil}
 use Rattle.rio_chars.specs.declared.chars.Char.{Char}
-use Rattle.link_port.specs.Ports.{PortState}
-use Rattle.link_port.specs.Turns.{Burst, turns_to, turn_sends}
+use Rattle.link_port.specs.Prelude.{PortState, Burst, turns_to, turn_sends}
 use Rattle.link_wires.specs.Wires.{WireState, with_sent, turned, bursts}
 use Rattle.link_wires.proofs.QuietTurns.{none_are, quiet_turn, turned_quiet, bursts_quiet}
 use Rattle.link_wires.proofs.PumpLaws.{sent_nothing, turned_next, turned_none, bursts_none, sent_none, turn_then, chars_then}
