@@ -2,19 +2,13 @@
 use Rattle.std.proofs.Common.{◌≡◌, ℕ, Bool, true, false, not, MatchBool, List, [], ◌∷◌, length, Ok, Err, refl, sym, ap, ◌∙◌, subst, if◌then◌else◌, append-nil, arith}
 use Rattle.std.proofs.lemmas.Bool.{le-leb}
 use Rattle.rio_chars.specs.declared.chars.Char.{Char}
-use Rattle.link_model.specs.declared.event.Event.{Event}
-use Rattle.link_watch.specs.Sides.{other_side}
-use Rattle.link_watch.specs.Stops.{Stopped}
-use Rattle.link_watch.specs.declared.note.Note.{Note}
-use Rattle.link_port.specs.Ports.{PortState}
-use Rattle.link_watch.specs.declared.side.Side.{Side}
-use Rattle.link_watch.specs.declared.side.Side.TheVariants.{A, B}
+use Rattle.link_port.specs.Prelude.{Event, PortState}
+use Rattle.link_machine.specs.Prelude.{other_side, Stopped, Note, Side, A, B, has_none, has_chars, delivery_from, delivered_from, delivery_notes, Wires, LinkState, link, from_end}
 use Rattle.link_wires.specs.Deliveries.{Delivered, Through, Undetected as Unsent}
 use Rattle.link_wires.specs.declared.edits.Edited.{Edited}
 use Rattle.link_wires.specs.declared.edits.Edited.TheVariants.{Short}
 use Rattle.link_law.specs.Answers.{taken_by, delivery_answer, UnlessGivenUp, OnGivenUp}
-use Rattle.link_machine.specs.Calls.{has_none, has_chars, delivery_from, delivered_from, delivery_notes}
-use Rattle.link_machine.specs.States.{Wires, LinkState, link, wire_at, from_end}
+use Rattle.link_machine.specs.States.{wire_at}
 use Rattle.link_law.specs.declared.answers.LinkEnd.{LinkEnd}
 use Rattle.link_law.specs.declared.answers.LinkEnd.TheVariants.{Undetected, Failed, NoMemory}
 use Rattle.link_rest.specs.Acts.{Act, Deliver, Reached, At, Found, reached_by, after, act_notes, acts_notes}

@@ -1,13 +1,9 @@
 -- What the code of a delivery has done is what the delivery does.
 use Rattle.std.proofs.Common.{◌≡◌, ℕ, true, Option, Some, None, Result, Ok, Err, OnOk, refl, sym, ap, if◌then◌else◌}
 use Rattle.link_model.specs.declared.event.Event.{Event}
-use Rattle.link_watch.specs.Sides.{other_side}
-use Rattle.link_watch.specs.declared.side.Side.{Side}
-use Rattle.link_watch.specs.declared.watch.NoteEnd.{NoteEnd}
+use Rattle.link_machine.specs.Prelude.{other_side, Side, NoteEnd, first_takes, has_chars, delivered_from, LinkState, at_end}
 use Rattle.link_watch.specs.declared.watch.NoteEnd.TheVariants as NoteEnds
 use Rattle.link_law.specs.Answers.{end_of}
-use Rattle.link_machine.specs.Calls.{first_takes, has_chars, delivered_from}
-use Rattle.link_machine.specs.States.{LinkState, at_end}
 
 pub link_is : (from : Side) (count : ℕ) (s : LinkState) → has_chars from count s ≡ true
     → at_end (other_side from) (first_takes count) s ≡ delivered_from from count s

@@ -2,10 +2,7 @@
 use Rattle.std.proofs.Common.{◌≡◌, Bool, true, false, MatchBool, List, [], ◌∷◌, ◌++◌, refl, sym, ap, ◌∙◌, subst, append_assoc, append-nil, Result, Ok, Err}
 use Rattle.link_model.specs.declared.event.Event.{Event}
 use Rattle.link_watch.specs.Stops.{CutAtFirst}
-use Rattle.link_watch.specs.declared.note.Note.{Note}
-use Rattle.link_watch.specs.declared.side.Side.{Side}
-use Rattle.link_watch.specs.declared.side.Side.TheVariants.{A, B}
-use Rattle.link_machine.specs.States.{LinkState}
+use Rattle.link_machine.specs.Prelude.{Note, Side, A, B, LinkState}
 use Rattle.link_law.specs.declared.answers.LinkEnd.{LinkEnd}
 use Rattle.link_law.specs.declared.answers.LinkEnd.TheVariants.{Undetected, Failed, NoMemory}
 use Rattle.link_rest.specs.Schedules.{NextOf, WhereOf}

@@ -1,15 +1,8 @@
 -- Loops of the schedule, and a drain.
 use Rattle.std.proofs.Common.{◌≡◌, ℕ, suc, ◌+◌, ◌-◌, ◌<◌, ◌≤◌, true, false, List, [], ◌++◌, refl, sym, ap, ◌∙◌, subst, append_assoc, arith}
 use Rattle.link_model.specs.declared.event.Event.{Event}
-use Rattle.link_watch.specs.declared.note.Note.{Note}
-use Rattle.link_watch.specs.declared.side.Side.{Side}
-use Rattle.link_watch.specs.declared.side.Side.TheVariants.{A, B}
-use Rattle.link_watch.specs.declared.watch.NoteEnd.{NoteEnd}
+use Rattle.link_machine.specs.Prelude.{Note, Side, A, B, NoteEnd, LinkState, pumped, pump_notes, timed_out_at, time_out_notes, IsSoundLink, Stopped}
 use Rattle.link_watch.specs.declared.watch.NoteEnd.TheVariants as Stop
-use Rattle.link_machine.specs.States.{LinkState}
-use Rattle.link_machine.specs.Calls.{pumped, pump_notes, timed_out_at, time_out_notes}
-use Rattle.link_machine.specs.Sound.{IsSoundLink}
-use Rattle.link_watch.specs.Stops.{Stopped}
 use Rattle.link_law.specs.declared.answers.LinkEnd.{LinkEnd}
 use Rattle.link_law.specs.declared.answers.LinkEnd.TheVariants.{Undetected, Failed, NoMemory}
 use Rattle.link_rest.specs.Schedules.{NextOf}

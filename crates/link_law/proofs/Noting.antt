@@ -1,9 +1,7 @@
 -- The notes of one call, where they are one or none.
 use Rattle.std.proofs.Common.{◌≡◌, ◌<◌, List, [], ◌∷◌, length, Result, Ok, Err, OnOk, refl, arith}
 use Rattle.rio_chars.specs.declared.chars.Char.{Char}
-use Rattle.link_watch.specs.declared.note.Note.TheVariants.{Sent}
-use Rattle.link_watch.specs.declared.side.Side.{Side}
-use Rattle.link_machine.specs.Calls.{sent_notes}
+use Rattle.link_machine.specs.Prelude.{Sent, Side, sent_notes}
 
 pub sent_one : (side : Side) (chars : List Char) → 0 < length chars
     → sent_notes side chars ≡ Sent side chars ∷ []

@@ -1,13 +1,9 @@
 -- The loop in which what waits is sent, and what follows recovery.
 use Rattle.std.proofs.Common.{◌≡◌, ◌↔◌, ℕ, ◌<◌, Bool, true, false, MatchBool, IsTrue, IsSome, List, [], ◌++◌, length, Option, Some, None, Result, Ok, Err, refl, sym, ap, ◌∙◌, subst, arith}
-use Rattle.link_buffers.specs.Queues.{packet_count}
-use Rattle.link_buffers.specs.Priorities.{highest}
+use Rattle.link_buffers.specs.Prelude.{packet_count, highest}
 use Rattle.link_buffers.proofs.PriorityLaws.{packet_count-highest}
 use Rattle.link_model.specs.declared.event.Event.{Event}
-use Rattle.link_watch.specs.declared.note.Note.{Note}
-use Rattle.link_watch.specs.declared.side.Side.{Side}
-use Rattle.link_machine.specs.States.{LinkState, from_end}
-use Rattle.link_machine.specs.Sound.{IsSoundLink}
+use Rattle.link_machine.specs.Prelude.{Note, Side, LinkState, from_end, IsSoundLink}
 use Rattle.link_law.specs.declared.answers.LinkEnd.{LinkEnd}
 use Rattle.link_rest.specs.Schedules.{NextOf}
 use Rattle.link_rest.specs.Schedules.LoopOf.{Rests, GoesOn, Leaves}

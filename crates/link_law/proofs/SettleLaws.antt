@@ -1,11 +1,7 @@
 -- The parts of settling, one after another.
 use Rattle.std.proofs.Common.{List, [], Result, Ok, Err, OnOk, IfErr, refl, sym, subst}
 use Rattle.link_model.specs.declared.event.Event.{Event}
-use Rattle.link_watch.specs.declared.note.Note.{Note}
-use Rattle.link_watch.specs.declared.side.Side.{Side}
-use Rattle.link_watch.specs.declared.side.Side.TheVariants.{A, B}
-use Rattle.link_machine.specs.States.{LinkState}
-use Rattle.link_machine.specs.Sound.{IsSoundLink}
+use Rattle.link_machine.specs.Prelude.{Note, Side, A, B, LinkState, IsSoundLink}
 use Rattle.link_rest.specs.Schedules.{NextOf}
 use Rattle.link_rest.specs.Acts.{Reached, At, Found, goes, OnState}
 use Rattle.link_rest.specs.Settling.{Part, Drains, Recovers, SendsAll, Settles}

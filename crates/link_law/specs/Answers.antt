@@ -1,15 +1,11 @@
 -- What each call of a link answers.
 use Rattle.std.specs.Prelude.{Bool, true, false, ℕ, Option, Some, None, Result, Ok, Err, if◌then◌else◌}
 use Rattle.link_model.specs.declared.event.Event.{Event}
-use Rattle.link_watch.specs.Sides.{other_side}
-use Rattle.link_watch.specs.declared.side.Side.{Side}
-use Rattle.link_watch.specs.declared.watch.NoteEnd.{NoteEnd}
+use Rattle.link_machine.specs.Prelude.{other_side, Side, NoteEnd, has_chars, delivery_from, LinkState}
 use Rattle.link_watch.specs.declared.watch.NoteEnd.TheVariants as NoteEnds
 use Rattle.link_wires.specs.Deliveries.{Delivered, Through, Undetected as Unsent}
 use Rattle.link_wires.specs.declared.edits.Edited.{Edited}
 use Rattle.link_wires.specs.declared.edits.Edited.TheVariants.{Done, Short}
-use Rattle.link_machine.specs.Calls.{has_chars, delivery_from}
-use Rattle.link_machine.specs.States.{LinkState}
 use Rattle.link_law.specs.declared.answers.Fired.{Fired}
 use Rattle.link_law.specs.declared.answers.Fired.TheVariants as Fires
 use Rattle.link_law.specs.declared.answers.LinkEnd.{LinkEnd}

@@ -2,8 +2,7 @@
 use Rattle.std.specs.Prelude.{◌≡◌, List, Option, take}
 use Rattle.rio_chars.specs.declared.chars.Char.{Char}
 use Rattle.link_model.specs.declared.event.Event.{Event}
-use Rattle.link_wires.specs.Deliveries.{Delivered, told_of, undetected}
-use Rattle.link_wires.specs.Wires.{answers as answered_by}
+use Rattle.link_wires.specs.Prelude.{Delivered, told_of, undetected, answers as answered_by}
 use Rattle.link_wires.specs.declared.moves.Move.{Move}
 
 -- The characters that a port got of those that were to be taken, its moves, the characters of its

@@ -1,16 +1,12 @@
 -- What a call does of the schedule.
 use Rattle.std.specs.Prelude.{◌≡◌, ◌≤◌, ℕ, true, List, [], ◌∷◌, Result, Ok, Err, IsErrOf}
 use Rattle.rio_chars.specs.Faults.{Rose}
-use Rattle.link_watch.specs.Stops.{Stopped}
-use Rattle.link_watch.specs.declared.note.Note.{Note}
-use Rattle.link_watch.specs.declared.side.Side.{Side}
-use Rattle.link_machine.specs.States.{LinkState}
+use Rattle.link_machine.specs.Prelude.{Stopped, Note, Side, LinkState, NoteEnd}
 use Rattle.link_law.specs.declared.answers.LinkEnd.{LinkEnd}
 use Rattle.link_law.specs.declared.answers.LinkEnd.TheVariants.{Undetected, Failed, NoMemory}
 use Rattle.link_rest.specs.Acts.{Act, Pump, Reached, At, Found, goes, acts_notes, holds}
 use Rattle.link_rest.specs.Settling.{Part}
 use Rattle.link_rest.specs.Schedules.{WhereOf, Is}
-use Rattle.link_watch.specs.declared.watch.NoteEnd.{NoteEnd}
 use Rattle.link_watch.specs.declared.watch.NoteEnd.TheVariants as Stop
 
 -- a part of the schedule was done from a link on, up to here, and its notes were taken in

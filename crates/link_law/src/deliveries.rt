@@ -2,17 +2,12 @@
 ghost use Rattle.std.specs.Prelude.{◌≡◌, ◌≤◌, ◌++◌, ◌∷◌, [], None, true, length, map, take, IfOk, OnOk, OnErr, IsErrOf};
 ghost use Rattle.rio_chars.specs.Faults.{Rose};
 ghost use Rattle.link_port.specs.Ports.{PortState};
-ghost use Rattle.link_watch.specs.Stops.{Stopped};
-ghost use Rattle.link_watch.specs.Sides.{other_side};
-ghost use Rattle.link_watch.specs.declared.note.Note.TheVariants.{Got};
+ghost use Rattle.link_machine.specs.Prelude.{Stopped, other_side, Got, sent_notes, move_note, first_takes, has_chars, delivered_from, delivery_from, delivery_notes, queues_of, Walks, IsSoundLink, link, at_end, from_end};
 ghost use Rattle.link_wires.specs.Wires.{with_sent, answers};
 ghost use Rattle.link_wires.specs.Deliveries.{delivered, told_of, undetected, IsLeft};
 ghost use Rattle.link_law.specs.Answers.{delivery_answer, end_of, UnlessGivenUp, OnGivenUp};
-ghost use Rattle.link_machine.specs.Calls.{sent_notes, move_note, first_takes, has_chars, delivered_from, delivery_from, delivery_notes};
 ghost use Rattle.link_law.specs.Carried.{AreCarried};
-ghost use Rattle.link_machine.specs.Queues.{queues_of, steps_of, Walks};
-ghost use Rattle.link_machine.specs.Sound.{IsSoundLink};
-ghost use Rattle.link_machine.specs.States.{link, at_end, from_end};
+ghost use Rattle.link_machine.specs.Queues.{steps_of};
 
 use crate::answers::LinkEnd;
 use crate::link::Link;

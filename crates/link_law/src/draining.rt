@@ -1,9 +1,7 @@
 //! Drains of a link, and turns with what comes of them.
 ghost use Rattle.std.specs.Prelude.{◌≡◌, not};
 ghost use Rattle.link_port.specs.Ports.{PortState};
-ghost use Rattle.link_watch.specs.declared.side.Side.TheVariants.{A, B};
-ghost use Rattle.link_machine.specs.Sound.{IsSoundLink};
-ghost use Rattle.link_machine.specs.States.{link};
+ghost use Rattle.link_machine.specs.Prelude.{A, B, IsSoundLink, link};
 ghost use Rattle.link_rest.specs.Acts.{At, goes};
 ghost use Rattle.link_rest.specs.Schedules.{NextOf};
 ghost use Rattle.link_rest.specs.Settling.{Empties, Drains, TakesTurn, is_busy};

@@ -2,12 +2,11 @@
 ghost use Rattle.std.specs.Prelude.{◌≡◌, ◌≤◌, ℕ, List, length, IfOk, OnOk, OnErr, IsErrOf};
 ghost use Rattle.rio_chars.specs.Faults.{Rose};
 ghost use Rattle.link_port.specs.Ports.{PortState};
-ghost use Rattle.link_watch.specs.Stops.{Stopped};
+ghost use Rattle.link_machine.specs.Prelude.{Stopped, sent_notes, pumped, pump_notes, is_silent, timed_out_at, time_out_notes, IsSoundLink, link, from_end};
 ghost use Rattle.link_wires.specs.Wires.{bursts, fits, answered};
 ghost use Rattle.link_law.specs.Answers.{fired};
-ghost use Rattle.link_machine.specs.Calls.{sent_notes, pumped, pump_notes, edited_from, is_silent, timed_out_at, time_out_notes};
-ghost use Rattle.link_machine.specs.Sound.{IsSoundLink};
-ghost use Rattle.link_machine.specs.States.{link, empty_wires, wire_at, from_end};
+ghost use Rattle.link_machine.specs.Calls.{edited_from};
+ghost use Rattle.link_machine.specs.States.{empty_wires, wire_at};
 
 use crate::answers::Fired;
 use link_port::Port;

@@ -1,7 +1,6 @@
 //! Many packets, deliveries in pieces, watches that fail, and memory that is refused.
 ghost use Rattle.std.specs.Prelude.{◌≤◌, ◌<◌};
-ghost use Rattle.link_machine.specs.Sound.{IsSoundLink};
-ghost use Rattle.link_machine.specs.States.{link};
+ghost use Rattle.link_machine.specs.Prelude.{IsSoundLink, link};
 
 use crate::LinkEnd;
 use crate::tests::{DATA, Pair, new_pair, packet, text};

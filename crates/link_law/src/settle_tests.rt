@@ -1,6 +1,5 @@
 //! Each pair of states that an output and the input at its far end can reach, settled.
-ghost use Rattle.link_machine.specs.Sound.{IsSoundLink};
-ghost use Rattle.link_machine.specs.States.{link};
+ghost use Rattle.link_machine.specs.Prelude.{IsSoundLink, link};
 
 use crate::Fired;
 use crate::tests::{DATA, Pair, new_pair, packet};

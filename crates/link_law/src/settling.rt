@@ -1,8 +1,7 @@
 //! Settling: the schedule that brings a link to rest.
 ghost use Rattle.std.specs.Prelude.{◌≤◌, IsErrOf, OnOk, IfErr};
 ghost use Rattle.rio_chars.specs.Faults.{Rose};
-ghost use Rattle.link_machine.specs.Sound.{IsSoundLink};
-ghost use Rattle.link_machine.specs.States.{link};
+ghost use Rattle.link_machine.specs.Prelude.{IsSoundLink, link};
 ghost use Rattle.link_rest.specs.Acts.{At};
 ghost use Rattle.link_rest.specs.Rest.{IsQuiet, IsSettled};
 ghost use Rattle.link_rest.specs.Settling.{Restarts, TimesOut, Requests, Recovers, SendsAll, Settles};

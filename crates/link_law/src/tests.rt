@@ -3,8 +3,7 @@
 //! packets and from the step tables (RapidIO Interconnect Specification 1.3, Part 6;
 //! `docs/link.md`).
 ghost use Rattle.std.specs.Prelude.{◌≤◌, ◌<◌, OnOk};
-ghost use Rattle.link_machine.specs.Sound.{IsSoundLink};
-ghost use Rattle.link_machine.specs.States.{link};
+ghost use Rattle.link_machine.specs.Prelude.{IsSoundLink, link};
 
 use crate::{Fired, Link, LinkEnd};
 use link_port::{Port, PortFace};

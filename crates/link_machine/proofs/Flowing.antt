@@ -1,22 +1,16 @@
 -- A delivery keeps a link sound, and what is held and freed are steps of plain queues.
 use Rattle.std.proofs.Common.{◌≡◌, ℕ, ◌++◌, true, false, List, [], ◌∷◌, map, Option, Some, None, option_to_list, refl, sym, ap, ◌∙◌, subst, if◌then◌else◌, append_assoc}
 use Rattle.std.proofs.lemmas.List.{append-nil, map-append}
-use Rattle.rio_chars.specs.declared.chars.Char.{Char}
-use Rattle.rio_symbols.specs.Fields.{Fields}
-use Rattle.link_model.specs.declared.event.Event.{Event}
-use Rattle.link_model.specs.declared.event.Event.TheVariants.{Ctl}
+use Rattle.link_model.specs.Prelude.{Char, Fields, Place, IsBounded, step, run, place_after}
+use Rattle.link_port.specs.Prelude.{Event, Ctl, PortState, IsPort, acts, is_acted}
 use Rattle.link_model.specs.Events.{same_event}
 use Rattle.link_model.specs.EventsEqual.{found_same}
-use Rattle.link_model.specs.Places.{Place, IsBounded, step, run, place_after}
 use Rattle.link_model.proofs.PlacesBounds.{step_bounded}
-use Rattle.link_port.specs.Ports.{PortState, IsPort}
-use Rattle.link_port.specs.Steps.{acts, is_acted}
 use Rattle.link_sound.specs.Sound.{IsSound, reply_sent}
 use Rattle.link_sound.proofs.Steps.{acted_keeps, other_keeps, lost_keeps}
 use Rattle.link_sound.proofs.Moves.{acted_holds, other_holds, acted_frees, other_frees}
 use Rattle.link_sound.proofs.PortBounds.{acted_port, other_port, read_port}
-use Rattle.link_wires.specs.Kept.{behind}
-use Rattle.link_wires.specs.Deliveries.{Flow, Delivered, Through, Undetected, begun, done, met, comes, goes_on, come, ended, delivered}
+use Rattle.link_wires.specs.Prelude.{behind, Flow, Delivered, Through, Undetected, begun, done, met, comes, goes_on, come, ended, delivered}
 use Rattle.link_machine.specs.Queues.{Queues, queues_between}
 use Rattle.link_machine.proofs.Walking.{FirstWalks, Stays, walks_on, event_walks}
 

@@ -2,9 +2,8 @@
 use Rattle.std.proofs.Common.{◌≡◌, ◌≢◌, ℕ, ◌++◌, true, false, List, [], ◌∷◌, map, take, None, refl, sym, ap, ◌∙◌, subst, if◌then◌else◌}
 use Rattle.std.proofs.lemmas.List.{append-nil}
 use Rattle.rio_chars.specs.declared.chars.Char.{Char}
-use Rattle.link_model.specs.declared.event.Event.{Event}
+use Rattle.link_port.specs.Prelude.{Event, PortState, IsPort, new_port}
 use Rattle.link_model.specs.Output as out
-use Rattle.link_port.specs.Ports.{PortState, IsPort, new_port}
 use Rattle.link_sound.specs.Histories.{AreBuffers}
 use Rattle.link_sound.specs.Sound.{IsSound}
 use Rattle.link_sound.proofs.Steps.{exchanged, begins, time_out_keeps}
@@ -14,8 +13,7 @@ use Rattle.link_watch.specs.Sides.{other_side}
 use Rattle.link_watch.specs.declared.note.Note.{Note}
 use Rattle.link_watch.specs.declared.side.Side.{Side}
 use Rattle.link_watch.specs.declared.side.Side.TheVariants.{A, B}
-use Rattle.link_wires.specs.Deliveries.{Told, Delivered, Through, Undetected, told_of, undetected}
-use Rattle.link_wires.specs.Wires.{answers}
+use Rattle.link_wires.specs.Prelude.{Told, Delivered, Through, Undetected, told_of, undetected, answers}
 use Rattle.link_wires.specs.declared.edits.Edit.{Edit}
 use Rattle.link_wires.specs.declared.moves.Move.{Move}
 use Rattle.link_wires.specs.declared.moves.Move.TheVariants.{Held, Freed}

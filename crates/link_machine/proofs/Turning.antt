@@ -3,14 +3,10 @@
 use Rattle.std.proofs.Common.{◌≡◌, ℕ, zero, suc, ◌<◌, ◌≤◌, ◌==◌, ◌++◌, cond, true, false, List, [], ◌∷◌, map, length, take, drop, inl, inr, refl, sym, ap, ◌∙◌, subst, if◌then◌else◌, append_assoc, arith}
 use Rattle.std.proofs.lemmas.Bool.Decides.{eqb_tells}
 use Rattle.std.proofs.lemmas.List.{append-nil, take-append-le, drop-append-le}
-use Rattle.link_buffers.specs.Queues.{list_at, popped}
-use Rattle.link_buffers.specs.Priorities.{Covers, packets_of, highest}
+use Rattle.link_buffers.specs.Prelude.{list_at, popped, Covers, packets_of, highest}
 use Rattle.link_buffers.proofs.PriorityLists.{list_at-popped}
 use Rattle.link_buffers.proofs.PriorityLaws.{Covers-first, Covers-rest}
-use Rattle.link_model.specs.declared.event.Event.{Event}
-use Rattle.link_port.specs.Ports.{PortState, IsPort}
-use Rattle.link_port.specs.Turns.{turns_to, turn_sends, timed_out, waiting_in}
-use Rattle.link_port.specs.States.{prios_of, expected_of}
+use Rattle.link_port.specs.Prelude.{Event, PortState, IsPort, turns_to, turn_sends, timed_out, waiting_in, prios_of, expected_of}
 use Rattle.link_sound.specs.Meanings.{forward, backward}
 use Rattle.link_sound.specs.Between.{IsBetween}
 use Rattle.link_sound.specs.Sound.{IsSound}

@@ -4,3 +4,4 @@ pub mod Sound
 pub mod Queues
 pub mod Layer
 pub mod Runs
+pub mod Prelude

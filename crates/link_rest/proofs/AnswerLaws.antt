@@ -1,21 +1,11 @@
 -- What ports answer says nothing to a receiver: answers have no answer.
 use Rattle.std.proofs.Common.{◌≡◌, ℕ, ◌<◌, Option, Some, None, option_to_list, List, [], ◌∷◌, ◌++◌, refl, ap, ◌∙◌, arith, append_assoc}
-use Rattle.rio_symbols.specs.Fields.{Fields}
-use Rattle.rio_packets.specs.CauseNumbers.{number_of}
-use Rattle.rio_packets.specs.Fields.{prio_of}
+use Rattle.link_model.specs.Prelude.{Fields, number_of, prio_of, Input, Arrival, packet_arrival, symbol_arrival, receives, run, place, place_after, Text, Plain, Skipped, Within}
 use Rattle.link_buffers.specs.Queues.{room_for}
-use Rattle.link_model.specs.declared.event.Event.{Event}
-use Rattle.link_model.specs.declared.event.Event.TheVariants.{Ctl, Pkt, Bad}
-use Rattle.link_model.specs.declared.reading_kinds.Pending.{Pending}
-use Rattle.link_model.specs.declared.reading_kinds.Pending.TheVariants.{Nothing, Opened, One, Two}
-use Rattle.link_model.specs.Input.{Input, Arrival, packet_arrival, symbol_arrival, receives}
+use Rattle.link_port.specs.Prelude.{Event, Ctl, Pkt, Bad, Pending, Nothing, Opened, One, Two, PortState, expected_of, acts, replies}
 use Rattle.link_model.specs.Input as in_half
-use Rattle.link_model.specs.Places.{broken_off, begins_in, run, place, place_after, opened}
-use Rattle.link_model.specs.Reading.{Text, Plain, Skipped, Within, text_after, told}
-use Rattle.link_port.specs.Ports.{PortState}
-use Rattle.link_port.specs.States.{expected_of}
-use Rattle.link_port.specs.Steps.{acts}
-use Rattle.link_port.specs.Acts.{replies}
+use Rattle.link_model.specs.Places.{broken_off, begins_in, opened}
+use Rattle.link_model.specs.Reading.{text_after, told}
 use Rattle.link_port.specs.Answers.{IsAnswer, IsReply}
 use Rattle.link_port.proofs.AnswerLaws.{reply_answers, answer_tells, answer_stays}
 use Rattle.link_sound.proofs.PortBounds.{expected_below}

@@ -1,7 +1,6 @@
 -- How many time-outs a schedule fires.
 use Rattle.std.proofs.Common.{◌≡◌, ℕ, ◌+◌, ◌≤◌, ◌++◌, Bool, true, false, MatchBool, List, [], ◌∷◌, refl, ap, ◌∙◌, arith, if◌then◌else◌}
-use Rattle.link_watch.specs.declared.side.Side.{Side}
-use Rattle.link_watch.specs.declared.side.Side.TheVariants.{A, B}
+use Rattle.link_machine.specs.Prelude.{Side, A, B}
 use Rattle.link_rest.specs.Schedules.{NextOf, WhereOf, Is, LoopOf}
 use Rattle.link_rest.specs.Schedules.LoopOf.{Rests, GoesOn, Leaves}
 use Rattle.link_rest.specs.Acts.{Act, Pump, Fire, Reached, At, Found, goes}

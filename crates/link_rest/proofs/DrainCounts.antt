@@ -1,10 +1,7 @@
 -- A drain is at most five deliveries, and from every sound link there is one.
 use Rattle.std.proofs.Common.{◌≡◌, inl, inr, ℕ, zero, suc, ◌+◌, ◌-◌, ◌≤◌, ◌++◌, Bool, true, false, MatchBool, List, [], length, length-append, refl, sym, ap, ◌∙◌, subst, if◌then◌else◌, arith, append_assoc, append-nil}
 use Rattle.std.proofs.lemmas.Bool.{or_parts, cases_lt}
-use Rattle.link_watch.specs.declared.side.Side.{Side}
-use Rattle.link_watch.specs.declared.side.Side.TheVariants.{A, B}
-use Rattle.link_machine.specs.States.{LinkState}
-use Rattle.link_machine.specs.Sound.{IsSoundLink}
+use Rattle.link_machine.specs.Prelude.{Side, A, B, LinkState, IsSoundLink}
 use Rattle.link_rest.specs.Schedules.{NextOf}
 use Rattle.link_rest.specs.Schedules.LoopOf.{Rests, GoesOn, Leaves}
 use Rattle.link_rest.specs.Acts.{Act, Reached, At, Found, goes}

@@ -1,20 +1,9 @@
 -- A drain is at most three rounds, and of its six deliveries the last has nothing to deliver.
 use Rattle.std.proofs.Common.{◌≡◌, ◌||◌, inl, inr, ℕ, zero, suc, ◌+◌, ◌-◌, ◌<◌, ◌≤◌, ◌++◌, Bool, true, false, not, MatchBool, List, [], ◌∷◌, refl, sym, ap, ◌∙◌, subst, if◌then◌else◌, arith}
 use Rattle.std.proofs.lemmas.Bool.{or_parts, cases_lt}
-use Rattle.rio_chars.specs.declared.chars.Char.{Char}
-use Rattle.rio_symbols.specs.Fields.{Fields}
-use Rattle.link_model.specs.declared.event.Event.{Event}
-use Rattle.link_model.specs.declared.reading_kinds.Pending.{Pending}
-use Rattle.link_model.specs.declared.reading_kinds.Pending.TheVariants.{Nothing}
-use Rattle.link_model.specs.Places.{place}
-use Rattle.link_port.specs.Ports.{PortState}
-use Rattle.link_port.specs.States.{expected_of}
-use Rattle.link_watch.specs.declared.side.Side.{Side}
-use Rattle.link_watch.specs.declared.side.Side.TheVariants.{A, B}
-use Rattle.link_machine.specs.States.{LinkState, turned_round}
-use Rattle.link_machine.specs.Calls.{has_none}
-use Rattle.link_machine.specs.Sound.{IsSoundLink}
-use Rattle.link_model.specs.Said.{said}
+use Rattle.link_model.specs.Prelude.{Char, Fields, place, said}
+use Rattle.link_port.specs.Prelude.{Event, Pending, Nothing, PortState, expected_of}
+use Rattle.link_machine.specs.Prelude.{Side, A, B, LinkState, turned_round, has_none, IsSoundLink}
 use Rattle.link_rest.specs.Led.{fed, answered, chars_of, AreAnswers}
 use Rattle.link_rest.specs.Schedules.{NextOf}
 use Rattle.link_rest.specs.Schedules.LoopOf.{Rests, GoesOn, Leaves}

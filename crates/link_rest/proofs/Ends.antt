@@ -2,13 +2,8 @@
 use Rattle.std.proofs.Common.{◌≡◌, inl, inr, ℕ, zero, suc, ◌<◌, ◌++◌, Bool, true, false, not, MatchBool, List, [], ◌∷◌, refl, sym, subst, if◌then◌else◌, arith}
 use Rattle.link_buffers.specs.Queues.{packet_count}
 use Rattle.link_model.specs.declared.event.Event.{Event}
-use Rattle.link_watch.specs.Sides.{other_side}
-use Rattle.link_watch.specs.declared.side.Side.{Side}
-use Rattle.link_watch.specs.declared.side.Side.TheVariants.{A, B}
+use Rattle.link_machine.specs.Prelude.{other_side, Side, A, B, LinkState, from_end, pumped, has_chars, delivery_from, delivered_from, IsSoundLink}
 use Rattle.link_wires.specs.Deliveries.{Delivered, Through, Undetected}
-use Rattle.link_machine.specs.States.{LinkState, from_end}
-use Rattle.link_machine.specs.Calls.{pumped, has_chars, delivery_from, delivered_from}
-use Rattle.link_machine.specs.Sound.{IsSoundLink}
 use Rattle.link_machine.proofs.Machine.{pump_keeps, delivery_keeps, fired_keeps}
 use Rattle.link_rest.specs.Schedules.{NextOf, WhereOf, Is}
 use Rattle.link_rest.specs.Schedules.LoopOf.{Rests, GoesOn, Leaves}

@@ -2,11 +2,7 @@
 use Rattle.std.proofs.Common.{◌≡◌, ◌++◌, Bool, false, List, [], refl, sym, ap, ◌∙◌, subst, if◌then◌else◌, arith}
 use Rattle.rio_chars.specs.declared.chars.Char.{Char}
 use Rattle.link_port.specs.Ports.{PortState}
-use Rattle.link_watch.specs.Sides.{other_side}
-use Rattle.link_watch.specs.declared.side.Side.{Side}
-use Rattle.link_watch.specs.declared.side.Side.TheVariants.{A, B}
-use Rattle.link_machine.specs.States.{LinkState, turned_round, from_end}
-use Rattle.link_machine.specs.Sound.{IsSoundLink}
+use Rattle.link_machine.specs.Prelude.{other_side, Side, A, B, LinkState, turned_round, from_end, IsSoundLink}
 use Rattle.link_rest.specs.Led.{fed, answered, chars_of}
 use Rattle.link_rest.specs.Acts.{Act, Reached, At, Found, goes, OnState}
 use Rattle.link_rest.specs.Settling.{all_chars, is_busy, Drains}

@@ -2,24 +2,13 @@
 use Rattle.std.proofs.Common.{◌≡◌, ℕ, ◌++◌, Bool, true, false, not, List, [], ◌∷◌, map, length, take, Option, Some, None, option_to_list, refl, sym, ap, ◌∙◌, if◌then◌else◌, arith, append_assoc, append-nil, nat_le}
 use Rattle.std.proofs.lemmas.List.{take_all, drop_all}
 use Rattle.std.proofs.lemmas.Bool.{le-leb}
-use Rattle.rio_chars.specs.declared.chars.Char.{Char}
-use Rattle.rio_symbols.specs.Fields.{Fields}
-use Rattle.link_model.specs.declared.event.Event.{Event}
-use Rattle.link_model.specs.Places.{run, place_after}
-use Rattle.link_port.specs.Ports.{PortState}
-use Rattle.link_port.specs.Steps.{acts, is_acted}
-use Rattle.link_port.specs.Acts.{replies}
-use Rattle.link_watch.specs.Sides.{other_side}
-use Rattle.link_watch.specs.declared.side.Side.{Side}
-use Rattle.link_watch.specs.declared.side.Side.TheVariants.{A, B}
-use Rattle.link_wires.specs.Kept.{behind}
-use Rattle.link_wires.specs.Deliveries.{Flow, Delivered, Through, Undetected, begun, done, met, goes_on, come, ended, delivered}
-use Rattle.link_machine.specs.States.{LinkState, turned_round, from_end}
-use Rattle.link_machine.specs.Calls.{delivery, after_delivery, first_takes, has_none}
-use Rattle.link_machine.specs.Sound.{IsSoundLink}
+use Rattle.link_model.specs.Prelude.{Char, Fields, run, place_after, said}
+use Rattle.link_port.specs.Prelude.{Event, PortState, acts, is_acted, replies}
+use Rattle.link_machine.specs.Prelude.{other_side, Side, A, B, LinkState, turned_round, from_end, first_takes, has_none, IsSoundLink}
+use Rattle.link_wires.specs.Prelude.{behind, Flow, Delivered, Through, Undetected, begun, done, met, goes_on, come, ended, delivered}
+use Rattle.link_machine.specs.Calls.{delivery, after_delivery}
 use Rattle.link_machine.specs.Queues.{queues_between}
 use Rattle.link_machine.proofs.Flowing.{AreFlowing, delivered_flowing}
-use Rattle.link_model.specs.Said.{said}
 use Rattle.link_rest.specs.Led.{led, fed, answered, chars_of}
 use Rattle.link_rest.specs.Acts.{Act, Deliver, Reached, At, reached_by, after, goes, OnState}
 use Rattle.link_rest.specs.Settling.{first_has_chars, of_end, all_chars}

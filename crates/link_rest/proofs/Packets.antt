@@ -1,31 +1,21 @@
 -- A packet comes to a port whose direction is at rest, and the answer comes back.
 use Rattle.std.proofs.Common.{◌≡◌, ℕ, ◌+◌, ◌%◌, ◌<◌, Bool, true, false, if◌then◌else◌, Option, Some, None, option_to_list, List, [], ◌∷◌, ◌++◌, map, length, slice_get, refl, ap, ◌∙◌, arith}
 use Rattle.std.proofs.lemmas.Bool.{eq-eqb}
-use Rattle.rio_symbols.specs.Fields.{Fields, InRange}
-use Rattle.rio_packets.specs.Fields.{prio_of}
-use Rattle.rio_packets.specs.LinkForm.{Passes}
-use Rattle.link_buffers.specs.Queues.{list_at, popped, room_for, stored}
-use Rattle.link_buffers.specs.Priorities.{lists_without, highest}
-use Rattle.link_model.specs.declared.event.Event.{Event}
-use Rattle.link_model.specs.declared.event.Event.TheVariants.{Ctl, Pkt}
-use Rattle.link_model.specs.declared.reading_kinds.Pending.TheVariants.{Nothing}
-use Rattle.link_model.specs.Input.{Input, Arrival, Received, accepted, replied, receives, packet_arrival}
+use Rattle.link_model.specs.Prelude.{Fields, InRange, prio_of, Passes, Input, Arrival, Received, receives, packet_arrival, Output, Sends, hears, turns, Outstanding, from_ack, Place, place, start, at_rest, Text, Plain, Skipped, Within, placed, packet_chars_of, start_of_packet, end_of_packet, packet_accepted, window}
+use Rattle.link_buffers.specs.Prelude.{list_at, popped, room_for, stored, lists_without, highest}
+use Rattle.link_port.specs.Prelude.{Event, Ctl, Pkt, Nothing, PortState, prios_of, expected_of, Acted, acts, replies, packet_burst, burst_of, turn_sends, turns_to}
+use Rattle.link_model.specs.Input.{accepted, replied}
 use Rattle.link_model.specs.Input as in_half
-use Rattle.link_model.specs.Output.{Output, Stype0, Turned, Sends, hears, heard, turned, turns, started}
+use Rattle.link_model.specs.Output.{Stype0, Turned, heard, turned, started}
 use Rattle.link_model.specs.Output as out
-use Rattle.link_model.specs.Outstanding.{Outstanding, from_ack, next_ack, is_oldest, without_oldest}
-use Rattle.link_model.specs.Places.{Place, place, begins_in, start, opened, at_rest}
-use Rattle.link_model.specs.Reading.{Text, Plain, Skipped, Within, ends_packet, ended, told, placed}
-use Rattle.link_model.specs.ReadingSpelt.{packet_chars_of}
-use Rattle.link_model.specs.Symbols.{start_of_packet, end_of_packet, packet_accepted, packet_retry}
-use Rattle.link_model.specs.Window.{window}
+use Rattle.link_model.specs.Outstanding.{next_ack, is_oldest, without_oldest}
+use Rattle.link_model.specs.Places.{begins_in, opened}
+use Rattle.link_model.specs.Reading.{ends_packet, ended, told}
+use Rattle.link_model.specs.Symbols.{packet_retry}
 use Rattle.link_model.proofs.ReadingSpeltLaws.{run-packet_anywhere, place_after-packet_anywhere}
 use Rattle.link_model.proofs.WindowFacts.{window_is, startable-open}
-use Rattle.link_port.specs.Ports.{PortState}
-use Rattle.link_port.specs.States.{prios_of, expected_of}
-use Rattle.link_port.specs.Steps.{Acted, acted, acts, arrived}
-use Rattle.link_port.specs.Acts.{replies}
-use Rattle.link_port.specs.Turns.{packet_burst, burst_of, turn_of, turn_sends, turns_to}
+use Rattle.link_port.specs.Steps.{acted, arrived}
+use Rattle.link_port.specs.Turns.{turn_of}
 use Rattle.link_rest.specs.Led.{led, fed, answered, chars_of, controls, AreAnswers}
 use Rattle.link_rest.proofs.SaidLaws.{reads}
 use Rattle.link_rest.proofs.AnswerLaws.{silent}

@@ -1,18 +1,12 @@
 -- One side recovers: its direction comes to rest, and the other direction stays at rest if it was.
 use Rattle.std.proofs.Common.{◌≡◌, ℕ, ◌%◌, ◌&&◌, Bool, true, false, not, MatchBool, List, [], ◌∷◌, length, refl, sym, ap, ◌∙◌, subst, if◌then◌else◌, arith, length-drop, map}
 use Rattle.std.proofs.lemmas.Bool.{and_parts, and_from}
-use Rattle.link_model.specs.Input.{Input}
-use Rattle.link_model.specs.Output.{Output, times_out}
-use Rattle.link_model.specs.Outstanding.{Outstanding, from_ack}
-use Rattle.link_model.specs.Places.{place, at_rest}
+use Rattle.link_model.specs.Prelude.{Input, Output, times_out, Outstanding, from_ack, place, at_rest}
 use Rattle.link_sound.specs.Marks.{Forward, Backward}
 use Rattle.link_sound.specs.Between.{IsBetween}
 use Rattle.link_sound.specs.Meanings.{forward, backward}
-use Rattle.link_watch.specs.declared.side.Side.{Side}
-use Rattle.link_watch.specs.declared.side.Side.TheVariants.{A, B}
-use Rattle.link_machine.specs.States.{LinkState, at_end, from_end}
-use Rattle.link_machine.specs.Calls.{is_silent, has_none, first_fires, timed_out_at}
-use Rattle.link_machine.specs.Sound.{IsSoundLink}
+use Rattle.link_machine.specs.Prelude.{Side, A, B, LinkState, at_end, from_end, is_silent, has_none, timed_out_at, IsSoundLink}
+use Rattle.link_machine.specs.Calls.{first_fires}
 use Rattle.link_machine.proofs.Machine.{fired_keeps, none_failed}
 use Rattle.link_rest.specs.Schedules.{NextOf}
 use Rattle.link_rest.specs.Acts.{Act, Fire, Reached, At, Found, goes, OnState}

@@ -1,23 +1,11 @@
 -- A restart-from-retry or a link-request is sent, and what comes of it.
 use Rattle.std.proofs.Common.{◌≡◌, inl, inr, ℕ, ◌<◌, true, false, List, [], ◌∷◌, refl, sym, ap, ◌∙◌, subst, arith}
-use Rattle.rio_symbols.specs.Fields.{Fields}
+use Rattle.link_model.specs.Prelude.{Fields, Arrival, Output, turns, Outstanding, from_ack, Place, place, at_rest, Text, Plain, Skipped, Within, symbol_chars_of, restart_from_retry, link_request}
 use Rattle.link_buffers.specs.Priorities.{highest}
-use Rattle.link_model.specs.declared.reading_kinds.Pending.{Pending}
-use Rattle.link_model.specs.declared.reading_kinds.Pending.TheVariants.{Nothing, Opened, One, Two}
-use Rattle.link_model.specs.Input.{Arrival}
-use Rattle.link_model.specs.Output.{Output, turns, responded}
-use Rattle.link_model.specs.Outstanding.{Outstanding, from_ack}
-use Rattle.link_model.specs.Places.{broken_off, Place, place, at_rest, rests_by}
-use Rattle.link_model.specs.Reading.{Text, Plain, Skipped, Within}
-use Rattle.link_model.specs.ReadingSpelt.{symbol_chars_of}
-use Rattle.link_model.specs.Symbols.{restart_from_retry, link_request}
-use Rattle.link_port.specs.Ports.{PortState}
-use Rattle.link_port.specs.States.{expected_of}
-use Rattle.link_port.specs.Turns.{burst_of, turn_sends, turns_to, waiting_in}
-use Rattle.link_watch.specs.declared.side.Side.{Side}
-use Rattle.link_watch.specs.declared.side.Side.TheVariants.{A, B}
-use Rattle.link_machine.specs.States.{LinkState, turned_round, from_end}
-use Rattle.link_machine.specs.Sound.{IsSoundLink}
+use Rattle.link_port.specs.Prelude.{Pending, Nothing, Opened, One, Two, PortState, expected_of, burst_of, turn_sends, turns_to, waiting_in}
+use Rattle.link_model.specs.Output.{responded}
+use Rattle.link_model.specs.Places.{broken_off, rests_by}
+use Rattle.link_machine.specs.Prelude.{Side, A, B, LinkState, turned_round, from_end, IsSoundLink}
 use Rattle.link_machine.proofs.Machine.{none_failed}
 use Rattle.link_rest.specs.Led.{led, fed, answered, chars_of, controls, AreAnswers}
 use Rattle.link_rest.specs.Acts.{Act, At, goes, OnState}

@@ -4,10 +4,7 @@ use Rattle.link_buffers.specs.Queues.{popped, packet_count}
 use Rattle.link_buffers.proofs.QueueLemmas.{packet_count-popped}
 use Rattle.link_buffers.proofs.PriorityLaws.{highest_below-some}
 use Rattle.link_port.specs.Ports.{PortState}
-use Rattle.link_watch.specs.declared.side.Side.{Side}
-use Rattle.link_watch.specs.declared.side.Side.TheVariants.{A, B}
-use Rattle.link_machine.specs.States.{LinkState, from_end}
-use Rattle.link_machine.specs.Sound.{IsSoundLink}
+use Rattle.link_machine.specs.Prelude.{Side, A, B, LinkState, from_end, IsSoundLink}
 use Rattle.link_rest.specs.Acts.{Act, At, goes, OnState}
 use Rattle.link_rest.specs.Settling.{is_retry_stopped, waits, of_end, TakesTurn}
 use Rattle.link_rest.specs.Rest.{IsBlocked, IsQuiet, HasPassed, IsRound}

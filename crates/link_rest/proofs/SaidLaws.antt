@@ -1,15 +1,10 @@
 -- What is said in pieces, and what is sent for a symbol.
 use Rattle.std.proofs.Common.{◌≡◌, ℕ, suc, ◌+◌, List, [], ◌∷◌, ◌++◌, length, map, refl, sym, ap, ◌∙◌}
 use Rattle.std.proofs.lemmas.List.{map-append}
-use Rattle.rio_chars.specs.declared.chars.Char.{Char}
-use Rattle.rio_symbols.specs.Fields.{Fields, InRange}
-use Rattle.link_model.specs.declared.event.Event.{Event}
-use Rattle.link_model.specs.declared.reading_kinds.Pending.{Pending}
-use Rattle.link_model.specs.declared.reading_kinds.Pending.TheVariants.{Nothing}
-use Rattle.link_model.specs.Places.{Place, place, broken_off, begins_in, step, run, place_after}
-use Rattle.link_model.specs.Reading.{Text, text_after, told, placed}
-use Rattle.link_model.specs.ReadingSpelt.{symbol_chars_of}
-use Rattle.link_model.specs.Said.{said}
+use Rattle.link_model.specs.Prelude.{Char, Fields, InRange, Place, place, step, run, place_after, Text, placed, symbol_chars_of, said}
+use Rattle.link_port.specs.Prelude.{Event, Pending, Nothing}
+use Rattle.link_model.specs.Places.{broken_off, begins_in}
+use Rattle.link_model.specs.Reading.{text_after, told}
 use Rattle.link_model.proofs.PlacesLaws.{run-append, place_after-append}
 use Rattle.link_model.proofs.ReadingSpeltLaws.{run-symbol_anywhere, place_after-symbol_anywhere}
 

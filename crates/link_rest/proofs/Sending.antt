@@ -1,20 +1,9 @@
 -- What waits is sent: each round is a packet that is held and freed, or the last.
 use Rattle.std.proofs.Common.{◌≡◌, inl, inr, ℕ, ◌+◌, ◌%◌, [], Bool, true, false, MatchBool, List, slice_get, Option, Some, None, refl, sym, ap, ◌∙◌, subst, arith}
-use Rattle.rio_symbols.specs.Fields.{Fields}
-use Rattle.rio_packets.specs.Fields.{prio_of}
-use Rattle.link_buffers.specs.Queues.{Buffered, list_at, room_for}
-use Rattle.link_buffers.specs.Priorities.{highest}
-use Rattle.link_model.specs.Input.{Input, Arrival}
-use Rattle.link_model.specs.Output.{Output}
-use Rattle.link_model.specs.Places.{Place, place, start, at_rest}
-use Rattle.link_model.specs.ReadingSpelt.{symbol_chars_of}
-use Rattle.link_model.specs.Symbols.{restart_from_retry}
-use Rattle.link_port.specs.Ports.{PortState}
-use Rattle.link_port.specs.States.{expected_of}
-use Rattle.link_port.specs.Turns.{turns_to}
-use Rattle.link_watch.specs.declared.side.Side.{Side}
-use Rattle.link_machine.specs.States.{LinkState, from_end}
-use Rattle.link_machine.specs.Sound.{IsSoundLink}
+use Rattle.link_model.specs.Prelude.{Fields, prio_of, Input, Arrival, Output, Place, place, start, at_rest, symbol_chars_of, restart_from_retry}
+use Rattle.link_buffers.specs.Prelude.{Buffered, list_at, room_for, highest}
+use Rattle.link_port.specs.Prelude.{PortState, expected_of, turns_to}
+use Rattle.link_machine.specs.Prelude.{Side, LinkState, from_end, IsSoundLink}
 use Rattle.link_rest.specs.Led.{fed, answered, chars_of}
 use Rattle.link_rest.specs.Schedules.{LoopOf}
 use Rattle.link_rest.specs.Schedules.LoopOf.{Rests, GoesOn, Leaves}

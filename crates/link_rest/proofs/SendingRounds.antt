@@ -1,23 +1,10 @@
 -- One packet is sent on a link of which both directions are at rest, and what comes of it.
 use Rattle.std.proofs.Common.{◌≡◌, ℕ, ◌<◌, ◌∷◌, [], Bool, true, List, slice_get, Some, refl, ap, ◌∙◌, subst, arith}
-use Rattle.rio_chars.specs.declared.chars.Char.{Char}
-use Rattle.rio_symbols.specs.Fields.{Fields}
-use Rattle.rio_packets.specs.Fields.{prio_of}
-use Rattle.rio_packets.specs.LinkForm.{Passes}
-use Rattle.link_buffers.specs.Queues.{list_at, room_for}
-use Rattle.link_buffers.specs.Priorities.{highest}
-use Rattle.link_model.specs.declared.reading_kinds.Pending.TheVariants.{Nothing}
-use Rattle.link_model.specs.Output.{Output}
-use Rattle.link_model.specs.Places.{Place, place, opened, at_rest}
-use Rattle.link_model.specs.Reading.{Text, Plain, Skipped, Within}
-use Rattle.link_model.specs.ReadingSpelt.{packet_chars_of}
-use Rattle.link_model.specs.Symbols.{start_of_packet, end_of_packet}
-use Rattle.link_port.specs.Ports.{PortState}
-use Rattle.link_port.specs.States.{expected_of}
-use Rattle.link_port.specs.Turns.{turn_sends, turns_to}
-use Rattle.link_watch.specs.declared.side.Side.{Side}
-use Rattle.link_machine.specs.States.{LinkState, from_end}
-use Rattle.link_machine.specs.Sound.{IsSoundLink}
+use Rattle.link_model.specs.Prelude.{Char, Fields, prio_of, Passes, Output, Place, place, at_rest, Text, Plain, Skipped, Within, packet_chars_of, start_of_packet, end_of_packet}
+use Rattle.link_buffers.specs.Prelude.{list_at, room_for, highest}
+use Rattle.link_port.specs.Prelude.{Nothing, PortState, expected_of, turn_sends, turns_to}
+use Rattle.link_model.specs.Places.{opened}
+use Rattle.link_machine.specs.Prelude.{Side, LinkState, from_end, IsSoundLink}
 use Rattle.link_rest.specs.Led.{fed, answered, chars_of, AreAnswers}
 use Rattle.link_rest.specs.Acts.{Act, At, goes, OnState}
 use Rattle.link_rest.specs.Settling.{is_some, waits, TakesTurn}

@@ -1,18 +1,12 @@
 -- Settling ends at rest.
 use Rattle.std.proofs.Common.{◌≡◌, inl, inr, ℕ, [], List, take, slice_get, sym, ap, ◌∙◌, subst, arith}
 use Rattle.std.proofs.lemmas.List.{take_all}
-use Rattle.link_buffers.specs.Queues.{Buffered, list_at, room_for}
-use Rattle.link_buffers.specs.Priorities.{packets_of, highest}
-use Rattle.rio_packets.specs.Fields.{prio_of}
-use Rattle.link_model.specs.Output.{Output}
-use Rattle.link_model.specs.Outstanding.{distance}
-use Rattle.link_port.specs.Ports.{PortState}
-use Rattle.link_port.specs.States.{prios_of, expected_of}
+use Rattle.link_buffers.specs.Prelude.{Buffered, list_at, room_for, packets_of, highest}
+use Rattle.link_model.specs.Prelude.{prio_of, Output, distance}
+use Rattle.link_port.specs.Prelude.{PortState, prios_of, expected_of}
 use Rattle.link_sound.specs.Lent.{lent}
 use Rattle.link_sound.specs.Meanings.{oldest_of}
-use Rattle.link_watch.specs.declared.side.Side.TheVariants.{A, B}
-use Rattle.link_machine.specs.States.{LinkState}
-use Rattle.link_machine.specs.Sound.{IsSoundLink}
+use Rattle.link_machine.specs.Prelude.{A, B, LinkState, IsSoundLink}
 use Rattle.link_rest.specs.Schedules.{NextOf}
 use Rattle.link_rest.specs.Acts.{Act, Reached, At, Found, goes, OnState}
 use Rattle.link_rest.specs.Settling.{Drains, Recovers, SendsAll, Settles}

@@ -1,23 +1,13 @@
 -- A restart-from-retry or a link-request comes to a port, and answers come back.
 use Rattle.std.proofs.Common.{◌≡◌, ◌⊎◌, inl, inr, ℕ, Bool, true, false, nat_lt, nat_le, ◌&&◌, ◌==◌, if◌then◌else◌, Option, None, option_to_list, List, [], ◌∷◌, ◌++◌, take, length, refl, sym, ap, ◌∙◌, append-nil}
-use Rattle.rio_chars.specs.declared.chars.Char.{Char}
-use Rattle.rio_symbols.specs.Fields.{Fields, InRange}
+use Rattle.link_model.specs.Prelude.{Char, Fields, InRange, Input, Arrival, Received, symbol_arrival, receives, Output, hears, Outstanding, from_ack, distance, Place, run, place, start, place_after, at_rest, Text, Plain, Skipped, Within, symbol_chars_of, said}
 use Rattle.link_buffers.specs.Priorities.{packets_of, lists_without}
-use Rattle.link_model.specs.declared.event.Event.{Event}
-use Rattle.link_model.specs.declared.event.Event.TheVariants.{Ctl, Pkt, Bad}
-use Rattle.link_model.specs.declared.reading_kinds.Pending.{Pending}
-use Rattle.link_model.specs.declared.reading_kinds.Pending.TheVariants.{Nothing, Opened, One, Two}
-use Rattle.link_model.specs.Input.{Input, Arrival, Received, symbol_arrival, receives}
-use Rattle.link_model.specs.Output.{Output, Heard, Stype0, stype0, hears, heard, ignored, accepted, retried, responded}
-use Rattle.link_model.specs.Outstanding.{Outstanding, is_oldest, from_ack, distance}
-use Rattle.link_model.specs.Places.{broken_off, begins_in, Place, run, place, start, place_after, opened, at_rest}
-use Rattle.link_model.specs.Reading.{Text, Plain, Skipped, Within, text_after, told}
-use Rattle.link_model.specs.ReadingSpelt.{symbol_chars_of}
-use Rattle.link_port.specs.Ports.{PortState}
-use Rattle.link_port.specs.States.{prios_of, expected_of}
-use Rattle.link_port.specs.Steps.{Acted, acted, acts, acts_symbol}
-use Rattle.link_port.specs.Acts.{replies}
-use Rattle.link_model.specs.Said.{said}
+use Rattle.link_port.specs.Prelude.{Event, Ctl, Pkt, Bad, Pending, Nothing, Opened, One, Two, PortState, prios_of, expected_of, Acted, acts, replies}
+use Rattle.link_model.specs.Output.{Heard, Stype0, stype0, heard, ignored, accepted, retried, responded}
+use Rattle.link_model.specs.Outstanding.{is_oldest}
+use Rattle.link_model.specs.Places.{broken_off, begins_in, opened}
+use Rattle.link_model.specs.Reading.{text_after, told}
+use Rattle.link_port.specs.Steps.{acted, acts_symbol}
 use Rattle.link_rest.specs.Led.{led, fed, answered, chars_of, controls, AreAnswers}
 use Rattle.link_rest.proofs.SaidLaws.{reads, prepended, symbol_reads}
 use Rattle.link_rest.proofs.TableLaws.{led-append, replies-append}

@@ -1,12 +1,7 @@
 -- The tables over lists of events: in pieces, and without a look at the framer.
 use Rattle.std.proofs.Common.{◌≡◌, Option, option_to_list, List, [], ◌∷◌, ◌++◌, refl, sym, ap, ◌∙◌, append_assoc}
-use Rattle.rio_symbols.specs.Fields.{Fields}
-use Rattle.link_model.specs.declared.event.Event.{Event}
-use Rattle.link_model.specs.declared.event.Event.TheVariants.{Ctl, Pkt, Bad}
-use Rattle.link_model.specs.Places.{Place}
-use Rattle.link_port.specs.Ports.{PortState}
-use Rattle.link_port.specs.Steps.{acts}
-use Rattle.link_port.specs.Acts.{replies}
+use Rattle.link_model.specs.Prelude.{Fields, Place}
+use Rattle.link_port.specs.Prelude.{Event, Ctl, Pkt, Bad, PortState, acts, replies}
 use Rattle.link_rest.specs.Led.{led}
 
 pub led-append : (p : PortState) (xs ys : List Event) → led p (xs ++ ys) ≡ led (led p xs) ys

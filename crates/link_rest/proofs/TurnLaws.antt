@@ -1,15 +1,9 @@
 -- A link with one of its ends first, and what comes of a turn of the port there.
 use Rattle.std.proofs.Common.{◌≡◌, ◌++◌, List, [], refl, sym, ap, ◌∙◌, subst, append-nil}
-use Rattle.rio_chars.specs.declared.chars.Char.{Char}
-use Rattle.rio_symbols.specs.Fields.{Fields}
-use Rattle.link_port.specs.Ports.{PortState}
-use Rattle.link_port.specs.Turns.{turn_sends, turns_to}
-use Rattle.link_watch.specs.declared.side.Side.{Side}
-use Rattle.link_watch.specs.declared.side.Side.TheVariants.{A, B}
+use Rattle.link_model.specs.Prelude.{Char, Fields}
+use Rattle.link_port.specs.Prelude.{PortState, turn_sends, turns_to}
+use Rattle.link_machine.specs.Prelude.{Side, A, B, LinkState, from_end, pumped, IsSoundLink}
 use Rattle.link_wires.specs.Wires.{turned, bursts}
-use Rattle.link_machine.specs.States.{LinkState, from_end}
-use Rattle.link_machine.specs.Calls.{pumped}
-use Rattle.link_machine.specs.Sound.{IsSoundLink}
 use Rattle.link_machine.proofs.Machine.{pump_keeps}
 use Rattle.link_rest.specs.Led.{fed, answered, chars_of}
 use Rattle.link_rest.specs.Acts.{Act, Pump, Reached, At, goes, OnState}

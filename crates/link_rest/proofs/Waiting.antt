@@ -1,15 +1,10 @@
 -- A packet that waits.
 use Rattle.std.proofs.Common.{◌≡◌, inl, inr, ℕ, ◌<◌, ◌∷◌, [], true, List, slice_get, All, Option, Some, None, ap, subst, arith}
 use Rattle.std.proofs.lemmas.Option.{slice_get_cases}
-use Rattle.rio_packets.specs.LinkForm.{Passes}
-use Rattle.link_buffers.specs.Queues.{list_at}
-use Rattle.link_buffers.specs.Priorities.{lists_without, highest}
+use Rattle.link_model.specs.Prelude.{Passes, Output, from_ack}
+use Rattle.link_buffers.specs.Prelude.{list_at, lists_without, highest}
 use Rattle.link_buffers.proofs.PriorityLaws.{highest_below-some}
-use Rattle.link_model.specs.Output.{Output}
-use Rattle.link_model.specs.Outstanding.{from_ack}
-use Rattle.link_port.specs.Ports.{PortState}
-use Rattle.link_port.specs.States.{prios_of}
-use Rattle.link_port.specs.Turns.{waiting_in}
+use Rattle.link_port.specs.Prelude.{PortState, prios_of, waiting_in}
 use Rattle.link_rest.specs.Settling.{is_some}
 
 -- ---- a packet that waits

@@ -1,12 +1,8 @@
 -- What is done on a link, one thing after another.
 use Rattle.std.specs.Prelude.{ℕ, Bool, false, if◌then◌else◌, List, [], ◌∷◌, ◌++◌}
 use Rattle.link_model.specs.declared.event.Event.{Event}
-use Rattle.link_watch.specs.Sides.{other_side}
-use Rattle.link_watch.specs.declared.note.Note.{Note}
-use Rattle.link_watch.specs.declared.side.Side.{Side}
+use Rattle.link_machine.specs.Prelude.{other_side, Note, Side, LinkState, pumped, pump_notes, has_chars, delivery_from, delivered_from, delivery_notes, timed_out_at, time_out_notes}
 use Rattle.link_wires.specs.Deliveries.{Delivered, Through, Undetected}
-use Rattle.link_machine.specs.States.{LinkState}
-use Rattle.link_machine.specs.Calls.{pumped, pump_notes, has_chars, delivery_from, delivered_from, delivery_notes, timed_out_at, time_out_notes}
 
 -- turns of a port; a delivery of characters from a port's wire; a time-out of a port
 pub data Act : Type 0 where

@@ -1,7 +1,6 @@
 -- Time-outs among what is done.
 use Rattle.std.specs.Prelude.{ℕ, ◌+◌, Bool, true, false, List, [], ◌∷◌, if◌then◌else◌}
-use Rattle.link_watch.specs.declared.side.Side.{Side}
-use Rattle.link_watch.specs.declared.side.Side.TheVariants.{A, B}
+use Rattle.link_machine.specs.Prelude.{Side, A, B}
 use Rattle.link_rest.specs.Acts.{Act, Pump, Deliver, Fire}
 
 abbrev pub same_side : Side → Side → Bool

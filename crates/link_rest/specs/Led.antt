@@ -2,17 +2,9 @@
 -- answers.
 use Rattle.std.specs.Prelude.{List, [], ◌∷◌, map}
 use Rattle.std.specs.List.{flat_map}
-use Rattle.rio_chars.specs.declared.chars.Char.{Char}
-use Rattle.rio_symbols.specs.Fields.{Fields}
-use Rattle.link_model.specs.declared.event.Event.{Event}
-use Rattle.link_model.specs.declared.event.Event.TheVariants.{Ctl}
-use Rattle.link_model.specs.Places.{place_after}
-use Rattle.link_model.specs.ReadingSpelt.{symbol_chars_of}
-use Rattle.link_port.specs.Ports.{PortState}
-use Rattle.link_port.specs.Steps.{acts}
-use Rattle.link_port.specs.Acts.{replies}
+use Rattle.link_model.specs.Prelude.{Char, Fields, place_after, symbol_chars_of, said}
+use Rattle.link_port.specs.Prelude.{Event, Ctl, PortState, acts, replies}
 pub use Rattle.link_port.specs.Answers.{IsAnswer}
-use Rattle.link_model.specs.Said.{said}
 
 -- events, one after another
 unfoldable pub led : PortState → List Event → PortState

@@ -1,12 +1,9 @@
 -- A link at rest.
 use Rattle.std.specs.Prelude.{◌≡◌, ◌⊎◌, ℕ, ◌+◌, true, false, List, [], Some, None, slice_get}
-use Rattle.rio_packets.specs.Fields.{prio_of}
-use Rattle.link_buffers.specs.Queues.{Buffered, list_at, popped, room_for, stored, packet_count}
-use Rattle.link_buffers.specs.Priorities.{highest}
+use Rattle.link_model.specs.Prelude.{prio_of, from_ack, at_rest}
+use Rattle.link_buffers.specs.Prelude.{Buffered, list_at, popped, room_for, stored, packet_count, highest}
 use Rattle.link_model.specs.Input as in_half
 use Rattle.link_model.specs.Output as out
-use Rattle.link_model.specs.Outstanding.{from_ack}
-use Rattle.link_model.specs.Places.{at_rest}
 use Rattle.link_port.specs.Ports.{PortState}
 use Rattle.link_sound.specs.Lent.{lent}
 use Rattle.link_machine.specs.States.{LinkState}

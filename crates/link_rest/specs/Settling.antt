@@ -6,12 +6,8 @@ use Rattle.link_buffers.specs.Priorities.{highest}
 use Rattle.link_model.specs.Input as in_half
 use Rattle.link_model.specs.Output as out
 use Rattle.link_model.specs.Places.{at_rest}
-use Rattle.link_port.specs.Ports.{PortState}
-use Rattle.link_port.specs.Turns.{waiting_in}
-use Rattle.link_watch.specs.declared.side.Side.{Side}
-use Rattle.link_watch.specs.declared.side.Side.TheVariants.{A, B}
-use Rattle.link_machine.specs.States.{LinkState, from_end}
-use Rattle.link_machine.specs.Calls.{has_none}
+use Rattle.link_port.specs.Prelude.{PortState, waiting_in}
+use Rattle.link_machine.specs.Prelude.{Side, A, B, LinkState, from_end, has_none}
 use Rattle.link_rest.specs.Schedules.{NextOf, WhereOf, Is, LoopOf}
 use Rattle.link_rest.specs.Acts.{Act, Pump, Deliver, Fire, Reached, At, Found, goes, holds}
 

@@ -2,12 +2,8 @@
 
 ghost use Rattle.std.specs.Prelude.{◌≡◌, ℕ, ◌<◌, ◌≤◌, true, List, [], length};
 ghost use Rattle.rio_chars.specs.declared.chars.Char.{Char};
-ghost use Rattle.link_model.specs.declared.reading_kinds.Pending.{Pending};
-ghost use Rattle.link_port.specs.Ports.{PortState};
-ghost use Rattle.link_port.specs.States.{expected_of};
-ghost use Rattle.link_watch.specs.declared.side.Side.{Side};
-ghost use Rattle.link_machine.specs.Sound.{IsSoundLink};
-ghost use Rattle.link_machine.specs.States.{LinkState, from_end};
+ghost use Rattle.link_port.specs.Prelude.{Pending, PortState, expected_of};
+ghost use Rattle.link_machine.specs.Prelude.{Side, IsSoundLink, LinkState, from_end};
 ghost use Rattle.link_rest.specs.Acts.{Act, Reached, At, goes, OnState};
 ghost use Rattle.link_rest.specs.Counts.{fires};
 ghost use Rattle.link_rest.specs.Led.{answered, chars_of};

@@ -1,11 +1,8 @@
 use Rattle.std.proofs.Common.{◌≡◌, ◌<◌, List, [], ◌∷◌, length, subst, sym, ap, ◌∙◌, arith}
 use Rattle.std.proofs.lemmas.Bool.Decides.{nat_tests}
 use Rattle.rio_chars.specs.declared.chars.Char.{Char}
-use Rattle.link_watch.specs.Stops.{Stopped}
-use Rattle.link_watch.specs.declared.note.Note.{Note}
-use Rattle.link_watch.specs.declared.note.Note.TheVariants.{Sent}
+use Rattle.link_machine.specs.Prelude.{Stopped, Note, Sent, sent_notes}
 use Rattle.link_watch.proofs.StopLaws.{stopped_in_one}
-use Rattle.link_machine.specs.Calls.{sent_notes}
 use Rattle.link_law.proofs.Noting.{sent_one}
 use Rattle.link_law.proofs.link.note_sent.Goals as goal
 

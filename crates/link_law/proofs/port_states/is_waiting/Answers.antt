@@ -1,8 +1,7 @@
 use Rattle.std.proofs.Common.{◌∙◌, refl}
 use Rattle.link_buffers.specs.Priorities.{highest}
 use Rattle.link_buffers.proofs.PriorityLaws.{length-lists_without}
-use Rattle.link_port.specs.States.{prios_of}
-use Rattle.link_port.specs.Turns.{waiting_in}
+use Rattle.link_port.specs.Prelude.{prios_of, waiting_in}
 use Rattle.link_law.proofs.SendLaws.{waits_by}
 use Rattle.link_law.proofs.port_states.is_waiting.Goals as goal
 

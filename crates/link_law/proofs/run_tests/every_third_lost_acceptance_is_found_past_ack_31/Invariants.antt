@@ -1,5 +1,4 @@
-use Rattle.link_machine.specs.Sound.{IsSoundLink}
-use Rattle.link_machine.specs.States.{link}
+use Rattle.link_machine.specs.Prelude.{IsSoundLink, link}
 use Rattle.link_law.proofs.run_tests.every_third_lost_acceptance_is_found_past_ack_31.Given as goal
 
 abbrev pub invariant-loop-n : goal.invariant-loop-n

@@ -1,5 +1,4 @@
-use Rattle.link_machine.specs.Sound.{IsSoundLink}
-use Rattle.link_machine.specs.States.{link}
+use Rattle.link_machine.specs.Prelude.{IsSoundLink, link}
 use Rattle.link_law.proofs.settle_tests.reached.Given as goal
 
 abbrev pub invariant-loop-step : goal.invariant-loop-step

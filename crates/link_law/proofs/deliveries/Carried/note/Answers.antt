@@ -1,7 +1,6 @@
 use Rattle.std.proofs.Common.{◌∷◌, ◌++◌, map}
-use Rattle.link_watch.specs.declared.note.Note.TheVariants.{Got}
+use Rattle.link_machine.specs.Prelude.{Got, sent_notes, move_note}
 use Rattle.link_watch.proofs.StopLaws.{stopped_at_once}
-use Rattle.link_machine.specs.Calls.{sent_notes, move_note}
 use Rattle.link_law.proofs.deliveries.Carried.note.Goals as goal
 
 pub returns-in-Err-clause-stopped : goal.returns-in-Err-clause-stopped

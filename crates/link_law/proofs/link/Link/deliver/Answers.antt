@@ -1,13 +1,10 @@
 use Rattle.std.proofs.Common.{◌≡◌, true, false, [], None, take, OnOk, Result, sym, ◌∙◌, subst, if◌then◌else◌}
-use Rattle.link_watch.specs.Sides.{other_side}
+use Rattle.link_machine.specs.Prelude.{other_side, has_chars, delivery_from, delivered_from, told_notes, delivery_notes, queues_of, Walks, IsSoundLink, LinkState, link, from_end}
 use Rattle.link_watch.proofs.StopLaws.{stopped_at_once}
 use Rattle.link_wires.specs.Deliveries.{told_of, undetected}
 use Rattle.link_wires.specs.declared.edits.Edited.{Edited}
-use Rattle.link_machine.specs.Calls.{has_chars, delivery_from, delivered_from, told_notes, delivery_notes}
-use Rattle.link_machine.specs.Queues.{queues_of, steps_of, Walks}
+use Rattle.link_machine.specs.Queues.{steps_of}
 use Rattle.link_machine.specs.Queues.Walks.{Ends}
-use Rattle.link_machine.specs.Sound.{IsSoundLink}
-use Rattle.link_machine.specs.States.{LinkState, link, from_end}
 use Rattle.link_law.specs.declared.answers.LinkEnd.{LinkEnd}
 use Rattle.link_law.proofs.Delivering.{link_is, on_done}
 use Rattle.link_machine.proofs.Machine.{delivery_keeps, delivery_walks}

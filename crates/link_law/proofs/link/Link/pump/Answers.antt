@@ -1,8 +1,6 @@
 use Rattle.std.proofs.Common.{subst, sym}
 use Rattle.link_watch.proofs.StopLaws.{stopped_at_once}
-use Rattle.link_machine.specs.Calls.{pump_notes}
-use Rattle.link_machine.specs.Sound.{IsSoundLink}
-use Rattle.link_machine.specs.States.{LinkState, link}
+use Rattle.link_machine.specs.Prelude.{pump_notes, IsSoundLink, LinkState, link}
 use Rattle.link_machine.proofs.Machine.{pump_keeps}
 use Rattle.link_law.proofs.Noting.{on_ok}
 use Rattle.link_law.proofs.link.Link.pump.Goals as goal

@@ -1,7 +1,6 @@
 use Rattle.std.proofs.Common.{rules}
-use Rattle.link_machine.specs.States.{link}
+use Rattle.link_machine.specs.Prelude.{link, B}
 use Rattle.link_rest.specs.Settling.{SendsAll, Settles}
-use Rattle.link_watch.specs.declared.side.Side.TheVariants.{B}
 use Rattle.link_law.specs.Does.{Did}
 use Rattle.link_law.proofs.DoesLaws.{IsWatch, did_next, did_early}
 use Rattle.link_law.proofs.SettleLaws.{Sends, SecondOn, FirstOn, drained_at, first_at, second_at, sent_at, is_quiet, did_comes, did_settles, did_ends, first_follows, second_follows, sends_follow, send_follows}

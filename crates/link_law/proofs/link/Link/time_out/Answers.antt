@@ -1,10 +1,6 @@
 use Rattle.std.proofs.Common.{◌≡◌, true, [], ◌∷◌, subst, sym, ◌∙◌, if◌then◌else◌}
-use Rattle.link_watch.specs.Stops.{Stopped}
-use Rattle.link_watch.specs.declared.note.Note.TheVariants.{Fire}
+use Rattle.link_machine.specs.Prelude.{Stopped, Fire, is_silent, IsSoundLink, LinkState, link}
 use Rattle.link_watch.proofs.StopLaws.{stopped_in_one}
-use Rattle.link_machine.specs.Calls.{is_silent}
-use Rattle.link_machine.specs.Sound.{IsSoundLink}
-use Rattle.link_machine.specs.States.{LinkState, link}
 use Rattle.link_machine.proofs.Machine.{fired_keeps}
 use Rattle.link_law.proofs.link.Link.time_out.Goals as goal
 

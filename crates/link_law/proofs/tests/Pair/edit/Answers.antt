@@ -1,6 +1,5 @@
 use Rattle.std.proofs.Common.{subst, sym}
-use Rattle.link_machine.specs.Sound.{IsSoundLink}
-use Rattle.link_machine.specs.States.{LinkState, link}
+use Rattle.link_machine.specs.Prelude.{IsSoundLink, LinkState, link}
 use Rattle.link_machine.proofs.Machine.{edited_keeps}
 use Rattle.link_law.proofs.tests.Pair.edit.Goals as goal
 

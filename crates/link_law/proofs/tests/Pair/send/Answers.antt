@@ -1,6 +1,5 @@
-use Rattle.link_watch.specs.declared.side.Side.TheVariants.{A}
+use Rattle.link_machine.specs.Prelude.{A, link}
 use Rattle.rio_packets.specs.Fields.{prio_of}
-use Rattle.link_machine.specs.States.{link}
 use Rattle.link_machine.proofs.Machine.{layer_keeps}
 use Rattle.link_machine.proofs.Serving.{put_serves}
 use Rattle.link_law.proofs.tests.Pair.send.Goals as goal
