@@ -1,5 +1,5 @@
 -- Every trace of a script is made of parts.
-use Rattle.std.proofs.Common.{◌≡◌, ℕ, ◌++◌, Bool, true, false, List, [], ◌∷◌, map, Some, None, take, refl, sym, ap, ◌∙◌, subst, append_assoc, if◌then◌else◌}
+use Rattle.std.proofs.Common.{◌≡◌, ℕ, ◌++◌, Bool, true, false, List, [], ◌∷◌, map, Option, Some, None, take, refl, sym, ap, ◌∙◌, subst, append_assoc, if◌then◌else◌}
 use Rattle.std.proofs.lemmas.List.{append-nil}
 use Rattle.rio_chars.specs.declared.chars.Char.{Char}
 use Rattle.link_model.specs.declared.event.Event.{Event}
@@ -14,16 +14,20 @@ use Rattle.link_machine.specs.States.{LinkState, turned_round}
 use Rattle.link_machine.specs.Calls.{sent_notes, pumped, pump_notes, has_chars, delivery_from, delivered_from, move_note, told_notes, delivery_notes, is_silent, first_fires, timed_out_at, time_out_notes}
 use Rattle.link_rest.specs.Acts.{Deliver as DeliverAct, Reached, At, Found as FoundAt, reached_by, after}
 use Rattle.fabric_script.specs.declared.ports.PortRef.{PortRef}
+use Rattle.fabric_model.specs.Network.{same_port}
 use Rattle.fabric_model.proofs.Peers.{ArePeers}
 use Rattle.fabric_trace.specs.Lines.{TraceLine}
-use Rattle.fabric_trace.specs.Known.{Seen, link_at}
+use Rattle.fabric_model.specs.Steps.{Step}
+use Rattle.fabric_trace.specs.Known.{Seen, Found, link_at}
 use Rattle.fabric_trace.specs.Fold.{found_at, seen}
 use Rattle.fabric_trace.specs.Blocks.{port_at_side, line_of, lines_of}
 use Rattle.fabric_trace.specs.Parts.{Part, Turns, Delivers, Fires, Made, Done, Then}
-use Rattle.fabric_trace.proofs.Calling.{turns_call, fires_call}
+use Rattle.fabric_trace.proofs.Calling.{IsCall, turns_call, fires_call}
 use Rattle.fabric_trace.proofs.Delivering.{delivers_call}
 use Rattle.fabric_trace.proofs.Folding.{seen-append, lines-append}
 use Rattle.fabric_trace.proofs.Keeping.{IsGood}
+use Rattle.fabric_trace.proofs.Serving.{Untouched}
+use Rattle.fabric_trace.proofs.Walks.{same_on, elsewhere_here}
 
 -- ---- parts, joined
 
@@ -66,11 +70,43 @@ delivery_round a b n l =
       | false ↦ refl
     ]
 
+-- ---- other ports
+
+-- What is known of all ports but these two stays, and so do the links.
+pub record AreOthers (s t : Seen) (a b : PortRef) : Type 0 where
+  pub links : t.network.links ≡ s.network.links
+  pub untouched : (c : PortRef) → same_port c a ≡ false → same_port c b ≡ false → Untouched s t c
+
+pub others_here : (s : Seen) (a b : PortRef) → AreOthers s s a b
+others_here s a b = record {
+  links = refl;
+  untouched = λ c x y. record { lists = (elsewhere_here s.network a b).others c x y; wire = refl; half = refl };
+}
+
+pub others_on : {s t u : Seen} {a b : PortRef} → AreOthers s t a b → AreOthers t u a b → AreOthers s u a b
+others_on first next = record {
+  links = next.links ∙ first.links;
+  untouched = λ c x y.
+      let one = first.untouched c x y in
+      let two = next.untouched c x y in
+      record { lists = same_on one.lists two.lists; wire = two.wire ∙ one.wire; half = two.half ∙ one.half };
+}
+
+pub others_round : {s t : Seen} {a b : PortRef} → AreOthers s t a b → AreOthers s t b a
+others_round others = record { links = others.links; untouched = λ c x y. others.untouched c y x }
+
+call_others : {s t : Seen} {p q : PortRef} {steps : List Step} {m : LinkState} {found : Option Found} → IsCall s t p q steps m found → AreOthers s t p q
+call_others call = record {
+  links = call.elsewhere.links;
+  untouched = λ c x y. record { lists = call.elsewhere.others c x y; wire = call.wires c x y; half = call.halves c x y };
+}
+
 -- ---- what is done on a link
 
--- lines that are made, and lead to a link, or to an event that was not sent
+-- Lines that are made, touch no other port, and lead to a link, or to an event that was not sent.
 pub record Reaches (s : Seen) (a b : PortRef) (lines : List TraceLine) (to : Reached) : Type 0 where
   pub made : Made s lines
+  pub others : AreOthers s (seen s lines) a b
   pub there : (m : LinkState) → to ≡ At m → ((seen s lines).unfaithful ≡ None) × (link_at (seen s lines) a b ≡ m)
   pub found : (side : Side) (e : Event) → to ≡ FoundAt side e → (seen s lines).unfaithful ≡ Some (record { port = port_at_side a b side; event = e })
 
@@ -88,6 +124,7 @@ pump_reaches s p q n good none peers =
     let still = call.unfaithful ∙ none in
     record {
       made = one_part (Turns p q n peers.there none refl);
+      others = call_others call;
       there = λ m is. (still, call.becomes still ∙ at_is (pumped A n (link_at s p q)) m is);
       found = λ side e is. absurd cc;
     }
@@ -102,6 +139,7 @@ fire_reaches s p q good none peers = by_silence (is_silent (link_at s p q)) refl
         let still = call.unfaithful ∙ none in
         record {
           made = one_part (Fires p q peers.there none is refl);
+          others = call_others call;
           there = λ m to. (still, call.becomes still ∙ at_is (timed_out_at A (link_at s p q)) m to);
           found = λ side e to. absurd cc;
         }
@@ -110,6 +148,7 @@ fire_reaches s p q good none peers = by_silence (is_silent (link_at s p q)) refl
         let stays : timed_out_at A (link_at s p q) ≡ link_at s p q = ap (λ x. if x then first_fires (link_at s p q) else link_at s p q) is in
         record {
           made = Done lines;
+          others = subst (λ (l : List TraceLine). AreOthers s (seen s l) p q) (sym lines) (others_here s p q);
           there = λ m to. (
             ap (λ (l : List TraceLine). (seen s l).unfaithful) lines ∙ none,
             ap (λ (l : List TraceLine). link_at (seen s l) p q) lines ∙ sym stays ∙ at_is (timed_out_at A (link_at s p q)) m to,
@@ -146,6 +185,7 @@ deliver_reaches s p q n good none peers = by_chars (has_chars A n (link_at s p q
         ap (λ x. if x then reached_by B (delivered_from A n (link_at s p q)) (delivery_from A n (link_at s p q)) else At (link_at s p q)) is in
         record {
           made = one_part (Delivers p q n peers.there none is refl);
+          others = call_others call;
           there = λ m there. by_end (delivery_from A n (link_at s p q)) refl call.unfaithful call.becomes m (sym to ∙ there);
           found = λ side e there. by_found (delivery_from A n (link_at s p q)) call.unfaithful side e (sym to ∙ there);
         }
@@ -155,6 +195,7 @@ deliver_reaches s p q n good none peers = by_chars (has_chars A n (link_at s p q
         ap (λ x. if x then reached_by B (delivered_from A n (link_at s p q)) (delivery_from A n (link_at s p q)) else At (link_at s p q)) is in
         record {
           made = Done lines;
+          others = subst (λ (l : List TraceLine). AreOthers s (seen s l) p q) (sym lines) (others_here s p q);
           there = λ m there. (
             ap (λ (l : List TraceLine). (seen s l).unfaithful) lines ∙ none,
             ap (λ (l : List TraceLine). link_at (seen s l) p q) lines ∙ at_is (link_at s p q) m (sym to ∙ there),

@@ -33,7 +33,7 @@ use Rattle.fabric_trace.specs.Runs.{has_block, Follows, BlockThen, Names as Name
 use Rattle.fabric_trace.specs.Parts.{Begins, Lacks, Ends, Names, Steps, Turns, Delivers, Fires, Made, Done, Then}
 use Rattle.fabric_trace.proofs.Folding.{seen-append, lines-append}
 use Rattle.fabric_trace.proofs.Keeping.{few_prio, IsGood, good_by_priority, made_keeps}
-use Rattle.fabric_trace.proofs.Making.{Reaches, at_is, one_part, made-append, made_by, sent_round, delivery_round, pump_reaches, fire_reaches, deliver_reaches}
+use Rattle.fabric_trace.proofs.Making.{AreOthers, others_here, others_on, others_round, Reaches, at_is, one_part, made-append, made_by, sent_round, delivery_round, pump_reaches, fire_reaches, deliver_reaches}
 use Rattle.fabric_trace.proofs.Walks.{peers_round}
 
 -- ---- what is done at either end
@@ -63,6 +63,7 @@ reaches_by s a b lines other to next same is r =
 reaches_round : (s : Seen) (a b : PortRef) (lines other : List TraceLine) (to turned : Reached) → other ≡ lines → turned ≡ round to → Reaches s b a lines to → Reaches s a b other turned
 reaches_round s a b lines other to turned same is r = record {
   made = made_by same r.made;
+  others = subst (λ (l : List TraceLine). AreOthers s (seen s l) a b) (sym same) (others_round r.others);
   there = λ m at.
       let t = r.there (turned_round m) (round_back to m (sym is ∙ at)) in (
         ap (λ (l : List TraceLine). (seen s l).unfaithful) same ∙ t.0,
@@ -95,7 +96,7 @@ fire_round l =
           ≡ At (turned_round (if y && false then first_fires (turned_round l) else turned_round l))) [ true ↦ refl | false ↦ refl ]
     ]
 
-silent_round : (l : LinkState) → is_silent l ≡ is_silent (turned_round l)
+pub silent_round : (l : LinkState) → is_silent l ≡ is_silent (turned_round l)
 silent_round l =
     elim (has_none l.wire_a.chars) as (λ x. (x && has_none l.wire_b.chars) ≡ (has_none l.wire_b.chars && x)) [
       | true ↦ elim (has_none l.wire_b.chars) as (λ y. (true && y) ≡ (y && true)) [ true ↦ refl | false ↦ refl ]
@@ -106,10 +107,10 @@ fired_lines : (a b : PortRef) (x : Bool) → lines_of a b (if x then Notes.Fire 
 fired_lines a b true = refl
 fired_lines a b false = refl
 
-fired_round : (a b : PortRef) (l : LinkState) → lines_of a b (time_out_notes B l) ≡ lines_of b a (time_out_notes A (turned_round l))
+pub fired_round : (a b : PortRef) (l : LinkState) → lines_of a b (time_out_notes B l) ≡ lines_of b a (time_out_notes A (turned_round l))
 fired_round a b l = fired_lines a b (is_silent l) ∙ ap (λ x. lines_of b a (if x then Notes.Fire A ∷ [] else [])) (silent_round l)
 
-act_reaches : (s : Seen) (a b : PortRef) (act : Act) → IsGood s → s.unfaithful ≡ None → ArePeers s.network.links a b
+pub act_reaches : (s : Seen) (a b : PortRef) (act : Act) → IsGood s → s.unfaithful ≡ None → ArePeers s.network.links a b
     → Reaches s a b (lines_of a b (act_notes act (link_at s a b))) (after act (link_at s a b))
 act_reaches s a b (PumpAct A n) good none peers = pump_reaches s a b n good none peers
 act_reaches s a b (PumpAct B n) good none peers =
@@ -162,6 +163,7 @@ reaches_more s a b first (At m) acts one more =
     let joined = seen-append s first all in
     record {
       made = made-append one.made rest.made;
+      others = subst (λ (x : Seen). AreOthers s x a b) (sym joined) (others_on one.others rest.others);
       there = λ n is. (
         ap (λ (x : Seen). x.unfaithful) joined ∙ (rest.there n is).0,
         ap (λ (x : Seen). link_at x a b) joined ∙ (rest.there n is).1,
@@ -180,6 +182,7 @@ acts_reach [] s a b good none peers =
     let to = none_goes (At (link_at s a b)) in
     record {
       made = Done lines;
+      others = subst (λ (l : List TraceLine). AreOthers s (seen s l) a b) (sym lines) (others_here s a b);
       there = λ m is. (
         ap (λ (l : List TraceLine). (seen s l).unfaithful) lines ∙ none,
         ap (λ (l : List TraceLine). link_at (seen s l) a b) lines ∙ at_is (link_at s a b) m (sym to ∙ is),

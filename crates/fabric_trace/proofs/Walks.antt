@@ -28,7 +28,7 @@ pub record AreSame (net next : Network) (c : PortRef) : Type 0 where
   pub lent : next.lent c ≡ net.lent c
   pub buffers : next.buffers c ≡ net.buffers c
 
-same_on : {net mid end : Network} {c : PortRef} → AreSame net mid c → AreSame mid end c → AreSame net end c
+pub same_on : {net mid end : Network} {c : PortRef} → AreSame net mid c → AreSame mid end c → AreSame net end c
 same_on first next = record {
   received = next.received ∙ first.received;
   waiting = next.waiting ∙ first.waiting;

@@ -1,0 +1,196 @@
+-- What a fabric shows after an event at a link, by what the call between two ports says.
+use Rattle.std.proofs.Common.{◌≡◌, ℕ, Option, List, length, Result, Ok, Err, IfOk, slice_get, slice_set, slice_index_or, Some, refl, sym, ap, ◌∙◌, subst}
+use Rattle.std.proofs.lemmas.List.{with_items_is, length-set}
+use Rattle.std.specs.Vec.{with_item, with_items}
+use Rattle.rio_chars.specs.Written.{Writes}
+use Rattle.rio_chars.specs.declared.outbox.Outbox.{Outbox}
+use Rattle.fabric_script.specs.declared.lines.Line.{Line}
+use Rattle.link_port.specs.Ports.{PortState}
+use Rattle.link_watch.specs.Stops.{Stopped}
+use Rattle.link_watch.specs.declared.note.Note.{Note}
+use Rattle.link_machine.specs.Sound.{IsSoundLink}
+use Rattle.link_machine.specs.States.{Wires, link}
+use Rattle.link_law.specs.declared.answers.LinkEnd.{LinkEnd}
+use Rattle.link_law.specs.declared.answers.LinkEnd.TheVariants.{Undetected, Failed, NoMemory}
+use Rattle.fabric_script.specs.declared.ports.PortRef.{PortRef}
+use Rattle.fabric_model.specs.Network.{Network}
+use Rattle.fabric_trace.specs.Lines.{TraceLine}
+use Rattle.fabric_trace.specs.Text.{trace_text}
+use Rattle.trace_lines.specs.Watching.{WritesNotes}
+use Rattle.trace_lines.specs.declared.watching.LinkLines.{LinkLines}
+use Rattle.fabric_ports.specs.Acting.{line_for, part_of, answer_of, lack_lines, event_end, Acts, AtTwo}
+use Rattle.fabric_ports.specs.Blocked.{Blocked, BlockEnds}
+use Rattle.fabric_ports.specs.Ends.{IsPlaceOf}
+use Rattle.fabric_ports.specs.Places.{place_of}
+use Rattle.fabric_ports.specs.Standing.{Stands}
+use Rattle.fabric_ports.specs.declared.actions.Acted.{Acted}
+use Rattle.fabric_ports.specs.declared.actions.Action.{Action}
+use Rattle.fabric_ports.specs.declared.answers.EventEnd.{EventEnd}
+use Rattle.fabric_ports.specs.declared.ends.LinkPlace.{LinkPlace}
+use Rattle.fabric_ports.specs.declared.fabric.Cable.{Cable}
+use Rattle.fabric_ports.specs.declared.fabric.Fabric.{Fabric}
+use Rattle.fabric_ports.proofs.Cables.{IsChanged, with_wires}
+use Rattle.fabric_ports.proofs.EndLaws.{cable_is}
+use Rattle.fabric_ports.proofs.LinkLaws.{IsKnown, known, known_sound, link_blocked, nothing_cut, link_exposed, link_cut}
+
+-- the link at a place, and the list of the ports, as the body has them
+pub record IsMet (fabric : Fabric) (port : PortRef) (place : LinkPlace) (cable : Cable)
+    (ports : List PortState) : Type 0 where
+  pub place_is : IsPlaceOf fabric port place
+  pub cable_is : cable ≡ place_is.is.cable
+  pub ports_are : ports ≡ fabric.ports.items
+
+pub met : {fabric : Fabric} {port : PortRef} {place : LinkPlace} {cable : Cable}
+    {ports : List PortState} → IsPlaceOf fabric port place
+    → cable ≡ slice_index_or fabric.cables.items place.cable cable → ports ≡ fabric.ports.items
+    → IsMet fabric port place cable ports
+met {fabric} {port} {place} {cable} p is ports = record {
+  place_is = p;
+  cable_is = cable_is fabric.cables.items port place.cable place.side p.is cable is;
+  ports_are = ports;
+}
+
+met_known : {net : Network} {lines : List TraceLine} {fabric : Fabric} {port : PortRef}
+    {place : LinkPlace} {cable : Cable} {ports : List PortState} (x y : PortState)
+    → IsMet fabric port place cable ports → slice_get ports place.a ≡ Some x
+    → slice_get ports place.b ≡ Some y → Stands net lines fabric
+    → IsKnown net lines fabric port place cable x y
+met_known {net} {lines} {fabric} {port} {place} {cable} x y m at_x at_y stands =
+    let first = subst (λ (l : List PortState). slice_get l place.a ≡ Some x) m.ports_are at_x in
+    let second = subst (λ (l : List PortState). slice_get l place.b ≡ Some y) m.ports_are at_y in
+    subst (λ (c : Cable). IsKnown net lines fabric port place c x y) (sym m.cable_is)
+    (known x y stands m.place_is first second)
+
+-- the link is sound before
+pub met_sound : {net : Network} {lines : List TraceLine} {fabric : Fabric} {port : PortRef}
+    {place : LinkPlace} {cable : Cable} {ports : List PortState} (x y : PortState)
+    → IsMet fabric port place cable ports → slice_get ports place.a ≡ Some x
+    → slice_get ports place.b ≡ Some y → Stands net lines fabric
+    → IsSoundLink (link cable.link x y)
+met_sound x y m at_x at_y stands = known_sound (met_known x y m at_x at_y stands)
+
+-- the fabric with this link and these ports
+abbrev pub fabric_with : Fabric → ℕ → Cable → Wires → List PortState → Fabric
+fabric_with fabric k cable wires ports = record {
+  devices = fabric.devices;
+  firsts = fabric.firsts;
+  ports = with_items fabric.ports ports;
+  cables = with_item fabric.cables k (with_wires cable wires);
+}
+
+changed_with : (fabric : Fabric) (place : LinkPlace) (cable : Cable) (wires : Wires)
+    (ports next : List PortState) (x y : PortState) → ports ≡ fabric.ports.items
+    → place.a ≡ place_of fabric.firsts.items cable.a
+    → place.b ≡ place_of fabric.firsts.items cable.b
+    → next ≡ slice_set (slice_set ports place.a x) place.b y
+    → IsChanged fabric (fabric_with fabric place.cable cable wires next) place.cable cable wires x y
+changed_with fabric place cable wires ports next x y same first second becomes =
+    let counted : length next ≡ fabric.ports.len =
+    ap (λ (l : List PortState). length l) becomes ∙ length-set (slice_set ports place.a x) place.b y
+    ∙ length-set ports place.a x ∙ ap (λ (l : List PortState). length l) same
+    ∙ sym fabric.ports.ok.0 in
+    record {
+      devices = refl;
+      firsts = refl;
+      ports = with_items_is fabric.ports next counted ∙ becomes
+          ∙ (λ i. slice_set (slice_set (same i) (first i) x) (second i) y);
+      cables = refl;
+    }
+
+-- ---- what the call between two ports says
+
+-- of the two ports, before and after
+abbrev pub Says : {K : Type 0} → (K → Option (List ℕ)) → (K → ℕ) → LinkPlace → Action → Cable
+    → LinkLines K → Result Acted LinkEnd → Wires → LinkLines K
+    → PortState → PortState → PortState → PortState → Type 0
+Says written faults place action cable before result wires after a b a2 b2 =
+    Acts (WritesNotes written faults) (λ watch note next. next ≡ watch) (part_of place.side action)
+    (link cable.link a b) before result (link wires a2 b2) after
+    × IfOk result (λ answer. answer ≡ answer_of place.side action (link cable.link a b))
+
+cut_same : {K : Type 0} (written : K → Option (List ℕ)) (faults : K → ℕ)
+    {before after : LinkLines K} {notes : List Note}
+    → Stopped (WritesNotes written faults) (λ watch note next. next ≡ watch) before notes after
+    → after.outbox.ghost_name ≡ before.outbox.ghost_name
+cut_same {K} written faults {before} {after} stopped =
+    ap (λ (w : LinkLines K). w.outbox.ghost_name)
+    (nothing_cut stopped.mid after stopped.rest stopped.cut_at) ∙ stopped.grown.outbox
+
+module _ {K : Type 0} (written : K → Option (List ℕ)) (faults : K → ℕ) (fabric : Fabric)
+    (port : PortRef) (place : LinkPlace) (action : Action) (cable : Cable)
+    (ports next : List PortState) (wires : Wires)
+    (before after : LinkLines K) (result : Result Acted LinkEnd)
+    (m : IsMet fabric port place cable ports)
+    (two : AtTwo place.a place.b ports next
+    (Says written faults place action cable before result wires after))
+    (is_a : before.a ≡ cable.a) (is_b : before.b ≡ cable.b) where
+  pub act_done : (answer : Acted) → result ≡ Ok answer → (outbox : Outbox K)
+      → Writes written faults after.outbox.now outbox
+      (trace_text before.names.now (lack_lines answer))
+      → (net : Network) (lines : List TraceLine) → Stands net lines fabric
+      → Blocked (line_for port action) before.names.now written faults before.outbox.now outbox net
+      lines (fabric_with fabric place.cable cable wires next)
+  act_done answer is outbox lacks net lines stands =
+      let does = subst
+      (λ r. Says written faults place action cable before r wires after two.first two.second
+      two.next_first two.next_second) is two.holds in
+      let k = met_known two.first two.second m two.at_first two.at_second stands in
+      let changed = changed_with fabric place cable wires ports next two.next_first two.next_second
+      m.ports_are k.first k.second two.becomes in
+      link_blocked before.names.now action wires two.next_first two.next_second before after outbox
+      answer k does.0 does.1 refl is_a is_b lacks changed
+
+  pub act_ended : (end : LinkEnd) → result ≡ Err end → (net : Network) (lines : List TraceLine)
+      → Stands net lines fabric
+      → BlockEnds (line_for port action) before.names.now written faults before.outbox.now
+      after.outbox.now net lines (event_end cable.a cable.b end)
+  act_ended (Undetected side e) is net lines stands =
+      let does = subst
+      (λ r. Says written faults place action cable before r wires after two.first two.second
+      two.next_first two.next_second) is two.holds in
+      let k = met_known two.first two.second m two.at_first two.at_second stands in
+      link_exposed before.names.now action side e before after k does.0 refl is_a is_b
+  act_ended Failed is net lines stands =
+      let does = subst
+      (λ r. Says written faults place action cable before r wires after two.first two.second
+      two.next_first two.next_second) is two.holds in
+      let k = met_known two.first two.second m two.at_first two.at_second stands in
+      link_cut before.names.now action before after k does.0 refl is_a is_b
+  act_ended NoMemory is net lines stands =
+      let does = subst
+      (λ r. Says written faults place action cable before r wires after two.first two.second
+      two.next_first two.next_second) is two.holds in
+      let k = met_known two.first two.second m two.at_first two.at_second stands in
+      link_cut before.names.now action before after k does.0 refl is_a is_b
+
+  -- the watch has the same outbox
+  pub same_outbox : (end : LinkEnd) → result ≡ Err end
+      → after.outbox.ghost_name ≡ before.outbox.ghost_name
+  same_outbox (Undetected side e) is =
+      (subst (λ r. Says written faults place action cable before r wires after two.first two.second
+      two.next_first two.next_second) is two.holds).0.grown.outbox
+  same_outbox Failed is =
+      cut_same written faults
+      (subst (λ r. Says written faults place action cable before r wires after two.first
+      two.second two.next_first two.next_second) is two.holds).0.stopped
+  same_outbox NoMemory is =
+      cut_same written faults
+      (subst (λ r. Says written faults place action cable before r wires after two.first
+      two.second two.next_first two.next_second) is two.holds).0.stopped
+
+-- ---- the outbox behind the call
+
+pub ended_by : {K : Type 0} (written : K → Option (List ℕ)) (faults : K → ℕ) (line : Line)
+    (names : List (List ℕ)) (old new next : Outbox K) (net : Network) (lines : List TraceLine)
+    (end why : EventEnd)
+    → next ≡ new → why ≡ end → BlockEnds line names written faults old new net lines end
+    → BlockEnds line names written faults old next net lines why
+ended_by written faults line names old new next net lines end why same is blocked =
+    subst (λ o. BlockEnds line names written faults old o net lines why) (sym same)
+    (subst (λ w. BlockEnds line names written faults old new net lines w) (sym is) blocked)
+
+pub written_by : {K : Type 0} {written : K → Option (List ℕ)} {faults : K → ℕ} {old new : Outbox K}
+    {text : List ℕ} (next : Outbox K) → next ≡ new → Writes written faults old new text
+    → Writes written faults old next text
+written_by {K} {written} {faults} {old} {new} {text} next same writes =
+    subst (λ o. Writes written faults old o text) (sym same) writes

@@ -1,0 +1,258 @@
+-- What an edit of a wire makes of a fabric, and its block.
+use Rattle.std.proofs.Common.{◌≡◌, ℕ, Bool, true, false, List, [], ◌∷◌, Option, Some, slice_get, slice_set, slice_index_or, refl, sym, ap, ◌∙◌, subst, if◌then◌else◌}
+use Rattle.std.proofs.lemmas.List.{set-get_or}
+use Rattle.std.proofs.lemmas.Option.{get_or_from_slice_get}
+use Rattle.std.specs.Vec.{with_item}
+use Rattle.rio_chars.specs.Written.{Writes}
+use Rattle.rio_chars.specs.declared.outbox.Outbox.{Outbox}
+use Rattle.rio_chars.proofs.WrittenLaws.{Writes-nil}
+use Rattle.link_port.specs.Ports.{PortState}
+use Rattle.link_watch.specs.declared.side.Side.{Side}
+use Rattle.link_watch.specs.declared.side.Side.TheVariants.{A, B}
+use Rattle.link_wires.specs.Wires.{fits, edited, after_edit, answered}
+use Rattle.link_wires.specs.declared.edits.Edit.{Edit}
+use Rattle.link_wires.specs.declared.edits.Edited.{Edited}
+use Rattle.link_machine.specs.Calls.{edited_from}
+use Rattle.link_machine.specs.States.{Wires, LinkState, link, wire_at}
+use Rattle.fabric_script.specs.declared.lines.Line.{Line}
+use Rattle.fabric_script.specs.declared.lines.Line.TheVariants.{Endpoint, Switch, Link, Buffers, Route, Default, Lock, Send, Read, Write, Pump, Deliver, Alter, Insert, Erase, Timeout, Settle, Move, Collect, Run}
+use Rattle.fabric_script.specs.declared.ports.PortRef.{PortRef}
+use Rattle.fabric_model.specs.Network.{Network, same_port}
+use Rattle.fabric_model.proofs.Peers.{apart_back}
+use Rattle.fabric_trace.specs.Blocks.{port_at_side, edits, IsBlock}
+use Rattle.fabric_trace.specs.Fold.{edit_of, changed, edited_by, seen}
+use Rattle.fabric_trace.specs.Known.{Wire, Seen, wire_state, port_at, link_at}
+use Rattle.fabric_trace.specs.Lines as traced
+use Rattle.fabric_trace.specs.Lines.{TraceLine, Begun, Lacked}
+use Rattle.fabric_trace.specs.Runs.{begins}
+use Rattle.fabric_trace.specs.Text.{trace_text}
+use Rattle.fabric_trace.proofs.Folding.{wire_own, wire_other}
+use Rattle.fabric_trace.proofs.Making.{AreOthers}
+use Rattle.fabric_trace.proofs.Walks.{elsewhere_here}
+use Rattle.fabric_ports.specs.Acting.{lack_lines, acted}
+use Rattle.fabric_ports.specs.Blocked.{Blocked, BlockedShort}
+use Rattle.fabric_ports.specs.Ends.{IsPlaceOf}
+use Rattle.fabric_ports.specs.Places.{place_of}
+use Rattle.fabric_ports.specs.Showing.{ShowsFabric}
+use Rattle.fabric_ports.specs.Standing.{IsPlain, Stands}
+use Rattle.fabric_ports.specs.declared.actions.Acted.{Acted}
+use Rattle.fabric_ports.specs.declared.actions.Acted.TheVariants.{Done, Short, Early}
+use Rattle.fabric_ports.specs.declared.ends.LinkPlace.{LinkPlace}
+use Rattle.fabric_ports.specs.declared.fabric.Cable.{Cable}
+use Rattle.fabric_ports.specs.declared.fabric.Fabric.{Fabric}
+use Rattle.fabric_ports.proofs.Cables.{IsChanged, changed_shows, with_wires}
+use Rattle.fabric_ports.proofs.EndLaws.{cable_shown, cable_is}
+use Rattle.fabric_ports.proofs.LinkLaws.{IsKnown, known}
+use Rattle.fabric_ports.proofs.StandLaws.{stands_on}
+
+-- ---- the block
+
+pub edit_block : (s : Seen) (line : Line) (port : PortRef) (edit : Edit) (block : List TraceLine)
+    → edit_of line ≡ Some (port, edit) → block ≡ edits s (Some (port, edit)) → IsBlock s line block
+edit_block s (Alter p place ch) port edit block is same = same ∙ ap (edits s) (sym is)
+edit_block s (Erase p place n) port edit block is same = same ∙ ap (edits s) (sym is)
+edit_block s (Insert p place ch) port edit block is same = same ∙ ap (edits s) (sym is)
+edit_block s (Endpoint name id) port edit block is same = absurd cc
+edit_block s (Switch name ports) port edit block is same = absurd cc
+edit_block s (Link a b) port edit block is same = absurd cc
+edit_block s (Buffers p n) port edit block is same = absurd cc
+edit_block s (Route node id p) port edit block is same = absurd cc
+edit_block s (Default node p) port edit block is same = absurd cc
+edit_block s (Lock node id) port edit block is same = absurd cc
+edit_block s (Send node prio ftype dest hex) port edit block is same = absurd cc
+edit_block s (Read node prio dest hop tid offset) port edit block is same = absurd cc
+edit_block s (Write node prio dest hop tid offset value) port edit block is same = absurd cc
+edit_block s (Pump p n) port edit block is same = absurd cc
+edit_block s (Deliver p n) port edit block is same = absurd cc
+edit_block s (Timeout p) port edit block is same = absurd cc
+edit_block s (Settle p) port edit block is same = absurd cc
+edit_block s (Move node) port edit block is same = absurd cc
+edit_block s (Collect node) port edit block is same = absurd cc
+edit_block s (Run n) port edit block is same = absurd cc
+
+lacks_is : (x : Bool)
+    → lack_lines (acted (answered x)) ≡ (if x then [] else Lacked traced.Short ∷ [])
+lacks_is true = refl
+lacks_is false = refl
+
+lack_same : (s : Seen) (answer : Acted) → seen s (lack_lines answer) ≡ s
+lack_same s Done = refl
+lack_same s Short = refl
+lack_same s Early = refl
+
+-- ---- the link
+
+-- a wire with changed characters
+edited_state : (edit : Edit) (wire : Wire)
+    → wire_state (record wire { chars = changed edit wire.chars }) ≡ after_edit edit
+    (wire_state wire)
+edited_state edit wire =
+    elim (fits edit wire.chars) as
+    (λ x. wire_state (record wire { chars = if x then edited edit wire.chars else wire.chars })
+    ≡ (if x then record (wire_state wire) { chars = edited edit wire.chars } else wire_state wire))
+    [ true ↦ refl | false ↦ refl ]
+
+edited_at : (s : Seen) (a b : PortRef) (side : Side) (edit : Edit) → same_port a b ≡ false
+    → link_at (edited_by s (Some (port_at_side a b side, edit))) a b ≡ edited_from side edit
+    (link_at s a b)
+edited_at s a b A edit apart =
+    let wire = record (s.wires a) { chars = changed edit (s.wires a).chars } in
+    let own = ap wire_state (wire_own s.wires a wire) ∙ edited_state edit (s.wires a) in
+    let other = ap wire_state (wire_other s.wires a wire b (apart_back a b apart)) in
+    λ i. record { a = port_at s a; b = port_at s b; wire_a = own i; wire_b = other i }
+edited_at s a b B edit apart =
+    let wire = record (s.wires b) { chars = changed edit (s.wires b).chars } in
+    let own = ap wire_state (wire_own s.wires b wire) ∙ edited_state edit (s.wires b) in
+    let other = ap wire_state (wire_other s.wires b wire a apart) in
+    λ i. record { a = port_at s a; b = port_at s b; wire_a = other i; wire_b = own i }
+
+edit_others : (s : Seen) (a b : PortRef) (side : Side) (edit : Edit)
+    → AreOthers s (edited_by s (Some (port_at_side a b side, edit))) a b
+edit_others s a b A edit = record {
+  links = refl;
+  untouched = λ c x y. record {
+    lists = (elsewhere_here s.network a b).others c x y;
+    wire =
+        wire_other s.wires a (record (s.wires a) { chars = changed edit (s.wires a).chars }) c x;
+    half = refl;
+  };
+}
+edit_others s a b B edit = record {
+  links = refl;
+  untouched = λ c x y. record {
+    lists = (elsewhere_here s.network a b).others c x y;
+    wire =
+        wire_other s.wires b (record (s.wires b) { chars = changed edit (s.wires b).chars }) c y;
+    half = refl;
+  };
+}
+
+wire_chars : (s : Seen) (a b : PortRef) (side : Side) (wires : Wires) (x y : PortState)
+    → link wires x y ≡ link_at s a b
+    → (wire_at side wires).chars ≡ (s.wires (port_at_side a b side)).chars
+wire_chars s a b A wires x y is = ap (λ (l : LinkState). l.wire_a.chars) is
+wire_chars s a b B wires x y is = ap (λ (l : LinkState). l.wire_b.chars) is
+
+-- ---- the fabric
+
+-- the fabric with this link
+abbrev pub fabric_edited : Fabric → ℕ → Cable → Wires → Fabric
+fabric_edited fabric k cable wires = record {
+  devices = fabric.devices;
+  firsts = fabric.firsts;
+  ports = fabric.ports;
+  cables = with_item fabric.cables k (with_wires cable wires);
+}
+
+set_same : {X : Type 0} (xs : List X) (i : ℕ) (x : X) → slice_get xs i ≡ Some x
+    → slice_set xs i x ≡ xs
+set_same xs i x is = ap (slice_set xs i) (sym (get_or_from_slice_get xs i x x is))
+    ∙ set-get_or xs i x
+
+links_changed : (fabric : Fabric) (k : ℕ) (cable : Cable) (wires : Wires) (x y : PortState)
+    → slice_get fabric.ports.items (place_of fabric.firsts.items cable.a) ≡ Some x
+    → slice_get fabric.ports.items (place_of fabric.firsts.items cable.b) ≡ Some y
+    → IsChanged fabric (fabric_edited fabric k cable wires) k cable wires x y
+links_changed fabric k cable wires x y at_x at_y = record {
+  devices = refl;
+  firsts = refl;
+  ports =
+      let px = place_of fabric.firsts.items cable.a in
+      let py = place_of fabric.firsts.items cable.b in
+      sym (ap (λ l. slice_set l py y) (set_same fabric.ports.items px x at_x)
+      ∙ set_same fabric.ports.items py y at_y);
+  cables = refl;
+}
+
+-- what is known of a link whose ports stand where they are shown
+edit_known : {net : Network} {lines : List TraceLine} {fabric : Fabric} {port : PortRef}
+    {place : LinkPlace} → Stands net lines fabric → (p : IsPlaceOf fabric port place)
+    → IsKnown net lines fabric port place p.is.cable
+    (port_at (seen (begins net) lines) p.is.cable.a)
+    (port_at (seen (begins net) lines) p.is.cable.b)
+edit_known {net} {lines} {fabric} {port} {place} stands p =
+    let s = seen (begins net) lines in
+    let d = p.is.cable in
+    let shown = cable_shown place.cable d stands p.is.at in
+    known (port_at s d.a) (port_at s d.b) stands p (ap (slice_get fabric.ports.items) p.first
+    ∙ stands.shows.ports d.a shown.port_a)
+    (ap (slice_get fabric.ports.items) p.second ∙ stands.shows.ports d.b shown.port_b)
+
+-- the block is written, and the fabric stands for the lines with it
+pub edit_done : {K : Type 0} (written : K → Option (List ℕ)) (faults : K → ℕ) (fabric : Fabric)
+    (port : PortRef) (place : LinkPlace) (p : IsPlaceOf fabric port place) (cable : Cable)
+    → cable ≡ slice_index_or fabric.cables.items place.cable cable → (edit : Edit) (wires : Wires)
+    → ((x y : PortState) → link wires x y ≡ edited_from place.side edit (link cable.link x y))
+    → (answer : Edited) → answer ≡ answered (fits edit (wire_at place.side cable.link).chars)
+    → (old new : Outbox K)
+    → ((names : List (List ℕ))
+    → Writes written faults old new (trace_text names (lack_lines (acted answer))))
+    → (names : List (List ℕ)) (line : Line) → edit_of line ≡ Some (port, edit)
+    → (net : Network) (lines : List TraceLine) → Stands net lines fabric
+    → Blocked line names written faults old new net lines
+    (fabric_edited fabric place.cable cable wires)
+edit_done written faults fabric port place p cable met edit wires becomes answer answers old new
+    writes names line is net lines stands =
+    let s = seen (begins net) lines in
+    let d = p.is.cable in
+    let same : cable ≡ d = cable_is fabric.cables.items port place.cable place.side p.is cable
+    met in
+    let k = edit_known stands p in
+    let x = port_at s d.a in
+    let y = port_at s d.b in
+    let t = edited_by s (Some (port, edit)) in
+    let shown : link cable.link x y ≡ link_at s d.a d.b = ap (λ (c : Cable). link c.link x y) same
+    ∙ k.shown in
+    let there : link_at t d.a d.b ≡ link wires x y =
+    ap (λ (q : PortRef). link_at (edited_by s (Some (q, edit))) d.a d.b) k.end
+    ∙ edited_at s d.a d.b place.side edit k.peers.apart
+    ∙ ap (edited_from place.side edit) (sym shown) ∙ sym (becomes x y) in
+    let others : AreOthers s t d.a d.b =
+    subst (λ (q : PortRef). AreOthers s (edited_by s (Some (q, edit))) d.a d.b) (sym k.end)
+    (edit_others s d.a d.b place.side edit) in
+    let in_place = cable_shown place.cable d stands p.is.at in
+    let chars : (wire_at place.side cable.link).chars ≡ (s.wires port).chars =
+    wire_chars s d.a d.b place.side cable.link x y shown
+    ∙ ap (λ (q : PortRef). (s.wires q).chars) (sym k.end) in
+    let block = lack_lines (acted answer) in
+    let block_is : block ≡ edits s (Some (port, edit)) =
+    ap (λ z. lack_lines (acted z)) answers
+    ∙ lacks_is (fits edit (wire_at place.side cable.link).chars)
+    ∙ ap (λ z. if fits edit z then [] else Lacked traced.Short ∷ []) chars in
+    let begun : seen s (Begun line ∷ block) ≡ t = ap (λ e. seen (edited_by s e) block) is
+    ∙ lack_same t (acted answer) in
+    let changes =
+    links_changed fabric place.cable d wires x y (stands.shows.ports d.a in_place.port_a)
+    (stands.shows.ports d.b in_place.port_b) in
+    let new_fabric = fabric_edited fabric place.cable d wires in
+    let shows = changed_shows fabric new_fabric s t place.cable d wires x y stands.shows k.at
+    changes k.good.proper others refl there in
+    let is_block = edit_block s line port edit block is block_is in
+    subst (λ (c : Cable). Blocked line names written faults old new net lines
+    (fabric_edited fabric place.cable c wires)) (sym same)
+    (record {
+      block = block;
+      prints = writes names;
+      is = is_block;
+      stands = stands_on net lines fabric new_fabric line block stands is_block
+          (ap (λ (z : Seen). z.unfaithful) begun ∙ stands.sent)
+          (subst (ShowsFabric new_fabric) (sym begun) shows)
+          (subst (λ (z : Seen). IsPlain z.network) (sym begun) stands.plain);
+    })
+
+-- nothing of it is written
+pub edit_cut : {K : Type 0} (written : K → Option (List ℕ)) (faults : K → ℕ) (port : PortRef)
+    (edit : Edit) (outbox : Outbox K) (names : List (List ℕ)) (line : Line) (net : Network)
+    (lines : List TraceLine)
+    → edit_of line ≡ Some (port, edit)
+    → BlockedShort line names written faults outbox outbox net lines
+edit_cut written faults port edit outbox names line net lines is =
+    let s = seen (begins net) lines in
+    record {
+      block = edits s (Some (port, edit));
+      front = [];
+      rest = edits s (Some (port, edit));
+      prints = Writes-nil written faults outbox;
+      is = edit_block s line port edit (edits s (Some (port, edit))) is refl;
+      whole = refl;
+    }

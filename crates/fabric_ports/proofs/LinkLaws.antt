@@ -1,0 +1,312 @@
+-- What an event at a link writes, and for which lines the fabric stands then.
+use Rattle.std.proofs.Common.{◌≡◌, ℕ, List, [], ◌∷◌, ◌++◌, Option, Some, None, slice_get, sym, ap, ◌∙◌, subst, append_assoc}
+use Rattle.std.proofs.lemmas.Grind.{flat_map-append}
+use Rattle.rio_chars.specs.Written.{Writes}
+use Rattle.rio_chars.specs.declared.outbox.Outbox.{Outbox}
+use Rattle.rio_chars.proofs.WrittenLaws.{Writes-nil, Writes-then}
+use Rattle.link_model.specs.declared.event.Event.{Event}
+use Rattle.link_port.specs.Ports.{PortState}
+use Rattle.link_watch.specs.Stops.{CutAtFirst}
+use Rattle.link_watch.specs.declared.note.Note.{Note}
+use Rattle.link_watch.specs.declared.side.Side.{Side}
+use Rattle.link_machine.specs.Sound.{IsSoundLink}
+use Rattle.link_machine.specs.States.{Wires, LinkState, link}
+use Rattle.link_rest.specs.Acts.{Act, At, Found, goes, acts_notes}
+use Rattle.link_law.specs.Does.{Comes, Stops}
+use Rattle.fabric_script.specs.declared.ports.PortRef.{PortRef}
+use Rattle.fabric_model.specs.Network.{Network, link_in}
+use Rattle.fabric_model.proofs.Peers.{ArePeers, link_peers}
+use Rattle.fabric_trace.specs.Fold.{seen}
+use Rattle.fabric_trace.specs.Known.{Seen, port_at, link_at}
+use Rattle.fabric_trace.specs.Lines.{TraceLine, Begun}
+use Rattle.fabric_trace.specs.Blocks.{port_at_side, lines_of, IsBlock}
+use Rattle.fabric_trace.specs.Runs.{begins}
+use Rattle.fabric_trace.specs.Text.{trace_text}
+use Rattle.fabric_trace.proofs.Folding.{seen-append, lines-append}
+use Rattle.fabric_trace.proofs.Keeping.{IsGood, made_keeps}
+use Rattle.fabric_trace.proofs.Making.{Reaches}
+use Rattle.fabric_trace.proofs.Running.{acts_reach}
+use Rattle.fabric_trace.proofs.Starting.{good_start}
+use Rattle.trace_lines.specs.Watching.{WritesNotes}
+use Rattle.trace_lines.specs.declared.watching.LinkLines.{LinkLines}
+use Rattle.fabric_ports.specs.Acting.{line_for, part_of, answer_of, lack_lines}
+use Rattle.fabric_ports.specs.Blocked.{Blocked, BlockedAt, BlockedShort}
+use Rattle.fabric_ports.specs.Ends.{IsPlaceOf}
+use Rattle.fabric_ports.specs.Places.{place_of}
+use Rattle.fabric_ports.specs.Showing.{ShowsFabric}
+use Rattle.fabric_ports.specs.Standing.{IsPlain, Stands}
+use Rattle.fabric_ports.specs.declared.actions.Acted.{Acted}
+use Rattle.fabric_ports.specs.declared.actions.Acted.TheVariants.{Done}
+use Rattle.fabric_ports.specs.declared.actions.Action.{Action}
+use Rattle.fabric_ports.specs.declared.ends.LinkPlace.{LinkPlace}
+use Rattle.fabric_ports.specs.declared.fabric.Cable.{Cable}
+use Rattle.fabric_ports.specs.declared.fabric.Fabric.{Fabric}
+use Rattle.fabric_ports.proofs.BlockLaws.{block_of, lack_seen, begun_same, block_is, found_done}
+use Rattle.fabric_ports.proofs.Cables.{IsChanged, changed_shows, notes_registers}
+use Rattle.fabric_ports.proofs.EndLaws.{cable_shown}
+use Rattle.fabric_ports.proofs.PlainLaws.{notes_plain}
+use Rattle.fabric_ports.proofs.StandLaws.{stands_on}
+
+-- ---- the link, before
+
+some_is : {X : Type 0} (o : Option X) (x y : X) → o ≡ Some x → o ≡ Some y → x ≡ y
+some_is None x y p q = absurd cc
+some_is (Some z) x y p q = cc
+
+-- what is known of a link that stands at this place
+pub record IsKnown (net : Network) (lines : List TraceLine) (fabric : Fabric) (port : PortRef)
+    (place : LinkPlace) (d : Cable) (x y : PortState) : Type 0 where
+  pub stands : Stands net lines fabric
+  pub at : slice_get fabric.cables.items place.cable ≡ Some d
+  pub found : link_in (seen (begins net) lines).network.links port ≡ Some (d.a, d.b)
+  pub end : port ≡ port_at_side d.a d.b place.side
+  pub first : place.a ≡ place_of fabric.firsts.items d.a
+  pub second : place.b ≡ place_of fabric.firsts.items d.b
+  pub good : IsGood (seen (begins net) lines)
+  pub peers : ArePeers (seen (begins net) lines).network.links d.a d.b
+  pub shown : link d.link x y ≡ link_at (seen (begins net) lines) d.a d.b
+
+pub known : {net : Network} {lines : List TraceLine} {fabric : Fabric} {port : PortRef}
+    {place : LinkPlace} (x y : PortState) → Stands net lines fabric
+    → (p : IsPlaceOf fabric port place)
+    → slice_get fabric.ports.items place.a ≡ Some x → slice_get fabric.ports.items place.b ≡ Some y
+    → IsKnown net lines fabric port place p.is.cable x y
+known {net} {lines} {fabric} {port} {place} x y stands p at_x at_y =
+    let s = seen (begins net) lines in
+    let d = p.is.cable in
+    let good = (made_keeps (good_start net stands.set_up) stands.made).good in
+    let found = subst (λ (l : List (PortRef × PortRef)). link_in l port ≡ Some (d.a, d.b))
+    stands.shows.links p.is.found in
+    let shown = cable_shown place.cable d stands p.is.at in
+    let own_x : x ≡ port_at s d.a = some_is (slice_get fabric.ports.items place.a) x (port_at s d.a)
+    at_x (ap (slice_get fabric.ports.items) p.first ∙ stands.shows.ports d.a shown.port_a) in
+    let own_y : y ≡ port_at s d.b = some_is (slice_get fabric.ports.items place.b) y (port_at s d.b)
+    at_y (ap (slice_get fabric.ports.items) p.second ∙ stands.shows.ports d.b shown.port_b) in
+    record {
+      stands = stands;
+      at = p.is.at;
+      found = found;
+      end = p.is.end;
+      first = p.first;
+      second = p.second;
+      good = good;
+      peers = link_peers s.network.links port (d.a, d.b) good.proper found;
+      shown = λ i. link (shown.wires i) (own_x i) (own_y i);
+    }
+
+-- it is sound
+pub known_sound : {net : Network} {lines : List TraceLine} {fabric : Fabric} {port : PortRef}
+    {place : LinkPlace} {d : Cable} {x y : PortState} → IsKnown net lines fabric port place d x y
+    → IsSoundLink (link d.link x y)
+known_sound {net} {lines} {d = d} k =
+    subst IsSoundLink (sym k.shown) (k.good.links k.stands.sent d.a d.b k.peers.there).sound
+
+-- ---- what is done
+
+known_block : {net : Network} {lines : List TraceLine} {fabric : Fabric} {port : PortRef}
+    {place : LinkPlace} {d : Cable} {x y : PortState} (action : Action) (all : List Act)
+    → IsKnown net lines fabric port place d x y
+    → part_of place.side action (At (link d.link x y)) all
+    → IsBlock (seen (begins net) lines) (line_for port action)
+    (block_of d.a d.b (link d.link x y) all (answer_of place.side action (link d.link x y)))
+known_block {net} {lines} {fabric} {port} {place} {d} {x} {y} action all k part =
+    let s = seen (begins net) lines in
+    let found = subst (λ (p : PortRef). link_in s.network.links p ≡ Some (d.a, d.b)) k.end
+    k.found in
+    subst (λ (p : PortRef). IsBlock s (line_for p action)
+    (block_of d.a d.b (link d.link x y) all (answer_of place.side action (link d.link x y))))
+    (sym k.end)
+    (subst (λ (l : LinkState). IsBlock s (line_for (port_at_side d.a d.b place.side) action)
+    (block_of d.a d.b l all (answer_of place.side action l))) (sym k.shown)
+    (block_is s d.a d.b place.side action all k.peers found
+    (subst (λ (l : LinkState). part_of place.side action (At l) all) k.shown part)))
+
+known_reaches : {net : Network} {lines : List TraceLine} {fabric : Fabric} {port : PortRef}
+    {place : LinkPlace} {d : Cable} {x y : PortState} (all : List Act)
+    → IsKnown net lines fabric port place d x y
+    → Reaches (seen (begins net) lines) d.a d.b
+    (lines_of d.a d.b (acts_notes (At (link d.link x y)) all)) (goes (At (link d.link x y)) all)
+known_reaches {net} {lines} {d = d} {x} {y} all k =
+    let s = seen (begins net) lines in
+    subst (λ (l : LinkState). Reaches s d.a d.b (lines_of d.a d.b (acts_notes (At l) all))
+    (goes (At l) all)) (sym k.shown)
+    (acts_reach all s d.a d.b k.good k.stands.sent k.peers)
+
+-- the fabric stands for the lines with the block
+pub known_stands : {net : Network} {lines : List TraceLine} {fabric new : Fabric} {port : PortRef}
+    {place : LinkPlace} {d : Cable} {x y : PortState} (action : Action) (all : List Act)
+    (wires : Wires) (x2 y2 : PortState) → IsKnown net lines fabric port place d x y
+    → part_of place.side action (At (link d.link x y)) all
+    → goes (At (link d.link x y)) all ≡ At (link wires x2 y2)
+    → IsChanged fabric new place.cable d wires x2 y2
+    → Stands net (lines ++ Begun (line_for port action) ∷ block_of d.a d.b (link d.link x y) all
+    (answer_of place.side action (link d.link x y))) new
+known_stands {net} {lines} {fabric} {new} {port} {place} {d} {x} {y} action all wires x2 y2 k part
+    reached changed =
+    let s = seen (begins net) lines in
+    let l = link d.link x y in
+    let answer = answer_of place.side action l in
+    let noted = lines_of d.a d.b (acts_notes (At l) all) in
+    let block = block_of d.a d.b l all answer in
+    let same : seen s (Begun (line_for port action) ∷ block) ≡ seen s noted =
+    begun_same s port action block ∙ lack_seen s noted answer in
+    let reaches = known_reaches all k in
+    let t = seen s noted in
+    let there = reaches.there (link wires x2 y2) reached in
+    let shows = changed_shows fabric new s t place.cable d wires x2 y2 k.stands.shows k.at changed
+    k.good.proper reaches.others (notes_registers s d.a d.b (acts_notes (At l) all)) there.1 in
+    stands_on net lines fabric new (line_for port action) block k.stands
+    (known_block action all k part)
+    (ap (λ (z : Seen). z.unfaithful) same ∙ there.0)
+    (subst (ShowsFabric new) (sym same) shows)
+    (subst (λ (z : Seen). IsPlain z.network) (sym same)
+    (notes_plain s d.a d.b (acts_notes (At l) all) k.stands.plain))
+
+-- the event that was not sent is known
+known_found : {net : Network} {lines : List TraceLine} {fabric : Fabric} {port : PortRef}
+    {place : LinkPlace} {d : Cable} {x y : PortState} (action : Action) (all : List Act)
+    (side : Side) (e : Event) (answer : Acted) → IsKnown net lines fabric port place d x y
+    → goes (At (link d.link x y)) all ≡ Found side e
+    → (seen (begins net)
+    (lines ++ Begun (line_for port action) ∷ block_of d.a d.b (link d.link x y) all
+    answer)).unfaithful ≡ Some (record { port = port_at_side d.a d.b side; event = e })
+known_found {net} {lines} {port = port} {d = d} {x} {y} action all side e answer k reached =
+    let s = seen (begins net) lines in
+    let l = link d.link x y in
+    let noted = lines_of d.a d.b (acts_notes (At l) all) in
+    let block = block_of d.a d.b l all answer in
+    ap (λ (z : Seen). z.unfaithful)
+    (seen-append (begins net) lines (Begun (line_for port action) ∷ block)
+    ∙ begun_same s port action block ∙ lack_seen s noted answer)
+    ∙ (known_reaches all k).found side e reached
+
+-- ---- what is written
+
+text_on : (names : List (List ℕ)) (xs ys : List TraceLine)
+    → trace_text names (xs ++ ys) ≡ trace_text names xs ++ trace_text names ys
+text_on names xs ys = flat_map-append _ xs ys
+
+-- the lines of notes, and behind them what is not there
+pub block_written : {K : Type 0} {written : K → Option (List ℕ)} {faults : K → ℕ}
+    (names : List (List ℕ)) (a b : PortRef) (l : LinkState) (all : List Act) (answer : Acted)
+    (old mid new : Outbox K)
+    → Writes written faults old mid (trace_text names (lines_of a b (acts_notes (At l) all)))
+    → Writes written faults mid new (trace_text names (lack_lines answer))
+    → Writes written faults old new (trace_text names (block_of a b l all answer))
+block_written {written = written} {faults} names a b l all answer old mid new first second =
+    subst (Writes written faults old new)
+    (sym (text_on names (lines_of a b (acts_notes (At l) all)) (lack_lines answer)))
+    (Writes-then _ _ first second)
+
+-- the whole block was written
+pub link_blocked : {K : Type 0} {written : K → Option (List ℕ)} {faults : K → ℕ} {net : Network}
+    {lines : List TraceLine} {fabric new : Fabric} {port : PortRef} {place : LinkPlace} {d : Cable}
+    {x y : PortState}
+    (names : List (List ℕ)) (action : Action) (wires : Wires) (x2 y2 : PortState)
+    (before after : LinkLines K) (outbox : Outbox K) (answer : Acted)
+    → IsKnown net lines fabric port place d x y
+    → Comes (WritesNotes written faults) (part_of place.side action) (link d.link x y) before
+    (At (link wires x2 y2)) after
+    → answer ≡ answer_of place.side action (link d.link x y) → before.names.now ≡ names
+    → before.a ≡ d.a → before.b ≡ d.b
+    → Writes written faults after.outbox.now outbox (trace_text names (lack_lines answer))
+    → IsChanged fabric new place.cable d wires x2 y2
+    → Blocked (line_for port action) names written faults before.outbox.now outbox net lines new
+link_blocked {K} {written} {faults} {net} {lines} {fabric} {new} {port} {place} {d} {x} {y} names
+    action wires x2 y2 before after outbox answer k comes answered named is_a is_b lacks changed =
+    let l = link d.link x y in
+    let notes = acts_notes (At l) comes.acts in
+    let told : Writes written faults before.outbox.now after.outbox.now
+    (trace_text names (lines_of d.a d.b notes)) =
+    subst (λ (n : List (List ℕ)). Writes written faults before.outbox.now after.outbox.now
+    (trace_text n (lines_of d.a d.b notes))) named
+    (subst (λ (p : PortRef). Writes written faults before.outbox.now after.outbox.now
+    (trace_text before.names.now (lines_of p d.b notes))) is_a
+    (subst (λ (p : PortRef). Writes written faults before.outbox.now after.outbox.now
+    (trace_text before.names.now (lines_of before.a p notes))) is_b comes.grown.lines)) in
+    record {
+      block = block_of d.a d.b l comes.acts (answer_of place.side action l);
+      prints = block_written names d.a d.b l comes.acts (answer_of place.side action l)
+          before.outbox.now after.outbox.now outbox told
+          (subst (λ (z : Acted). Writes written faults after.outbox.now outbox
+          (trace_text names (lack_lines z))) answered lacks);
+      is = known_block action comes.acts k comes.part;
+      stands = known_stands action comes.acts wires x2 y2 k comes.part comes.reached changed;
+    }
+
+-- it was written up to an event that was not sent
+pub link_exposed : {K : Type 0} {written : K → Option (List ℕ)} {faults : K → ℕ} {net : Network}
+    {lines : List TraceLine} {fabric : Fabric} {port : PortRef} {place : LinkPlace} {d : Cable}
+    {x y : PortState}
+    (names : List (List ℕ)) (action : Action) (side : Side) (e : Event) (before after : LinkLines K)
+    → IsKnown net lines fabric port place d x y
+    → Comes (WritesNotes written faults) (part_of place.side action) (link d.link x y) before
+    (Found side e) after
+    → before.names.now ≡ names → before.a ≡ d.a → before.b ≡ d.b
+    → BlockedAt (line_for port action) names written faults before.outbox.now after.outbox.now net
+    lines (port_at_side d.a d.b side) e
+link_exposed {K} {written} {faults} {net} {lines} {fabric} {port} {place} {d} {x} {y} names action
+    side e before after k comes named is_a is_b =
+    let l = link d.link x y in
+    let notes = acts_notes (At l) comes.acts in
+    let told : Writes written faults before.outbox.now after.outbox.now
+    (trace_text names (lines_of d.a d.b notes)) =
+    subst (λ (n : List (List ℕ)). Writes written faults before.outbox.now after.outbox.now
+    (trace_text n (lines_of d.a d.b notes))) named
+    (subst (λ (p : PortRef). Writes written faults before.outbox.now after.outbox.now
+    (trace_text before.names.now (lines_of p d.b notes))) is_a
+    (subst (λ (p : PortRef). Writes written faults before.outbox.now after.outbox.now
+    (trace_text before.names.now (lines_of before.a p notes))) is_b comes.grown.lines)) in
+    let full = found_done place.side action l comes.acts side e comes.part comes.reached in
+    record {
+      block = block_of d.a d.b l comes.acts Done;
+      prints = block_written names d.a d.b l comes.acts Done before.outbox.now after.outbox.now
+          after.outbox.now told (Writes-nil written faults after.outbox.now);
+      is = subst (λ (z : Acted). IsBlock (seen (begins net) lines) (line_for port action)
+          (block_of d.a d.b l comes.acts z)) full (known_block action comes.acts k comes.part);
+      found = known_found action comes.acts side e Done k comes.reached;
+    }
+
+pub nothing_cut : {W : Type 0} (mid new : W) (rest : List Note)
+    → CutAtFirst (λ watch note next. next ≡ watch) mid rest new → new ≡ mid
+nothing_cut mid new [] cut = cut
+nothing_cut mid new (note ∷ rest) cut = cut
+
+-- a front of it was written
+pub link_cut : {K : Type 0} {written : K → Option (List ℕ)} {faults : K → ℕ} {net : Network}
+    {lines : List TraceLine} {fabric : Fabric} {port : PortRef} {place : LinkPlace} {d : Cable}
+    {x y : PortState}
+    (names : List (List ℕ)) (action : Action) (before after : LinkLines K)
+    → IsKnown net lines fabric port place d x y
+    → Stops (WritesNotes written faults) (λ watch note next. next ≡ watch)
+    (part_of place.side action) (link d.link x y) before after
+    → before.names.now ≡ names → before.a ≡ d.a → before.b ≡ d.b
+    → BlockedShort (line_for port action) names written faults before.outbox.now after.outbox.now
+    net lines
+link_cut {K} {written} {faults} {net} {lines} {fabric} {port} {place} {d} {x} {y} names action
+    before after k stops named is_a is_b =
+    let l = link d.link x y in
+    let s = stops.stopped in
+    let answer = answer_of place.side action l in
+    let told : Writes written faults before.outbox.now s.mid.outbox.now
+    (trace_text names (lines_of d.a d.b s.front)) =
+    subst (λ (n : List (List ℕ)). Writes written faults before.outbox.now s.mid.outbox.now
+    (trace_text n (lines_of d.a d.b s.front))) named
+    (subst (λ (p : PortRef). Writes written faults before.outbox.now s.mid.outbox.now
+    (trace_text before.names.now (lines_of p d.b s.front))) is_a
+    (subst (λ (p : PortRef). Writes written faults before.outbox.now s.mid.outbox.now
+    (trace_text before.names.now (lines_of before.a p s.front))) is_b s.grown.lines)) in
+    record {
+      block = block_of d.a d.b l stops.acts answer;
+      front = lines_of d.a d.b s.front;
+      rest = lines_of d.a d.b s.rest ++ lack_lines answer;
+      prints = subst
+          (λ (w : LinkLines K). Writes written faults before.outbox.now w.outbox.now
+          (trace_text names (lines_of d.a d.b s.front)))
+          (sym (nothing_cut s.mid after s.rest s.cut_at)) told;
+      is = known_block action stops.acts k stops.part;
+      whole = ap (λ (notes : List Note). lines_of d.a d.b notes ++ lack_lines answer) s.whole
+          ∙ ap (λ (z : List TraceLine). z ++ lack_lines answer)
+          (lines-append d.a d.b s.front s.rest)
+          ∙ append_assoc (lines_of d.a d.b s.front) (lines_of d.a d.b s.rest) (lack_lines answer);
+    }

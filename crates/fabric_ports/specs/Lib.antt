@@ -1,0 +1,9 @@
+pub mod Places
+pub mod Showing
+pub mod Standing
+pub mod Events
+pub mod Ends
+pub mod Blocked
+pub mod Built
+pub mod Plans
+pub mod Acting

@@ -1,0 +1,36 @@
+-- Where the ports of a fabric stand in its list.
+use Rattle.std.specs.Prelude.{◌≡◌, ℕ, ◌+◌, ◌<◌, false, List, [], ◌∷◌, length, Option, Some, None, slice_get, slice_index_or}
+use Rattle.fabric_script.specs.declared.ports.PortRef.{PortRef}
+use Rattle.maint_registers.specs.Devices.{Device, is_switch}
+
+-- each device's ports stand in a row, behind those of the devices before it: where the first of each stands
+abbrev pub AreFirsts : ℕ → List Device → List ℕ → Type 0
+AreFirsts place [] [] = Unit {0}
+AreFirsts place [] (first ∷ firsts) = ⊥
+AreFirsts place (device ∷ devices) [] = ⊥
+AreFirsts place (device ∷ devices) (first ∷ firsts) =
+    (first ≡ place) × AreFirsts (place + device.ports) devices firsts
+
+-- how many ports the devices have
+abbrev pub port_count : List Device → ℕ
+port_count [] = 0
+port_count (device ∷ devices) = device.ports + port_count devices
+
+abbrev pub HasPort : Option Device → ℕ → Type 0
+HasPort None port = ⊥
+HasPort (Some device) port = port < device.ports
+
+-- it is a port of one of the devices
+abbrev pub IsPortOf : List Device → PortRef → Type 0
+IsPortOf devices p = HasPort (slice_get devices p.node) p.port
+
+-- the device is an endpoint
+pub record IsEndpointAt (devices : List Device) (node : ℕ) : Type 0 where
+  pub device : Device
+  pub stands : slice_get devices node ≡ Some device
+  pub kind : is_switch device ≡ false
+  pub has_port : 0 < device.ports
+
+-- where it stands
+abbrev pub place_of : List ℕ → PortRef → ℕ
+place_of firsts p = slice_index_or firsts p.node 0 + p.port

@@ -1,0 +1,42 @@
+-- What lines of set-up have made, before there are ports.
+use Rattle.std.specs.Prelude.{◌≡◌, ℕ, ◌<◌, false, List, All, map, length, Some, slice_get}
+use Rattle.link_machine.specs.States.{empty_wires}
+use Rattle.link_sound.specs.Histories.{AreBuffers}
+use Rattle.fabric_script.specs.declared.ports.PortRef.{PortRef}
+use Rattle.fabric_model.specs.Network.{Network}
+use Rattle.maint_registers.specs.Devices.{Device, is_switch}
+use Rattle.fabric_ports.specs.Places.{AreFirsts, port_count, IsPortOf, place_of}
+use Rattle.fabric_ports.specs.Showing.{ends_of, AreRegisters}
+use Rattle.fabric_ports.specs.declared.fabric.Cable.{Cable}
+use Rattle.fabric_ports.specs.declared.plans.Plan.{Plan}
+
+-- how many ports each device has
+abbrev pub counts_of : List Device → List ℕ
+counts_of devices = map (λ (device : Device). device.ports) devices
+
+-- an endpoint, which has a port
+abbrev pub IsEndpointDevice : Device → Type 0
+IsEndpointDevice device = (is_switch device ≡ false) × (0 < device.ports)
+
+-- The devices of a plan are endpoints, their ports stand in rows, and the plan has a number of buffers for each.
+pub record IsPlan (plan : Plan) : Type 0 where
+  pub endpoints : All IsEndpointDevice plan.devices.items
+  pub firsts : AreFirsts 0 plan.devices.items plan.firsts.items
+  pub count : length plan.buffers.items ≡ port_count plan.devices.items
+  pub few : All AreBuffers plan.buffers.items
+
+-- a cable joins ports of these devices, and nothing is on its wires
+pub record IsNewCable (devices : List Device) (cable : Cable) : Type 0 where
+  pub port_a : IsPortOf devices cable.a
+  pub port_b : IsPortOf devices cable.b
+  pub wires : cable.link ≡ empty_wires
+
+-- A plan has the links, the registers and the buffers of a network, which has 8 buffers at all ports of other devices.
+pub record PlansFor (plan : Plan) (net : Network) : Type 0 where
+  pub whole : IsPlan plan
+  pub buffers : (p : PortRef) → IsPortOf plan.devices.items p
+      → slice_get plan.buffers.items (place_of plan.firsts.items p) ≡ Some (net.buffers p)
+  pub other_buffers : (p : PortRef) → ¬ IsPortOf plan.devices.items p → net.buffers p ≡ 8
+  pub cables : All (IsNewCable plan.devices.items) plan.cables.items
+  pub links : map ends_of plan.cables.items ≡ net.links
+  pub registers : AreRegisters net plan.devices.items

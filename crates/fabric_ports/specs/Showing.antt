@@ -1,0 +1,38 @@
+-- What a fabric shows of what is known of a trace.
+use Rattle.std.specs.Prelude.{◌≡◌, ℕ, List, All, map, length, Option, Some, slice_get}
+use Rattle.link_machine.specs.States.{Wires}
+use Rattle.fabric_script.specs.declared.ports.PortRef.{PortRef}
+use Rattle.fabric_model.specs.Network.{Network, IsEndpoint}
+use Rattle.maint_registers.specs.Devices.{Device}
+use Rattle.fabric_trace.specs.Known.{Seen, port_at, wire_state}
+use Rattle.fabric_ports.specs.Places.{AreFirsts, port_count, IsPortOf, IsEndpointAt, place_of}
+use Rattle.fabric_ports.specs.declared.fabric.Cable.{Cable}
+use Rattle.fabric_ports.specs.declared.fabric.Fabric.{Fabric}
+
+abbrev pub ends_of : Cable → PortRef × PortRef
+ends_of cable = (cable.a, cable.b)
+
+-- the two wires of a link, each named by the port that sends on it
+abbrev pub wires_of : Seen → PortRef → PortRef → Wires
+wires_of s a b = record { a = wire_state (s.wires a); b = wire_state (s.wires b) }
+
+-- a cable joins ports of these devices, and its wires are those that are known
+pub record ShowsCable (devices : List Device) (s : Seen) (cable : Cable) : Type 0 where
+  pub port_a : IsPortOf devices cable.a
+  pub port_b : IsPortOf devices cable.b
+  pub wires : cable.link ≡ wires_of s cable.a cable.b
+
+-- the registers of a network are those of these devices
+abbrev pub AreRegisters : Network → List Device → Type 0
+AreRegisters net devices = net.registers ≡ devices
+
+-- Each port of the fabric is what the step tables see there; its links, wires and registers are those that are known.
+pub record ShowsFabric (fabric : Fabric) (s : Seen) : Type 0 where
+  pub firsts : AreFirsts 0 fabric.devices.items fabric.firsts.items
+  pub count : length fabric.ports.items ≡ port_count fabric.devices.items
+  pub ports : (p : PortRef) → IsPortOf fabric.devices.items p
+      → slice_get fabric.ports.items (place_of fabric.firsts.items p) ≡ Some (port_at s p)
+  pub cables : All (ShowsCable fabric.devices.items s) fabric.cables.items
+  pub links : map ends_of fabric.cables.items ≡ s.network.links
+  pub registers : AreRegisters s.network fabric.devices.items
+  pub endpoints : (n : ℕ) → IsEndpoint s.network n → IsEndpointAt fabric.devices.items n

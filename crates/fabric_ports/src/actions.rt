@@ -1,0 +1,204 @@
+//! What a script has a link do.
+ghost use Rattle.std.specs.Prelude.{◌≡◌, ◌≢◌, ◌≤◌, ◌<◌, ℕ, List, length, slice_get, Some, OnOk, IfOk, IfErr};
+ghost use Rattle.rio_chars.specs.Written.{Writes};
+ghost use Rattle.fabric_model.specs.Network.{Network};
+ghost use Rattle.fabric_trace.specs.Blocks.{port_at_side};
+ghost use Rattle.fabric_trace.specs.Lines.{TraceLine};
+ghost use Rattle.fabric_trace.specs.Text.{trace_text};
+ghost use Rattle.link_law.specs.Does.{end_of};
+ghost use Rattle.link_machine.specs.Sound.{IsSoundLink};
+ghost use Rattle.link_machine.specs.States.{link};
+ghost use Rattle.link_port.specs.Ports.{PortState};
+ghost use Rattle.fabric_ports.specs.Acting.{line_for, AsksForSome, part_of, answer_of, lack_lines, event_end, Acts, AtTwo};
+ghost use Rattle.fabric_ports.specs.Blocked.{Blocked, BlockEnds};
+ghost use Rattle.fabric_ports.specs.Ends.{IsLinked};
+ghost use Rattle.fabric_ports.specs.Standing.{Stands};
+
+use crate::answers::EventEnd;
+use crate::ends::{LinkPlace, two};
+use crate::fabric::Fabric;
+use fabric_script::{Name, PortRef};
+use link_law::{Fired, Link, LinkEnd};
+use link_port::Port;
+use link_watch::{NoteEnd, Side, Watch};
+use link_wires::Edited;
+use rio_chars::{Outbox, Sink};
+use std::alloc::Global;
+use trace_lines::{LinkLines, write_early, write_short};
+
+/// What a script has a link do.
+#[derive(Clone, Copy)]
+pub(crate) enum Action {
+    /// A port takes so many turns to send.
+    Pump(u32),
+    /// The peer takes so many characters of what a port has sent.
+    Deliver(u32),
+    /// The time-out of a port fires.
+    TimeOut,
+    /// The link carries what waits, both ways.
+    Settle,
+}
+
+/// What came of it.
+#[derive(Clone, Copy)]
+pub(crate) enum Acted {
+    Done,
+    /// The wire had too few characters: nothing was done.
+    Short,
+    /// A wire was not empty: nothing was done.
+    Early,
+}
+
+impl Fabric {
+    /// Has the link of a port do something.
+    pub(crate) fn act<K: Sink>(
+        &mut self,
+        alloc: Global,
+        names: &[Name],
+        port: PortRef,
+        action: Action,
+        outbox: &mut Outbox<K>,
+    ) -> Result<(), EventEnd>
+        requires linked { IsLinked self.old port }
+        requires named { length self.old.devices.items ≤ length names.now }
+        requires some { AsksForSome action }
+        ensures done { OnOk result ((net : Network) (lines : List TraceLine)
+            → Stands net lines self.old → Blocked (line_for port action) names.now
+            K.written K.faults outbox.old outbox.new net lines self.new) }
+        ensures ended { IfErr result (λ end. (net : Network) (lines : List TraceLine)
+            → Stands net lines self.old → BlockEnds (line_for port action) names.now
+            K.written K.faults outbox.old outbox.new net lines end) }
+    {
+        let place = self.link_of(port);
+        let cable = &mut self.cables[place.cable];
+        let (a, b) = (cable.a, cable.b);
+        let mut lines = LinkLines {
+            outbox,
+            names,
+            a,
+            b,
+        };
+        match act_between(
+            alloc,
+            action,
+            place,
+            &mut cable.link,
+            &mut self.ports,
+            &mut lines,
+        ) {
+            Ok(answer) => {
+                write_lack(lines.outbox, answer);
+                Ok(())
+            }
+            Err(end) => Err(ended(a, b, end)),
+        }
+    }
+}
+
+/// Has a link between two ports that stand in a list do something.
+fn act_between<W: Watch>(
+    alloc: Global,
+    action: Action,
+    place: LinkPlace,
+    wires: &mut Link,
+    ports: &mut [Port],
+    watch: &mut W,
+) -> Result<Acted, LinkEnd>
+    requires first_within { place.a < length ports.old }
+    requires second_within { place.b < length ports.old }
+    requires apart { place.a ≢ place.b }
+    requires some { AsksForSome action }
+    requires sound { (a b : PortState) → slice_get ports.old place.a ≡ Some a
+        → slice_get ports.old place.b ≡ Some b → IsSoundLink (link wires.old a b) }
+    ensures { AtTwo place.a place.b ports.old ports.new (λ a b next_a next_b.
+        Acts W.grew W.cut (part_of place.side action) (link wires.old a b) watch.old
+        result (link wires.new next_a next_b) watch.new
+        × IfOk result (λ answer. answer ≡ answer_of place.side action (link wires.old a b))) }
+{
+    let (a, b) = two(ports, place.a, place.b);
+    act_at(alloc, action, place.side, wires, a, b, watch)
+}
+
+/// Has a link between two ports do something.
+fn act_at<W: Watch>(
+    alloc: Global,
+    action: Action,
+    side: Side,
+    wires: &mut Link,
+    a: &mut Port,
+    b: &mut Port,
+    watch: &mut W,
+) -> Result<Acted, LinkEnd>
+    requires some { AsksForSome action }
+    requires sound { IsSoundLink (link wires.old a.old b.old) }
+    ensures acts { Acts W.grew W.cut (part_of side action) (link wires.old a.old b.old) watch.old
+        result (link wires.new a.new b.new) watch.new }
+    ensures answer { IfOk result (λ answer. answer
+        ≡ answer_of side action (link wires.old a.old b.old)) }
+{
+    match action {
+        Action::Pump(turns) => match wires.pump(alloc, side, turns, a, b, watch) {
+            Ok(()) => Ok(Acted::Done),
+            Err(end) => Err(given_up(end)),
+        },
+        Action::Deliver(count) => match wires.deliver(alloc, side, count, a, b, watch) {
+            Ok(Edited::Done) => Ok(Acted::Done),
+            Ok(Edited::Short) => Ok(Acted::Short),
+            Err(end) => Err(end),
+        },
+        Action::TimeOut => match wires.time_out(alloc, side, a, b, watch) {
+            Ok(Fired::Done) => Ok(Acted::Done),
+            Ok(Fired::Early) => Ok(Acted::Early),
+            Err(end) => Err(given_up(end)),
+        },
+        Action::Settle => match wires.settle(alloc, a, b, watch) {
+            Ok(()) => Ok(Acted::Done),
+            Err(end) => Err(end),
+        },
+    }
+}
+
+/// Why a call ended, if a note was not taken in.
+fn given_up(end: NoteEnd) -> LinkEnd
+    ensures { result ≡ end_of end }
+{
+    match end {
+        NoteEnd::Failed => LinkEnd::Failed,
+        NoteEnd::NoMemory => LinkEnd::NoMemory,
+    }
+}
+
+/// Writes what is not there, if nothing was done.
+pub(crate) fn write_lack<K: Sink>(outbox: &mut Outbox<K>, answer: Acted)
+    ensures { (names : List (List ℕ)) → Writes K.written K.faults outbox.old outbox.new
+        (trace_text names (lack_lines answer)) }
+{
+    match answer {
+        Acted::Done => {}
+        Acted::Short => write_short(outbox),
+        Acted::Early => write_early(outbox),
+    }
+}
+
+/// Why an event at the link of two ports ended. The watch that writes lines never fails.
+fn ended(a: PortRef, b: PortRef, end: LinkEnd) -> EventEnd
+    ensures { result ≡ event_end a b end }
+{
+    match end {
+        LinkEnd::Undetected(side, event) => EventEnd::Undetected {
+            port: port_at(a, b, side),
+            event,
+        },
+        LinkEnd::Failed | LinkEnd::NoMemory => EventEnd::NoMemory,
+    }
+}
+
+/// The port at an end of a link.
+fn port_at(a: PortRef, b: PortRef, side: Side) -> PortRef
+    ensures { result ≡ port_at_side a b side }
+{
+    match side {
+        Side::A => a,
+        Side::B => b,
+    }
+}

@@ -1,0 +1,28 @@
+//! What an event answers.
+use fabric_script::PortRef;
+use link_model::Event;
+use rio_packets::Packet;
+
+/// What an event did.
+#[derive(Debug, Drop)]
+pub enum Happened {
+    /// A packet was taken to be sent.
+    Took,
+    /// There was no room for the packet to be sent.
+    Full,
+    /// This packet left the fabric.
+    Left(Packet),
+    /// Nothing was held that could leave.
+    Empty,
+    /// The line is of another kind.
+    Other,
+}
+
+/// Why an event was not carried out to its end. The fabric is of no use then.
+#[derive(Debug, Drop)]
+pub enum EventEnd {
+    /// The port acted on an event that was not sent: a corruption that no check has found.
+    Undetected { port: PortRef, event: Event },
+    /// Memory was wanted and not given.
+    NoMemory,
+}

@@ -1,0 +1,74 @@
+//! Where a port's link stands, and the two ports that it joins.
+ghost use Rattle.std.specs.Prelude.{◌≡◌, ◌≢◌, ◌<◌, length, slice_get, slice_set, map, Some, None, MatchOption};
+ghost use Rattle.std.specs.Borrow.{sem, LendsBoth, Array};
+ghost use Rattle.link_port.specs.contracts.port.Port.{the_row};
+ghost use Rattle.fabric_model.specs.Network.{link_in};
+ghost use Rattle.fabric_ports.specs.Ends.{IsLinked, IsEndOf, IsPlaceOf};
+ghost use Rattle.fabric_ports.specs.Showing.{ends_of};
+
+use crate::fabric::{Cable, Fabric};
+use fabric_script::PortRef;
+use link_port::Port;
+use link_watch::Side;
+
+/// Where a port's link stands, which end of it the port is, and where its two ports stand.
+#[derive(Clone, Copy)]
+pub(crate) struct LinkPlace {
+    pub(crate) cable: usize,
+    pub(crate) side: Side,
+    pub(crate) a: usize,
+    pub(crate) b: usize,
+}
+
+impl Fabric {
+    /// Finds the link of a port.
+    pub(crate) fn link_of(&self, port: PortRef) -> LinkPlace
+        requires { IsLinked self.now port }
+        ensures { IsPlaceOf self.now port result }
+    {
+        let Some((place, side)) = end_of(&self.cables, port) else {
+            unreachable!();
+        };
+        let cable = &self.cables[place];
+        LinkPlace {
+            cable: place,
+            side,
+            a: self.place(cable.a),
+            b: self.place(cable.b),
+        }
+    }
+}
+
+/// Finds the first link that has a port, and which end of it the port is.
+fn end_of(cables: &[Cable], port: PortRef) -> Option<(usize, Side)>
+    ensures { MatchOption result (link_in (map ends_of cables.now) port ≡ None)
+        (λ end. IsEndOf cables.now port end.0 end.1) }
+{
+    for (place, cable) in cables.iter().enumerate() {
+        if cable.a == port {
+            return Some((place, Side::A));
+        }
+        if cable.b == port {
+            return Some((place, Side::B));
+        }
+    }
+    None
+}
+
+/// Two ports, by where they stand.
+pub(crate) fn two<'p>(ports: &'p mut [Port], i: usize, j: usize) -> (&'p mut Port, &'p mut Port)
+    requires first { i < length ports.old }
+    requires second { j < length ports.old }
+    requires apart { i ≢ j }
+    ensures* lends { sem 𝓛 (LendsBoth (Array the_row 0) the_row the_row ports.entry result
+        (λ a b. slice_set (slice_set ports.old i a) j b)) }
+    ensures first { slice_get ports.old i ≡ Some result.0.now }
+    ensures second { slice_get ports.old j ≡ Some result.1.now }
+{
+    if i < j {
+        let (low, high) = ports.split_at_mut(j);
+        return (&mut low[i], &mut high[0]);
+    }
+    let (low, high) = ports.split_at_mut(i);
+    (&mut high[0], &mut low[j])
+}

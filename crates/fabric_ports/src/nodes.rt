@@ -1,0 +1,81 @@
+//! What is sent and collected at an endpoint.
+ghost use Rattle.std.specs.Prelude.{◌≡◌, ◌<◌, false, length, None};
+ghost use Rattle.rio_packets.specs.Fields.{is_request};
+ghost use Rattle.rio_packets.specs.LinkForm.{Passes};
+ghost use Rattle.fabric_model.specs.Laws.Priorities.{ByPriority};
+ghost use Rattle.fabric_model.specs.Network.{port_of, next_packet};
+ghost use Rattle.fabric_trace.specs.Blocks.{takes, Leaves};
+ghost use Rattle.fabric_trace.specs.Known.{Seen};
+ghost use Rattle.fabric_ports.specs.Events.{Did, taken, collected};
+ghost use Rattle.fabric_ports.specs.Places.{IsEndpointAt};
+ghost use Rattle.fabric_ports.specs.Showing.{ShowsFabric};
+ghost use Rattle.fabric_ports.specs.Standing.{IsPlain};
+
+use crate::answers::Happened;
+use crate::fabric::Fabric;
+use fabric_script::{Name, PortRef};
+use link_port::PortFace;
+use rio_chars::{Outbox, Sink};
+use rio_packets::Packet;
+use switch_core::{Collected, endpoint_collect};
+use trace_lines::{write_empty, write_full, write_leave, write_take};
+
+impl Fabric {
+    /// An endpoint takes a packet to be sent, if there is room.
+    pub(crate) fn send<K: Sink>(
+        &mut self,
+        names: &[Name],
+        node: u8,
+        packet: Packet,
+        outbox: &mut Outbox<K>,
+    ) -> Happened
+        requires named { node < length names.now }
+        requires shown { (s : Seen) × ShowsFabric self.old s }
+        requires endpoint { IsEndpointAt self.old.devices.items node }
+        requires plain { is_request packet ≡ false }
+        ensures { (s : Seen) → ShowsFabric self.old s → s.unfaithful ≡ None → IsPlain s.network
+            → Did (λ block. (block ≡ takes s node packet) × (result ≡ taken block)) names.now
+            K.written K.faults outbox.old outbox.new s self.new }
+    {
+        let place = self.place(PortRef { node, port: 0 });
+        if !self.ports[place].out_room(packet.prio()) {
+            write_full(outbox);
+            return Happened::Full;
+        }
+        write_take(outbox, names, node, &packet);
+        self.ports[place].out_put(packet);
+        Happened::Took
+    }
+
+    /// The packet whose turn it is leaves at an endpoint, if one is held.
+    pub(crate) fn collect<K: Sink>(
+        &mut self,
+        names: &[Name],
+        node: u8,
+        outbox: &mut Outbox<K>,
+    ) -> Happened
+        requires named { node < length names.now }
+        requires shown { (s : Seen) × ShowsFabric self.old s × IsPlain s.network }
+        requires endpoint { IsEndpointAt self.old.devices.items node }
+        ensures { (s : Seen) → ShowsFabric self.old s → s.unfaithful ≡ None → IsPlain s.network
+            → ByPriority s.network → Did (λ block.
+            Leaves node (next_packet (s.network.received (port_of node))) block
+            × (result ≡ collected block)) names.now
+            K.written K.faults outbox.old outbox.new s self.new }
+    {
+        let place = self.place(PortRef { node, port: 0 });
+        let registers = &mut self.devices[usize::from(node)];
+        match endpoint_collect(&mut self.ports[place], registers) {
+            Collected::Left(packet) => {
+                write_leave(outbox, names, node, &packet);
+                Happened::Left(packet)
+            }
+            Collected::Empty => {
+                write_empty(outbox);
+                Happened::Empty
+            }
+            // No request is held.
+            Collected::Answered { .. } | Collected::Full => unreachable!(),
+        }
+    }
+}

@@ -1,0 +1,150 @@
+//! What lines of set-up make: first the devices and the links, and then the ports.
+ghost use Rattle.std.specs.Prelude.{◌≡◌, ℕ, ◌+◌, ◌<◌, ◌≤◌, false, None, [], ◌∷◌, ◌++◌, All, map, length, slice_set, IfOk};
+ghost use Rattle.link_machine.specs.States.{empty_wires};
+ghost use Rattle.link_port.specs.Ports.{new_port};
+ghost use Rattle.link_sound.specs.Histories.{AreBuffers};
+ghost use Rattle.maint_registers.specs.Devices.{new_endpoint};
+ghost use Rattle.fabric_model.specs.Network.{Network};
+ghost use Rattle.fabric_script.specs.Scripts.{Passes};
+ghost use Rattle.fabric_trace.specs.Events.{ArePorts, MakesNoSwitch, counts_after};
+ghost use Rattle.fabric_trace.specs.Runs.{bare, set_up, set_up_all};
+ghost use Rattle.fabric_trace.specs.SetUps.{MaySetUp};
+ghost use Rattle.fabric_ports.specs.Built.{unbuilt_in};
+ghost use Rattle.fabric_ports.specs.Places.{IsPortOf, place_of};
+ghost use Rattle.fabric_ports.specs.Plans.{IsPlan, PlansFor, counts_of};
+ghost use Rattle.fabric_ports.specs.Standing.{Stands};
+
+use crate::fabric::{Cable, Fabric};
+use fabric_script::{Line, PortRef, Script};
+use link_law::Link;
+use link_port::Port;
+use maint_registers::Registers;
+use rio_chars::NoMemory;
+use std::alloc::{AllocError, Global};
+
+/// How many receive buffers a port has if no line says how many.
+const BUFFERS: u8 = 8;
+
+impl Fabric {
+    /// Makes the fabric that the set-up lines of a script make, with no packet in it and nothing on its wires. The script
+    /// passes, and none of its lines is unbuilt. All memory of the ports is taken here; `NoMemory` is the only other answer.
+    pub fn new(alloc: Global, script: &Script) -> Result<Fabric, NoMemory>
+        requires passes { Passes script.now.names.items script.now.lines.items }
+        requires built { unbuilt_in script.now.lines.items ≡ None }
+        ensures stands { IfOk result (λ fabric.
+            Stands (set_up_all bare script.now.lines.items) [] fabric) }
+        ensures named { IfOk result (λ fabric.
+            length fabric.devices.items ≡ length script.now.names.items) }
+    {
+        let mut plan = Plan::new(alloc);
+        for numbered in &script.lines {
+            plan.add(alloc, &numbered.line)?;
+        }
+        let ports = make_ports(alloc, &plan.buffers)?;
+        Ok(Fabric {
+            devices: plan.devices,
+            firsts: plan.firsts,
+            ports,
+            cables: plan.cables,
+        })
+    }
+}
+
+/// A fabric before its ports are made: in place of each port, how many receive buffers it gets.
+#[derive(Drop)]
+pub(crate) struct Plan {
+    devices: Vec<Registers>,
+    firsts: Vec<usize>,
+    buffers: Vec<u8>,
+    cables: Vec<Cable>,
+}
+
+impl Plan {
+    /// What no lines make.
+    fn new(alloc: Global) -> Plan
+        ensures plans { PlansFor result bare }
+        ensures counts { counts_of result.devices.items ≡ [] }
+    {
+        Plan {
+            devices: Vec::new(alloc),
+            firsts: Vec::new(alloc),
+            buffers: Vec::new(alloc),
+            cables: Vec::new(alloc),
+        }
+    }
+
+    /// Takes a line in. An event makes nothing.
+    fn add(&mut self, alloc: Global, line: &Line) -> Result<(), AllocError>
+        requires plan { IsPlan self.old }
+        requires ports { ArePorts (counts_of self.old.devices.items) line.now }
+        requires endpoint { MakesNoSwitch line.now }
+        ensures plans { IfOk result (λ _. (net : Network) → PlansFor self.old net
+            → MaySetUp net line.now → PlansFor self.new (set_up net line.now)) }
+        ensures counts { IfOk result (λ _. counts_of self.new.devices.items
+            ≡ counts_after (counts_of self.old.devices.items) line.now) }
+    {
+        match line {
+            Line::Endpoint { id, .. } => self.add_endpoint(*id),
+            Line::Link { a, b } => self.add_cable(alloc, *a, *b),
+            Line::Buffers { port, n } => {
+                self.set_buffers(*port, *n);
+                Ok(())
+            }
+            _ => Ok(()),
+        }
+    }
+
+    /// Adds an endpoint and its port.
+    fn add_endpoint(&mut self, id: u8) -> Result<(), AllocError>
+        ensures devices { IfOk result (λ _. self.new.devices.items
+            ≡ self.old.devices.items ++ new_endpoint id false ∷ []) }
+        ensures firsts { IfOk result (λ _. self.new.firsts.items
+            ≡ self.old.firsts.items ++ length self.old.buffers.items ∷ []) }
+        ensures buffers { IfOk result (λ _. self.new.buffers.items
+            ≡ self.old.buffers.items ++ 8 ∷ []) }
+        ensures cables { self.new.cables ≡ self.old.cables }
+    {
+        self.devices.push(Registers::endpoint(id, false))?;
+        self.firsts.push(self.buffers.len())?;
+        self.buffers.push(BUFFERS)?;
+        Ok(())
+    }
+
+    /// Adds a link between two ports.
+    fn add_cable(&mut self, alloc: Global, a: PortRef, b: PortRef) -> Result<(), AllocError>
+        ensures cables { IfOk result (λ _. self.new.cables.items
+            ≡ self.old.cables.items ++ record { a = a; b = b; link = empty_wires } ∷ []) }
+        ensures rest { self.new ≡ record self.old { cables = self.new.cables } }
+    {
+        let link = Link::new(alloc);
+        self.cables.push(Cable { a, b, link })?;
+        Ok(())
+    }
+
+    /// Says how many receive buffers a port gets.
+    fn set_buffers(&mut self, port: PortRef, n: u8)
+        requires plan { IsPlan self.old }
+        requires port { IsPortOf self.old.devices.items port }
+        ensures buffers { self.new.buffers.items ≡ slice_set self.old.buffers.items
+            (place_of self.old.firsts.items port) n }
+        ensures rest { self.new ≡ record self.old { buffers = self.new.buffers } }
+    {
+        let place = self.firsts[usize::from(port.node)] + usize::from(port.port);
+        self.buffers[place] = n;
+    }
+}
+
+/// New ports with so many receive buffers each.
+fn make_ports(alloc: Global, buffers: &[u8]) -> Result<Vec<Port>, NoMemory>
+    requires { All AreBuffers buffers.now }
+    ensures { IfOk result (λ ports. ports.items ≡ map new_port buffers.now) }
+{
+    let mut ports = Vec::new(alloc);
+    for n in buffers {
+        let port = Port::new(alloc, *n)?;
+        let Ok(()) = ports.push(port) else {
+            return Err(NoMemory);
+        };
+    }
+    Ok(ports)
+}
