@@ -11,7 +11,7 @@ use Rattle.fabric_map.specs.Fitting.{Fits}
 use Rattle.host_enumerate.specs.Plain.{topology_of, registers_of}
 use Rattle.host_enumerate.specs.Examples.{pair_devices, pair_links}
 
-same_port-true : (p q : PortRef) → same_port p q ≡ true → p ≡ q
+pub same_port-true : (p q : PortRef) → same_port p q ≡ true → p ≡ q
 same_port-true p q is = go (p.node == q.node) (p.port == q.port) refl refl is
   where
     go : (a b : Bool) → (p.node == q.node) ≡ a → (p.port == q.port) ≡ b → (a && b) ≡ true

@@ -2,3 +2,11 @@ pub mod Accesses
 pub mod Causes
 pub mod Plain
 pub mod Examples
+pub mod Asking
+pub mod Setting
+pub mod Holding
+pub mod Underway
+pub mod Checking
+pub mod TakingIn
+pub mod Founds
+pub mod Ends

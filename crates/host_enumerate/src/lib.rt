@@ -1,23 +1,39 @@
-//! How a host asks the devices of a fabric (RapidIO Interconnect Specification 1.3, Part 3,
-//! enumeration).
+//! How a host asks the devices of a fabric, and numbers them (RapidIO Interconnect Specification 1.3,
+//! Part 3, enumeration; the order of devices and IDs is this project's profile).
 //!
 //! Promised: whoever carries accesses as [`Maint`] answers each as the registers do at which it
 //! ends, and changes no others; an access has no answer only for want of memory, or if a count
-//! rose. Plain registers and links do so.
+//! rose. Plain registers and links do so. Over any such [`Maint`] a host numbers the fabric, or names
+//! the first device that another host holds.
 //!
-//! Left out: packets and the links that carry them, and the walk of a host through its fabric.
+//! Left out: packets and the links that carry them.
 //!
+//! - [`enumerate`] answers the map of a fabric, or tells the [`EnumEnd`].
 //! - [`Maint`] carries an [`Access`] to a device and brings back the [`Answer`], or tells the [`MaintEnd`].
 //! - [`PlainMaint`] does so for registers and links that it holds itself.
 //! - [`a_pair_can_be_asked`] says so of the least fabric.
+//! - `walk` goes from port to port, `taking` takes a device in, `setting` writes its registers, and
+//!   `asking` makes single accesses.
 #![tactic(auto)]
 
+mod asking;
+mod checking;
+#[cfg(test)]
+mod checking_tests;
+mod ends;
 mod examples;
 mod maint;
 mod plain;
+mod setting;
+mod taking;
 #[cfg(test)]
 mod tests;
+mod walk;
+#[cfg(test)]
+mod walk_tests;
 
+pub use ends::EnumEnd;
 pub use examples::a_pair_can_be_asked;
 pub use maint::{Access, Answer, Maint, MaintEnd};
 pub use plain::PlainMaint;
+pub use walk::enumerate;

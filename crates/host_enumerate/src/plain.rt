@@ -23,9 +23,9 @@ const FAILED: Answer = Answer {
 /// The registers of devices and the links between them, and a host that is one of the endpoints.
 #[derive(Debug, Drop)]
 pub struct PlainMaint {
-    devices: Vec<Registers>,
-    links: Vec<(PortRef, PortRef)>,
-    host: u8,
+    pub(crate) devices: Vec<Registers>,
+    pub(crate) links: Vec<(PortRef, PortRef)>,
+    pub(crate) host: u8,
 }
 
 impl PlainMaint {
@@ -49,6 +49,13 @@ impl PlainMaint {
         ensures { result.now ≡ registers_of self.now.devices.items node }
     {
         &self.devices[node as usize]
+    }
+
+    /// The registers of all devices.
+    pub fn devices(&self) -> &[Registers]
+        ensures { result.now ≡ self.now.devices.items }
+    {
+        self.devices.as_slice()
     }
 
     /// Where a request ends that leaves a port.
@@ -77,7 +84,7 @@ impl PlainMaint {
 }
 
 /// Whether two ports are one.
-fn same_port(p: PortRef, q: PortRef) -> bool
+pub(crate) fn same_port(p: PortRef, q: PortRef) -> bool
     ensures { result ≡ same_port p q }
 {
     p.node == q.node && p.port == q.port

@@ -1,0 +1,194 @@
+-- What the call that tries a port of a switch knows.
+use Rattle.std.proofs.Common.{◌≡◌, ◌≢◌, ℕ, ◌+◌, ◌<◌, ◌≤◌, inl, inr, List, [], ◌∷◌, length, Contains, Option, Some, None, Result, Ok, Err, IfErr, arith, sym, ap, subst}
+use Rattle.std.specs.Result.{IsErrAnd}
+use Rattle.rio_chars.specs.Faults.{Rose}
+use Rattle.fabric_script.specs.declared.ports.PortRef.{PortRef}
+use Rattle.fabric_map.specs.declared.map.Kind.{Kind}
+use Rattle.fabric_map.specs.declared.map.Kind.TheVariants.{Endpoint, Switch}
+use Rattle.fabric_map.specs.declared.map.Device.{Device}
+use Rattle.fabric_map.specs.Topology.{Topology, port_at}
+use Rattle.fabric_map.specs.Walked.{onward}
+use Rattle.fabric_map.specs.Routes.{Registers}
+use Rattle.fabric_map.specs.Fitting.{Fits}
+use Rattle.fabric_map.specs.Ways.{IsOpened}
+use Rattle.fabric_map.specs.Numbered.{paths_of}
+use Rattle.host_enumerate.specs.declared.ends.EnumEnd.{EnumEnd}
+use Rattle.host_enumerate.specs.declared.ends.EnumEnd.TheVariants.{LockedBy, Undetected, WriteFault, NoMemory}
+use Rattle.host_enumerate.specs.declared.walk.Found.{Found}
+use Rattle.host_enumerate.specs.Asking.{IsAskable, AreSame, Becomes}
+use Rattle.host_enumerate.specs.Setting.{with_entry}
+use Rattle.host_enumerate.specs.Underway.{IsUnderway}
+use Rattle.host_enumerate.specs.TakingIn.{IsTried}
+use Rattle.host_enumerate.specs.Founds.{IsFound}
+use Rattle.host_enumerate.specs.Ends.{IsEnded}
+use Rattle.host_enumerate.proofs.Routing.{opened-front}
+use Rattle.host_enumerate.proofs.Looking.{underway_then, behind_askable, met_passed, one_more, endpoint_passed, path_still, switch_found}
+
+rose_longer : (first before after : ℕ) → first ≤ before → Rose before after → Rose first after
+rose_longer first before after less (inl rose) = inl (omega (arith, less, rose))
+rose_longer first before after less (inr most) = inr most
+
+-- an end stays one if the call began earlier
+pub ended_longer : (first before after faults_first faults faults_after : ℕ)
+    (P Q : List ℕ → ℕ → Type 0) (end : EnumEnd) → first ≤ before → faults_first ≤ faults
+    → ((path : List ℕ) (id : ℕ) → P path id → Q path id)
+    → IsEnded (before, after) (faults, faults_after) P end
+    → IsEnded (first, after) (faults_first, faults_after) Q end
+ended_longer first before after faults_first faults faults_after P Q (LockedBy path id) less fewer on
+    ended = on path id ended
+ended_longer first before after faults_first faults faults_after P Q (Undetected port event) less
+    fewer on ended = rose_longer first before after less ended
+ended_longer first before after faults_first faults faults_after P Q WriteFault less fewer on ended =
+    rose_longer faults_first faults faults_after fewer ended
+ended_longer first before after faults_first faults faults_after P Q NoMemory less fewer on ended = tt
+
+module _ (topology later_topology : Topology) (now mid later : Registers) (host_id next : ℕ)
+    (devices : List Device) (switch : Found) (port : ℕ) (path : List ℕ)
+    (found : IsFound topology now host_id devices switch)
+    (some : (before : Registers)
+    × IsUnderway topology before now host_id devices next (onward switch.path port))
+    (is_topology : later_topology ≡ topology) (same : AreSame now mid)
+    (becomes : Becomes mid later found.at.node (with_entry (mid found.at.node) 255 port))
+    (link : (end : PortRef) × (topology.peer (port_at found.at.node port) ≡ Some end))
+    (below : port < switch.ports) (apart : port ≢ switch.entry)
+    (is_path : path ≡ onward switch.path port) where
+  pub underway_here : (before : Registers)
+      → IsUnderway topology before now host_id devices next (onward switch.path port)
+      → IsUnderway later_topology before later host_id devices next path
+  underway_here before underway =
+      subst (λ t. IsUnderway t before later host_id devices next path) (sym is_topology)
+      (subst (λ l. IsUnderway topology before later host_id devices next l) (sym is_path)
+      (underway_then topology now host_id next devices switch port found some mid later link.0 same
+      becomes link.1 below apart before underway))
+
+  pub askable_here : Fits topology now → Fits later_topology later
+      → IsAskable later_topology later host_id path link.0
+  askable_here fits fits_later =
+      subst (λ t. IsAskable t later host_id path link.0) (sym is_topology)
+      (subst (λ l. IsAskable topology later host_id l link.0) (sym is_path)
+      (behind_askable topology now host_id next devices switch port found some mid later link.0 same
+      becomes link.1 below apart fits (subst (λ t. Fits t later) is_topology fits_later)))
+
+  module _ (after : Registers) (devices_after : List Device) (next_after : ℕ)
+      (kind : Option Kind)
+      (tried : (before : Registers)
+      → IsUnderway later_topology before later host_id devices next path
+      → IsTried later_topology before after host_id devices devices_after next next_after path kind)
+      (opened : IsOpened later_topology after host_id path) where
+    tried_here : (before : Registers)
+        → IsUnderway topology before now host_id devices next (onward switch.path port)
+        → IsTried topology before after host_id devices devices_after next next_after
+        (onward switch.path port) kind
+    tried_here before underway =
+        subst (λ l. IsTried topology before after host_id devices devices_after next next_after l
+        kind) is_path
+        (subst (λ t. IsTried t before after host_id devices devices_after next next_after path kind)
+        is_topology (tried before (underway_here before underway)))
+
+    opened_here : IsOpened topology after host_id (onward switch.path port)
+    opened_here =
+        subst (λ l. IsOpened topology after host_id l) is_path
+        (subst (λ t. IsOpened t after host_id path) is_topology opened)
+
+    none_tried : kind ≡ None → (before : Registers)
+        → IsUnderway topology before now host_id devices next (onward switch.path port)
+        → IsTried topology before after host_id devices devices_after next next_after
+        (onward switch.path port) None
+    none_tried is before underway =
+        subst (λ k. IsTried topology before after host_id devices devices_after next next_after
+        (onward switch.path port) k) is (tried_here before underway)
+
+    pub none_looked : kind ≡ None → (before : Registers)
+        → IsUnderway topology before now host_id devices next (onward switch.path port)
+        → IsUnderway topology before after host_id devices_after next_after
+        (onward switch.path (port + 1))
+    none_looked is before underway =
+        let known = none_tried is before underway in
+        subst (λ l. IsUnderway topology before after host_id l next_after
+        (onward switch.path (port + 1))) (sym known.0)
+        (subst (λ n. IsUnderway topology before after host_id devices n
+        (onward switch.path (port + 1))) (sym known.1)
+        (met_passed topology now host_id next devices switch port found some mid later link.0 same
+        becomes link.1 below apart after before known.2 known.3))
+
+    pub none_found : kind ≡ None → IsOpened topology after host_id switch.path
+        × Contains (paths_of devices_after) switch.path
+    none_found is = (
+      opened-front topology after host_id switch.path (port ∷ []) opened_here,
+      subst (λ l. Contains (paths_of l) switch.path) (sym (none_tried is some.0 some.1).0)
+          found.listed,
+    )
+
+    pub none_longer : kind ≡ None → length devices ≤ length devices_after
+    none_longer is =
+        let long = ap (λ l. length l) (none_tried is some.0 some.1).0 in omega (arith, long)
+
+    some_tried : (is_kind : Kind) → kind ≡ Some is_kind → (before : Registers)
+        → IsUnderway topology before now host_id devices next (onward switch.path port)
+        → IsTried topology before after host_id devices devices_after next next_after
+        (onward switch.path port) (Some is_kind)
+    some_tried is_kind is before underway =
+        subst (λ k. IsTried topology before after host_id devices devices_after next next_after
+        (onward switch.path port) k) is (tried_here before underway)
+
+    pub some_more : (is_kind : Kind) → kind ≡ Some is_kind
+        → length devices < length devices_after
+    some_more is_kind is =
+        one_more topology now host_id next devices switch port found some mid later link.0 same
+        becomes link.1 below apart after devices_after next_after is_kind
+        (some_tried is_kind is some.0 some.1).0 opened_here
+
+    pub some_longer : (is_kind : Kind) → kind ≡ Some is_kind
+        → length devices ≤ length devices_after
+    some_longer is_kind is = let more = some_more is_kind is in omega (arith, more)
+
+    pub endpoint_looked : (is_kind : Kind) (id : ℕ) → kind ≡ Some is_kind → is_kind ≡ Endpoint id
+        → (before : Registers)
+        → IsUnderway topology before now host_id devices next (onward switch.path port)
+        → IsUnderway topology before after host_id devices_after next_after
+        (onward switch.path (port + 1))
+    endpoint_looked is_kind id is is_endpoint before underway =
+        let known = some_tried is_kind is before underway in
+        endpoint_passed topology now host_id next devices switch port found some mid later link.0
+        same becomes link.1 below apart after devices_after next_after is_kind known.0 opened_here id
+        is_endpoint before known.1
+
+    pub some_found : (is_kind : Kind) → kind ≡ Some is_kind
+        → IsOpened topology after host_id switch.path
+        × Contains (paths_of devices_after) switch.path
+    some_found is_kind is =
+        let known = some_tried is_kind is some.0 some.1 in (
+          opened-front topology after host_id switch.path (port ∷ []) opened_here,
+          path_still topology now host_id next devices switch port found some mid later link.0 same
+              becomes link.1 below apart after devices_after next_after is_kind known.0 opened_here
+              some.0 (onward (onward switch.path port) 0) known.1,
+        )
+
+    pub switch_looked : (is_kind : Kind) → kind ≡ Some is_kind → (before : Registers)
+        → IsUnderway topology before now host_id devices next (onward switch.path port)
+        → IsUnderway topology before after host_id devices_after next_after (onward path 0)
+    switch_looked is_kind is before underway =
+        subst (λ l. IsUnderway topology before after host_id devices_after next_after (onward l 0))
+        (sym is_path) (some_tried is_kind is before underway).1
+
+    pub switch_is_found : (is_kind : Kind) (ports entry : ℕ) → kind ≡ Some is_kind
+        → is_kind ≡ Switch ports entry
+        → IsFound topology after host_id devices_after
+        record { path = path; ports = ports; entry = entry }
+        × (path ≡ onward switch.path port) × (length devices < length devices_after)
+    switch_is_found is_kind ports entry is is_switch =
+        let known = some_tried is_kind is some.0 some.1 in (
+          subst (λ l. IsFound topology after host_id devices_after
+              record { path = l; ports = ports; entry = entry }) (sym is_path)
+              (switch_found topology now host_id next devices switch port found some mid later link.0
+              same becomes link.1 below apart after devices_after next_after is_kind known.0
+              opened_here ports entry is_switch some.0 (onward (onward switch.path port) 0) known.1),
+          is_path,
+          some_more is_kind is,
+        )
+
+-- what a `?` hands on
+pub handed_on : {X : Type 0} (r : Result X EnumEnd) (end : EnumEnd) (P : EnumEnd → Type 0)
+    → IsErrAnd r (λ y. y ≡ end) → P end → IfErr r P
+handed_on (Ok x) end P gives holds = absurd gives
+handed_on (Err y) end P gives holds = subst P (sym gives) holds

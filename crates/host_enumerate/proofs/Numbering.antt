@@ -1,0 +1,69 @@
+-- What the whole call knows.
+use Rattle.std.proofs.Common.{◌≡◌, ℕ, ◌<◌, ◌/◌, List, [], Some, IsSome, sym, ap, subst, ◌∙◌}
+use Rattle.fabric_script.specs.declared.ports.PortRef.{PortRef}
+use Rattle.maint_registers.specs.Access.{value_at}
+use Rattle.fabric_map.specs.declared.map.Device.{Device}
+use Rattle.fabric_map.specs.Topology.{Topology, IsTopology, port_at, entered}
+use Rattle.fabric_map.specs.Walked.{after_all_paths}
+use Rattle.fabric_map.specs.Routes.{Registers}
+use Rattle.fabric_map.specs.Fitting.{Fits}
+use Rattle.fabric_map.specs.Numbered.{entries_of, IsNumbered}
+use Rattle.host_enumerate.specs.Asking.{IsAskable, AreSame}
+use Rattle.host_enumerate.specs.Underway.{AreUntagged, IsUnderway}
+use Rattle.host_enumerate.specs.Ends.{IsFree}
+use Rattle.host_enumerate.proofs.Starting.{begun, own_askable, own_answers, own_id}
+use Rattle.host_enumerate.proofs.Finishing.{underway-numbered, underway-free}
+
+pub can_read : (topology : Topology) (registers : Registers) (path : List ℕ)
+    → IsTopology topology → Fits topology registers → path ≡ []
+    → (host_id : ℕ) × (at : PortRef) × IsAskable topology registers host_id path at
+    × IsSome (value_at (registers at.node) 0x60 at.port)
+can_read topology registers path proper fits empty = (
+  (registers topology.host).base_id,
+  port_at topology.host 0,
+  subst (λ l. IsAskable topology registers (registers topology.host).base_id l
+      (port_at topology.host 0)) (sym empty) (own_askable topology registers proper),
+  own_answers topology registers proper fits,
+)
+
+module _ (topology one : Topology) (before now : Registers) (path : List ℕ) (value : ℕ)
+    (proper : IsTopology topology) (fits : Fits topology before) (empty : path ≡ [])
+    (is_one : one ≡ topology) (same : AreSame before now)
+    (told : (at : PortRef) → entered topology path ≡ Some at
+    → value_at (before at.node) 0x60 at.port ≡ Some value) where
+  is_id : value / 65536 ≡ (before topology.host).base_id
+  is_id = own_id topology before value proper fits
+      (told (port_at topology.host 0) (ap (λ l. entered topology l) empty))
+
+  pub id_fits : value / 65536 < 256
+  id_fits = subst (λ n. n < 256) (sym is_id) (fits.ids topology.host proper.host)
+
+  module _ (below : (before topology.host).base_id < 255)
+      (untagged : AreUntagged topology before) where
+    pub underway_first : IsUnderway one before now (value / 65536) [] 0 []
+    underway_first =
+        subst (λ t. IsUnderway t before now (value / 65536) [] 0 []) (sym is_one)
+        (begun topology before now (value / 65536) proper (sym is_id)
+        (subst (λ n. n < 255) (sym is_id) below) untagged same)
+
+    module _ (two : Topology) (after : Registers) (devices : List Device) (is_two : two ≡ one)
+        (fits_after : Fits two after)
+        (numbered : (before : Registers) → IsUnderway one before now (value / 65536) [] 0 []
+        → (next : ℕ) × IsUnderway one before after (value / 65536) devices next
+        after_all_paths) where
+      done : (next : ℕ)
+          × IsUnderway topology before after (value / 65536) devices next after_all_paths
+      done =
+          subst (λ t. (next : ℕ)
+          × IsUnderway t before after (value / 65536) devices next after_all_paths) is_one
+          (numbered before underway_first)
+
+      fits_now : Fits topology after
+      fits_now = subst (λ t. Fits t after) (is_two ∙ is_one) fits_after
+
+      pub is_numbered : IsNumbered topology devices (entries_of devices) before after
+      is_numbered = underway-numbered topology before after (value / 65536) done.0 devices done.1
+          fits_now
+
+      pub is_free : IsFree topology before
+      is_free = underway-free topology before after (value / 65536) done.0 devices done.1 fits_now

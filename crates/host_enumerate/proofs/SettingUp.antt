@@ -1,0 +1,177 @@
+-- A switch is set up, one step after another.
+use Rattle.std.proofs.Common.{◌≡◌, ℕ, ◌+◌, ◌*◌, ◌/◌, ◌%◌, ◌≤◌, ◌<◌, true, List, Some, arith, refl, sym, ap, subst, ◌∙◌}
+use Rattle.std.proofs.lemmas.Option.{same_Some}
+use Rattle.fabric_script.specs.declared.ports.PortRef.{PortRef}
+use Rattle.maint_registers.specs.Devices.{Device, is_switch}
+use Rattle.maint_registers.specs.Access.{value_at, written_at}
+use Rattle.maint_registers.proofs.AccessLaws.{port_information-read, default_port-written}
+use Rattle.maint_registers.proofs.RouteLaws.{entry-set_same, entry-set_other}
+use Rattle.fabric_map.specs.Topology.{Topology, IsTopology, entered}
+use Rattle.fabric_map.specs.Routes.{Registers}
+use Rattle.fabric_map.specs.Fitting.{Fits}
+use Rattle.fabric_map.proofs.Few.{entered-inside}
+use Rattle.host_enumerate.specs.Asking.{IsAskable, IsApart, IsWritable, AreSame, Becomes}
+use Rattle.host_enumerate.specs.Setting.{with_entry, IsSameBut, IsCleared, IsSetUp}
+use Rattle.host_enumerate.proofs.Frames.{with_device-itself}
+use Rattle.host_enumerate.proofs.Askable.{entered-port}
+use Rattle.host_enumerate.proofs.Opening.{became}
+use Rattle.host_enumerate.proofs.Entries.{Leaves, becomes-twice, askable-written}
+use Rattle.host_enumerate.proofs.Clearing.{same_but-itself, same_but-entry, is_switch-kind, destinations_of}
+
+-- how many ports it has, and by which it was asked
+pub informed : (topology : Topology) (registers : Registers) (path : List ℕ) (at : PortRef)
+    (information : ℕ) → IsTopology topology → Fits topology registers
+    → entered topology path ≡ Some at → is_switch (registers at.node) ≡ true
+    → value_at (registers at.node) 0x14 at.port ≡ Some information
+    → (information / 0x100 ≡ (registers at.node).ports) × (information % 0x100 ≡ at.port)
+    × (information / 0x100 < 256) × (at.port < 256)
+informed topology registers path at information proper fits enters is told =
+    (omega (arith, same, few), omega (arith, same, few), omega (arith, same, few, many), few)
+  where
+    same : information ≡ (registers at.node).ports * 0x100 + at.port
+    same = same_Some information ((registers at.node).ports * 0x100 + at.port)
+        (sym told ∙ port_information-read (registers at.node) at.port is)
+
+    many : (registers at.node).ports ≤ 16
+    many = (fits.devices at.node (entered-inside topology path at proper enters)).most_ports
+
+    few : at.port < 256
+    few = omega (arith, (entered-port topology path at proper enters).port, proper.most_ports at.node)
+
+-- what is known of the switch while it is set up
+pub record IsStage (topology now : Topology) (old new : Registers) (at : PortRef)
+    (held : Device) : Type 0 where
+  pub stays : now ≡ topology
+  pub becomes : Becomes old new at.node held
+  pub same : IsSameBut (old at.node) held
+
+pub stage_askable : (topology now : Topology) (old new : Registers) (host_id : ℕ)
+    (path : List ℕ) (at : PortRef) (held : Device) → IsAskable topology old host_id path at
+    → IsApart topology path at.node → is_switch (old at.node) ≡ true
+    → IsStage topology now old new at held
+    → IsAskable now new host_id path at × IsApart now path at.node
+    × (is_switch (new at.node) ≡ true)
+stage_askable topology now old new host_id path at held askable apart is stage = (
+  subst (λ t. IsAskable t new host_id path at) (sym stage.stays)
+      (askable-written topology old new host_id path at held askable stage.becomes apart
+      (λ _. stage.same.base_id)),
+  subst (λ t. IsApart t path at.node) (sym stage.stays) apart,
+  ap is_switch (became old new at.node held stage.becomes)
+      ∙ (is_switch-kind held (old at.node) stage.same.kind ∙ is),
+)
+
+-- a read changes nothing
+pub stage_read : (topology now : Topology) (old new : Registers) (at : PortRef) → now ≡ topology
+    → AreSame old new → IsStage topology now old new at (old at.node)
+stage_read topology now old new at is_now same = record {
+  stays = is_now;
+  becomes = λ other. same other ∙ sym (ap (λ r. r other) (with_device-itself old at.node));
+  same = same_but-itself (old at.node);
+}
+
+pub default-writable : (topology : Topology) (registers : Registers) (path : List ℕ)
+    (at : PortRef) (value port : ℕ) → value ≡ port → port < 256
+    → is_switch (registers at.node) ≡ true → IsApart topology path at.node
+    → IsWritable topology registers path at 0x78 value
+    (record (registers at.node) { default_port = port })
+default-writable topology registers path at value port is fits kind apart = record {
+  written = default_port-written (registers at.node) value kind
+      ∙ ap (λ n. Some (record (registers at.node) { default_port = n }))
+      (ap (λ n. n % 0x100) is ∙ omega (arith, fits));
+  apart = apart;
+  id = λ _. refl;
+}
+
+-- the default port is written
+pub stage_default : (topology first second : Topology) (old mid new : Registers) (path : List ℕ)
+    (at : PortRef) (value port : ℕ) → value ≡ port → port < 256 → second ≡ first
+    → is_switch (old at.node) ≡ true → entered topology path ≡ Some at
+    → IsStage topology first old mid at (old at.node) → Leaves first mid new path 0x78 value
+    → IsStage topology second old new at (record (old at.node) { default_port = port })
+stage_default topology first second old mid new path at value port is fits is_second kind enters
+    stage leaves = record {
+      stays = is_second ∙ stage.stays;
+      becomes = becomes-twice old mid new at.node (old at.node)
+          (record (old at.node) { default_port = port }) stage.becomes
+          (leaves at (record (old at.node) { default_port = port })
+          (ap (λ t. entered t path) stage.stays ∙ enters)
+          (ap (λ d. written_at d 0x78 value) there
+          ∙ (default_port-written (old at.node) value kind
+          ∙ ap (λ n. Some (record (old at.node) { default_port = n }))
+          (ap (λ n. n % 0x100) is ∙ omega (arith, fits)))));
+      same = record {
+        kind = refl;
+        ports = refl;
+        linked = refl;
+        lock = refl;
+        tag = refl;
+        base_id = refl;
+      };
+    }
+  where
+    there : mid at.node ≡ old at.node
+    there = became old mid at.node (old at.node) stage.becomes
+
+-- the entries are cleared
+pub stage_cleared : (topology first second : Topology) (old mid new : Registers) (host_id : ℕ)
+    (at : PortRef) (base held : Device) → second ≡ first
+    → IsStage topology first old mid at base → Becomes mid new at.node held
+    → IsCleared host_id 63 (mid at.node) held
+    → IsStage topology second old new at held × IsCleared host_id 63 base held
+stage_cleared topology first second old mid new host_id at base held is_second stage becomes
+    cleared = (
+      record {
+        stays = is_second ∙ stage.stays;
+        becomes = becomes-twice old mid new at.node base held stage.becomes becomes;
+        same = record {
+          kind = on.same.kind ∙ stage.same.kind;
+          ports = on.same.ports ∙ stage.same.ports;
+          linked = on.same.linked ∙ stage.same.linked;
+          lock = on.same.lock ∙ stage.same.lock;
+          tag = on.same.tag ∙ stage.same.tag;
+          base_id = on.same.base_id ∙ stage.same.base_id;
+        };
+      },
+      on,
+    )
+  where
+    on : IsCleared host_id 63 base held
+    on = subst (λ d. IsCleared host_id 63 d held) (became old mid at.node base stage.becomes)
+        cleared
+
+-- and the entry of the host's ID is set
+pub set_up : (topology first : Topology) (old mid new : Registers) (host_id : ℕ)
+    (path : List ℕ) (at : PortRef) (port : ℕ) (held : Device) → IsTopology topology
+    → Fits topology old → host_id < 255 → port ≡ at.port → entered topology path ≡ Some at
+    → IsStage topology first old mid at held
+    → IsCleared host_id 63 (record (old at.node) { default_port = at.port }) held
+    → Becomes mid new at.node (with_entry (mid at.node) host_id port)
+    → Becomes old new at.node (with_entry held host_id at.port)
+    × IsSetUp host_id at.port (old at.node) (with_entry held host_id at.port)
+set_up topology first old mid new host_id path at port held proper fits below is enters stage
+    cleared becomes = (
+      becomes-twice old mid new at.node held (with_entry held host_id at.port) stage.becomes
+          (subst (λ d. Becomes mid new at.node d) there becomes),
+      record {
+        same = same_but-entry (old at.node) held host_id at.port stage.same;
+        default = cleared.default;
+        home = entry-set_same held.routes host_id at.port
+            (omega (
+              arith,
+              below,
+              cleared.destinations,
+              destinations_of topology old path at proper
+                  fits enters,
+            ));
+        cleared = λ id less other.
+            entry-set_other held.routes host_id id at.port other ∙ cleared.cleared id less other;
+        kept = λ id more other.
+            entry-set_other held.routes host_id id at.port other
+            ∙ cleared.kept id (omega (arith, more));
+      },
+    )
+  where
+    there : with_entry (mid at.node) host_id port ≡ with_entry held host_id at.port
+    there =
+        ap (λ d. with_entry d host_id port) (became old mid at.node held stage.becomes)
+        ∙ ap (λ n. with_entry held host_id n) is

@@ -1,0 +1,128 @@
+-- What is known of a path that is tried, for the call that tries it.
+use Rattle.std.proofs.Common.{◌≡◌, ◌≢◌, ℕ, ◌<◌, ◌≤◌, inl, List, [], ◌∷◌, ◌++◌, length, Some, None, refl, sym, ap, subst, ◌∙◌}
+use Rattle.fabric_script.specs.declared.ports.PortRef.{PortRef}
+use Rattle.maint_registers.specs.Devices as registers
+use Rattle.fabric_map.specs.declared.map.Kind.{Kind}
+use Rattle.fabric_map.specs.declared.map.Device.{Device}
+use Rattle.fabric_map.specs.Topology.{Topology, entered}
+use Rattle.fabric_map.specs.Walked.{onward}
+use Rattle.fabric_map.specs.Routes.{Registers}
+use Rattle.fabric_map.specs.Fitting.{Fits}
+use Rattle.fabric_map.specs.Ways.{IsOpened}
+use Rattle.fabric_map.specs.Locked.{IsForeign, IsNext}
+use Rattle.fabric_map.specs.Numbered.{paths_of}
+use Rattle.host_enumerate.specs.declared.taking.Holder.{Holder}
+use Rattle.host_enumerate.specs.declared.taking.Holder.TheVariants.{Taken, Met, Other}
+use Rattle.host_enumerate.specs.Asking.{IsAskable, IsApart, PassesOnce, AreSame, Becomes}
+use Rattle.host_enumerate.specs.Holding.{IsTakable, IsHolder}
+use Rattle.host_enumerate.specs.Underway.{met_as, IsUnderway}
+use Rattle.host_enumerate.specs.TakingIn.{IsTakenIn, IsTried}
+use Rattle.host_enumerate.specs.Ends.{EndsAtLock}
+use Rattle.host_enumerate.proofs.Opening.{opened-same}
+use Rattle.host_enumerate.proofs.Entries.{askable-written}
+use Rattle.host_enumerate.proofs.Meeting.{met-tagged, ends_at_lock}
+use Rattle.host_enumerate.proofs.Keeping.{underway-same}
+use Rattle.host_enumerate.proofs.Trying.{unmet_takable, apart_unmet, passes_once, few_met, next_few, tried}
+
+module _ (topology : Topology) (now : Registers) (host_id next : ℕ) (devices : List Device)
+    (path : List ℕ) (at : PortRef)
+    (some : (before : Registers) × IsUnderway topology before now host_id devices next path)
+    (is_next : IsNext (paths_of devices) path)
+    (askable : IsAskable topology now host_id path at) where
+  pub apart_takable : IsTakable host_id (now at.node) → IsApart topology path at.node
+  apart_takable takable =
+      apart_unmet topology some.0 now host_id next devices path at some.1 is_next askable
+      (unmet_takable topology some.0 now host_id next devices path at some.1 is_next askable takable)
+
+  pub apart_free : (now at.node).lock ≡ 0xffff → IsApart topology path at.node
+  apart_free free = apart_takable (inl free)
+
+  pub is_few : (path ≡ [] → next ≡ 0) → next < 254
+  is_few begins = next_few topology some.0 now host_id next devices path at some.1 is_next askable
+      begins
+
+  pub has_room : length devices ≤ 64
+  has_room = few_met topology some.0 now host_id next devices path at some.1 is_next askable
+
+  pub once_now : (later : Topology) → later ≡ topology → PassesOnce later path
+  once_now later is = subst (λ t. PassesOnce t path) (sym is)
+      (passes_once topology some.0 now host_id next devices path at some.1 is_next askable)
+
+  module _ (later : Topology) (is_later : later ≡ topology) (locked : Registers)
+      (holder : Holder) (is : holder ≡ Taken)
+      (held : IsHolder host_id now locked at.node holder) where
+    taken : IsTakable host_id (now at.node)
+        × Becomes now locked at.node (record (now at.node) { lock = host_id })
+    taken = subst (λ h. IsHolder host_id now locked at.node h) is held
+
+    pub locked_askable : IsAskable later locked host_id path at × IsApart later path at.node
+    locked_askable = (
+      subst (λ t. IsAskable t locked host_id path at) (sym is_later)
+          (askable-written topology now locked host_id path at
+          (record (now at.node) { lock = host_id }) askable taken.1 (apart_takable taken.0)
+          (λ _. refl)),
+      subst (λ t. IsApart t path at.node) (sym is_later) (apart_takable taken.0),
+    )
+
+    module _ (fits : Fits topology now) (begins : path ≡ [] → next ≡ 0) (after : Registers)
+        (next_after : ℕ) (devices_after : List Device) (kind : Kind)
+        (longer : devices_after ≡ devices ++ met_as devices kind path ∷ [])
+        (left : (at : PortRef) → entered later path ≡ Some at
+        → IsTakenIn later host_id devices next next_after locked after path at kind) where
+      left_now : IsTakenIn topology host_id devices next next_after locked after path at kind
+      left_now = subst (λ t. IsTakenIn t host_id devices next next_after locked after path at kind)
+          is_later (left at (ap (λ t. entered t path) is_later ∙ askable.leads))
+
+      pub taken_tried : (before : Registers)
+          → IsUnderway topology before now host_id devices next path
+          → IsTried topology before after host_id devices devices_after next next_after path
+          (Some kind)
+      taken_tried before underway = (
+        longer,
+        subst (λ l. IsUnderway topology before after host_id l next_after (onward path 0))
+            (sym longer)
+            (tried topology before now host_id next devices path at underway is_next askable locked
+            left_now.0 after next_after kind fits taken.0 begins taken.1 left_now.1 left_now.2).0,
+      )
+
+      pub taken_opened : IsOpened topology after host_id path
+      taken_opened =
+          (tried topology some.0 now host_id next devices path at some.1 is_next askable locked
+          left_now.0 after next_after kind fits taken.0 begins taken.1 left_now.1 left_now.2).1
+
+  -- the device was met
+  module _ (after : Registers) (holder : Holder) (is : holder ≡ Met)
+      (held : IsHolder host_id now after at.node holder) where
+    met : ((now at.node).lock ≡ host_id) × ((now at.node).tag ≢ 0) × AreSame now after
+    met = subst (λ h. IsHolder host_id now after at.node h) is held
+
+    pub met_tried : (before : Registers)
+        → IsUnderway topology before now host_id devices next path
+        → IsTried topology before after host_id devices devices next next path None
+    met_tried before underway = (
+      refl,
+      refl,
+      underway-same topology before now host_id next devices path underway after met.2,
+      met-tagged topology before now host_id next devices path underway at askable.leads met.1,
+    )
+
+    pub met_opened : IsOpened topology after host_id path
+    met_opened = opened-same topology now after host_id path askable.opened met.2
+
+  -- another host holds it
+  pub other_ends : (after : Registers) (holder : Holder) (id : ℕ) → holder ≡ Other id
+      → IsHolder host_id now after at.node holder → (before : Registers)
+      → IsUnderway topology before now host_id devices next path
+      → EndsAtLock topology before after path id
+  other_ends after holder id is held before underway =
+      let found = fact in
+      subst (λ n. EndsAtLock topology before after path n)
+      (ap (λ (d : registers.Device). d.lock) (found.2 at.node) ∙ found.0)
+      (ends_at_lock topology before after host_id next devices path
+      (underway-same topology before now host_id next devices path underway after found.2) at
+      is_next askable.leads
+      (subst (λ n. IsForeign host_id n)
+      (sym (ap (λ (d : registers.Device). d.lock) (found.2 at.node) ∙ found.0)) found.1))
+    where
+      fact : ((now at.node).lock ≡ id) × IsForeign host_id id × AreSame now after
+      fact = subst (λ h. IsHolder host_id now after at.node h) is held

@@ -1,0 +1,12 @@
+use Rattle.host_enumerate.proofs.Opening.{open_after_write}
+use Rattle.host_enumerate.proofs.asking.write.Goals as goal
+
+pub ask-requires-clause-askable : goal.ask-requires-clause-askable
+ask-requires-clause-askable g c =
+    let asked = c.requires.askable in (
+      asked.0,
+      asked.1,
+      asked.3,
+      open_after_write (g.M.Maint.topology c.args.maint.now) (g.M.Maint.registers c.args.maint.now)
+          asked.0 c.args.path.now asked.1 c.args.offset c.args.value asked.2 asked.3.opened asked.4,
+    )

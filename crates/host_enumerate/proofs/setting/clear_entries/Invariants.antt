@@ -1,0 +1,20 @@
+use Rattle.std.proofs.Common.{◌≡◌, ◌≤◌, Some}
+use Rattle.fabric_script.specs.declared.ports.PortRef.{PortRef}
+use Rattle.maint_registers.specs.Devices.{Device}
+use Rattle.fabric_map.specs.Topology.{entered}
+use Rattle.host_enumerate.specs.Asking.{Becomes}
+use Rattle.host_enumerate.specs.Setting.{IsCleared}
+use Rattle.host_enumerate.proofs.setting.clear_entries.Given as goal
+
+abbrev pub invariant-loop-id : goal.invariant-loop-id
+invariant-loop-id g l = record {
+  whole : g.M.Maint.IsWhole l.maint;
+  topology : g.M.Maint.topology l.maint ≡ g.M.Maint.topology l.initial.maint;
+  cleared : (at : PortRef)
+      → entered (g.M.Maint.topology l.initial.maint) l.path ≡ Some at
+      → (held : Device)
+      × Becomes (g.M.Maint.registers l.initial.maint) (g.M.Maint.registers l.maint) at.node held
+      × IsCleared l.host_id l.id (g.M.Maint.registers l.initial.maint at.node) held;
+  undetected : g.M.Maint.undetected l.initial.maint ≤ g.M.Maint.undetected l.maint;
+  faults : g.M.Maint.faults l.initial.maint ≤ g.M.Maint.faults l.maint;
+}

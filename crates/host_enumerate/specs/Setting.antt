@@ -1,0 +1,61 @@
+-- What a host leaves of the devices that it sets up.
+use Rattle.std.specs.Prelude.{◌≡◌, ◌≢◌, ℕ, ◌<◌, ◌≤◌, List, [], ◌∷◌, ◌++◌, length, slice_set, slice_index, Some}
+use Rattle.fabric_script.specs.declared.ports.PortRef.{PortRef}
+use Rattle.maint_registers.specs.Devices.{Device}
+use Rattle.fabric_map.specs.Topology.{Topology, entered}
+use Rattle.fabric_map.specs.Routes.{Registers}
+use Rattle.host_enumerate.specs.Asking.{Becomes}
+
+-- the entry of one destination is set, and this destination stays selected
+abbrev pub with_entry : Device → ℕ → ℕ → Device
+with_entry device id port =
+    record device { select = id; routes = slice_set device.routes id port }
+
+-- the path goes through this device, and on by this port, once it has passed a front
+abbrev pub Passes : Topology → List ℕ → List ℕ → ℕ → ℕ → Type 0
+Passes topology front rest node port = (mid later : List ℕ) × (at : PortRef)
+    × (rest ≡ mid ++ port ∷ later) × (entered topology (front ++ mid) ≡ Some at)
+    × (at.node ≡ node)
+
+-- In each switch from the front of a path on, the entry of an ID is the path's port. All other
+-- devices are the same.
+pub record AreRouted (topology : Topology) (old new : Registers) (front rest : List ℕ)
+    (id : ℕ) : Type 0 where
+  pub passed : (node port : ℕ) → Passes topology front rest node port
+      → new node ≡ with_entry (old node) id port
+  pub others : (node : ℕ) → ((port : ℕ) → ¬ Passes topology front rest node port)
+      → new node ≡ old node
+
+-- An endpoint has an ID, and each switch that its path passes sends packets for the ID along the
+-- path. All other devices are the same.
+abbrev pub HasNewId : Topology → Registers → Registers → List ℕ → ℕ → ℕ → Type 0
+HasNewId topology old new path node id = (first : ℕ) (rest : List ℕ) → path ≡ first ∷ rest
+    → (mid : Registers) × Becomes old mid node (record (old node) { base_id = id })
+    × AreRouted topology mid new (first ∷ []) rest id
+
+-- only the route table, its default port and the selected destination may differ
+pub record IsSameBut (old new : Device) : Type 0 where
+  pub kind : new.kind ≡ old.kind
+  pub ports : new.ports ≡ old.ports
+  pub linked : new.linked ≡ old.linked
+  pub lock : new.lock ≡ old.lock
+  pub tag : new.tag ≡ old.tag
+  pub base_id : new.base_id ≡ old.base_id
+
+-- A switch sends packets for every ID from 0 to 62, and for the host's, by the port by which it was
+-- entered. It has no entry of its own for the former.
+pub record IsSetUp (host_id entry : ℕ) (old new : Device) : Type 0 where
+  pub same : IsSameBut old new
+  pub default : new.default_port ≡ entry
+  pub home : slice_index new.routes host_id ≡ entry
+  pub cleared : (id : ℕ) → id < 63 → id ≢ host_id → slice_index new.routes id ≡ 255
+  pub kept : (id : ℕ) → 62 < id → id ≢ host_id
+      → slice_index new.routes id ≡ slice_index old.routes id
+
+-- A switch has no entries of its own for the IDs below a number, other than the host's.
+pub record IsCleared (host_id below : ℕ) (old new : Device) : Type 0 where
+  pub same : IsSameBut old new
+  pub default : new.default_port ≡ old.default_port
+  pub destinations : length new.routes ≡ length old.routes
+  pub cleared : (id : ℕ) → id < below → id ≢ host_id → slice_index new.routes id ≡ 255
+  pub kept : (id : ℕ) → below ≤ id → slice_index new.routes id ≡ slice_index old.routes id

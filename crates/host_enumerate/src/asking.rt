@@ -1,0 +1,107 @@
+//! Single accesses to the device on a path.
+ghost use Rattle.std.specs.Prelude.{◌≡◌, ◌<◌, ◌≤◌, ◌^◌, ℕ, IsSome, OnOk, IfOk, IfErr, Some};
+ghost use Rattle.fabric_script.specs.declared.ports.PortRef.{PortRef};
+ghost use Rattle.maint_registers.specs.Devices as registers;
+ghost use Rattle.maint_registers.specs.Access.{value_at, written_at};
+ghost use Rattle.fabric_map.specs.Topology.{entered};
+ghost use Rattle.host_enumerate.specs.Accesses.{answered, offset_of};
+ghost use Rattle.host_enumerate.specs.Causes.{IsCaused};
+ghost use Rattle.host_enumerate.specs.Asking.{IsAskable, IsOpenAfter, IsWritable, AreSame, Becomes};
+
+use crate::maint::{Access, Answer, Maint, MaintEnd};
+use fabric_map::Path;
+use std::alloc::Global;
+
+/// The destination by which a host asks along a path.
+const ALONG_PATH: u8 = 255;
+
+/// Asks the device on a path.
+fn ask<M: Maint>(
+    alloc: Global,
+    maint: &mut M,
+    path: &Path,
+    access: Access,
+) -> Result<Answer, MaintEnd>
+    requires whole { M.IsWhole maint.old }
+    requires offset { offset_of access < 2 ^ 24 }
+    requires askable { (host_id : ℕ) × (at : PortRef)
+        × IsAskable (M.topology maint.old) (M.registers maint.old) host_id path.now at
+        × IsOpenAfter (M.topology maint.old) (M.registers maint.old) host_id path.now at access }
+    ensures answer { IfOk result (λ answer. (at : PortRef)
+        → entered (M.topology maint.old) path.now ≡ Some at
+        → answer ≡ (answered (M.registers maint.old at.node) at.port access).answer) }
+    ensures registers { OnOk result ((at : PortRef)
+        → entered (M.topology maint.old) path.now ≡ Some at
+        → Becomes (M.registers maint.old) (M.registers maint.new) at.node
+        (answered (M.registers maint.old at.node) at.port access).device) }
+    ensures topology { M.topology maint.new ≡ M.topology maint.old }
+    ensures whole { OnOk result (M.IsWhole maint.new) }
+    ensures orderly { M.IsOrderly maint.new }
+    ensures cause { IfErr result (IsCaused (M.undetected maint.old) (M.undetected maint.new)
+        (M.faults maint.old) (M.faults maint.new)) }
+    ensures undetected_stays { M.undetected maint.old ≤ M.undetected maint.new }
+    ensures faults_stay { M.faults maint.old ≤ M.faults maint.new }
+{
+    let ports = path.as_slice().len();
+    if ports == 0 {
+        return Ok(maint.own(access));
+    }
+    maint.ask(alloc, ALONG_PATH, (ports - 1) as u8, access)
+}
+
+/// Reads a register of the device on a path.
+pub(crate) fn read<M: Maint>(
+    alloc: Global,
+    maint: &mut M,
+    path: &Path,
+    offset: u32,
+) -> Result<u32, MaintEnd>
+    requires whole { M.IsWhole maint.old }
+    requires offset { offset < 2 ^ 24 }
+    requires askable { (host_id : ℕ) × (at : PortRef)
+        × IsAskable (M.topology maint.old) (M.registers maint.old) host_id path.now at
+        × IsSome (value_at (M.registers maint.old at.node) offset at.port) }
+    ensures value { IfOk result (λ value. (at : PortRef)
+        → entered (M.topology maint.old) path.now ≡ Some at
+        → value_at (M.registers maint.old at.node) offset at.port ≡ Some value) }
+    ensures registers { OnOk result (AreSame (M.registers maint.old) (M.registers maint.new)) }
+    ensures topology { M.topology maint.new ≡ M.topology maint.old }
+    ensures whole { OnOk result (M.IsWhole maint.new) }
+    ensures orderly { M.IsOrderly maint.new }
+    ensures cause { IfErr result (IsCaused (M.undetected maint.old) (M.undetected maint.new)
+        (M.faults maint.old) (M.faults maint.new)) }
+    ensures undetected_stays { M.undetected maint.old ≤ M.undetected maint.new }
+    ensures faults_stay { M.faults maint.old ≤ M.faults maint.new }
+{
+    let answer = ask(alloc, maint, path, Access::Read(offset))?;
+    Ok(answer.value)
+}
+
+/// Writes to a register of the device on a path.
+pub(crate) fn write<M: Maint>(
+    alloc: Global,
+    maint: &mut M,
+    path: &Path,
+    offset: u32,
+    value: u32,
+) -> Result<(), MaintEnd>
+    requires whole { M.IsWhole maint.old }
+    requires offset { offset < 2 ^ 24 }
+    requires askable { (host_id : ℕ) × (at : PortRef) × (held : registers.Device)
+        × IsAskable (M.topology maint.old) (M.registers maint.old) host_id path.now at
+        × IsWritable (M.topology maint.old) (M.registers maint.old) path.now at offset value held }
+    ensures registers { OnOk result ((at : PortRef) → (held : registers.Device)
+        → entered (M.topology maint.old) path.now ≡ Some at
+        → written_at (M.registers maint.old at.node) offset value ≡ Some held
+        → Becomes (M.registers maint.old) (M.registers maint.new) at.node held) }
+    ensures topology { M.topology maint.new ≡ M.topology maint.old }
+    ensures whole { OnOk result (M.IsWhole maint.new) }
+    ensures orderly { M.IsOrderly maint.new }
+    ensures cause { IfErr result (IsCaused (M.undetected maint.old) (M.undetected maint.new)
+        (M.faults maint.old) (M.faults maint.new)) }
+    ensures undetected_stays { M.undetected maint.old ≤ M.undetected maint.new }
+    ensures faults_stay { M.faults maint.old ≤ M.faults maint.new }
+{
+    ask(alloc, maint, path, Access::Write(offset, value))?;
+    Ok(())
+}
