@@ -53,6 +53,17 @@ pub record MayFollow (fabric : Fabric) (names : List (List ℕ)) (line : Line) :
   pub built : is_built line ≡ true
   pub names_suffice : length fabric.devices.items ≤ length names
 
+-- it is done at a link
+abbrev pub IsAtLink : Line → Type 0
+IsAtLink (Pump port n) = Unit {0}
+IsAtLink (Deliver port n) = Unit {0}
+IsAtLink (Alter port place ch) = Unit {0}
+IsAtLink (Erase port place n) = Unit {0}
+IsAtLink (Insert port place ch) = Unit {0}
+IsAtLink (Timeout port) = Unit {0}
+IsAtLink (Settle port) = Unit {0}
+IsAtLink _ = ⊥
+
 -- ---- afterwards
 
 -- what a `send` answers, by the lines of its block

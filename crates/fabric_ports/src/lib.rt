@@ -16,6 +16,7 @@ mod edits;
 mod ends;
 mod events;
 mod fabric;
+mod links;
 mod nodes;
 #[cfg(test)]
 mod plan_tests;
