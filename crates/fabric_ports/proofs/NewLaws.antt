@@ -1,5 +1,5 @@
 -- What a new fabric shows, and what a plan is for after more lines.
-use Rattle.std.proofs.Common.{◌≡◌, ℕ, zero, suc, ◌+◌, ◌<◌, true, is_some, List, [], ◌∷◌, ◌++◌, All, Some, None, Bool, cond, false, map, get_or, take, drop, length, length-append, option_map, refl, sym, ap, ◌∙◌, subst, filter, ◌==◌, arith}
+use Rattle.std.proofs.Common.{◌≡◌, ℕ, zero, suc, ◌+◌, ◌<◌, true, List, [], ◌∷◌, ◌++◌, All, Some, None, Bool, cond, false, map, get_or, take, drop, length, length-append, option_map, refl, sym, ap, ◌∙◌, subst, filter, ◌==◌, arith}
 use Rattle.std.proofs.lemmas.Bool.{false≢true}
 use Rattle.std.proofs.lemmas.List.{take_more, drop_more, take-append-drop, length-map}
 use Rattle.std.proofs.lemmas.List.Elements.{All-nil, All-cons, All-head, All-tail, All-weaker}
@@ -42,7 +42,8 @@ use Rattle.fabric_ports.specs.declared.plans.Plan.{Plan}
 -- ---- a new fabric
 
 -- the view of a port where no packet was taken is a new port
-new_view : (net : Network) (p : PortRef) → IsEmptyNetwork net → port_at (begins net) p ≡ new_port (net.buffers p)
+new_view : (net : Network) (p : PortRef) → IsEmptyNetwork net
+    → port_at (begins net) p ≡ new_port (net.buffers p)
 new_view net p empty = λ i. record {
   place = place_start;
   output = out.Output.Ok (from_ack 0);
@@ -54,15 +55,19 @@ new_view net p empty = λ i. record {
       ∷ packets_in (filter (λ item. prio_of item.now == 3) (empty.lent p i) ++ empty.waiting p 3 i)
       ∷ [];
   received = record {
-    lists = packets_in (empty.received p 0 i) ∷ packets_in (empty.received p 1 i) ∷ packets_in (empty.received p 2 i) ∷ packets_in (empty.received p 3 i) ∷ [];
+    lists = packets_in (empty.received p 0 i) ∷ packets_in (empty.received p 1 i) ∷ packets_in
+        (empty.received p 2 i) ∷ packets_in (empty.received p 3 i) ∷ [];
     buffers = net.buffers p;
   };
 }
 
 -- each device is an endpoint
-endpoint_at : (devices : List Device) (n : ℕ) → All IsEndpointDevice devices → option_map is_switch (slice_get devices n) ≡ Some false → IsEndpointAt devices n
+endpoint_at : (devices : List Device) (n : ℕ) → All IsEndpointDevice devices
+    → option_map is_switch (slice_get devices n) ≡ Some false → IsEndpointAt devices n
 endpoint_at [] n are is = absurd (cc)
-endpoint_at (device ∷ devices) zero are is = let one = All-head IsEndpointDevice device devices are in record { device = device; stands = refl; kind = one.0; has_port = one.1 }
+endpoint_at (device ∷ devices) zero are is = let one =
+    All-head IsEndpointDevice device devices are in
+    record { device = device; stands = refl; kind = one.0; has_port = one.1 }
 endpoint_at (device ∷ devices) (suc n) are is =
     let one = endpoint_at devices n (All-tail IsEndpointDevice device devices are) is in
     record { device = one.device; stands = one.stands; kind = one.kind; has_port = one.has_port }
@@ -75,22 +80,32 @@ empty_plain net empty = record {
 }
 
 -- a fabric with new ports of the planned buffers shows the network of the plan
-new_shows : (fabric : Fabric) (buffers : List ℕ) (net : Network) → IsEmptyNetwork net → Lists fabric.devices.items fabric.firsts.items buffers fabric.cables.items net → fabric.ports.items ≡ map new_port buffers → ShowsFabric fabric (begins net)
+new_shows : (fabric : Fabric) (buffers : List ℕ) (net : Network) → IsEmptyNetwork net
+    → Lists fabric.devices.items fabric.firsts.items buffers fabric.cables.items net
+    → fabric.ports.items ≡ map new_port buffers → ShowsFabric fabric (begins net)
 new_shows fabric buffers net empty l ports = record {
   firsts = l.rows;
   count = ap length ports ∙ length-map buffers new_port ∙ l.count;
   ports = λ p here.
-      ap (λ ps. slice_get ps (place_of fabric.firsts.items p)) ports ∙ slice_get-map new_port buffers (place_of fabric.firsts.items p)
+      ap (λ ps. slice_get ps (place_of fabric.firsts.items p)) ports
+      ∙ slice_get-map new_port buffers (place_of fabric.firsts.items p)
       ∙ ap (option_map new_port) (l.here p here) ∙ ap Some (sym (new_view net p empty));
-  cables = All-weaker (IsNewCable fabric.devices.items) (ShowsCable fabric.devices.items (begins net))
-      (λ cable new. record { port_a = new.port_a; port_b = new.port_b; wires = new.wires }) fabric.cables.items l.new;
+  cables = All-weaker (IsNewCable fabric.devices.items)
+      (ShowsCable fabric.devices.items (begins net))
+      (λ cable new. record { port_a = new.port_a; port_b = new.port_b; wires = new.wires })
+      fabric.cables.items l.new;
   links = l.links;
   registers = l.registers;
-  endpoints = λ n is. endpoint_at fabric.devices.items n l.endpoints (subst (λ (registers : List Device). option_map is_switch (slice_get registers n) ≡ Some false) l.registers is);
+  endpoints = λ n is. endpoint_at fabric.devices.items n l.endpoints
+      (subst (λ (registers : List Device). option_map is_switch (slice_get registers n) ≡ Some
+      false) l.registers is);
 }
 
-pub new_stands : (names : List (List ℕ)) (lines : List Numbered) (plan : Plan) (fabric : Fabric) → Passes names lines → PlansFor plan (set_up_all bare lines) → fabric.devices.items ≡ plan.devices.items → fabric.firsts.items ≡ plan.firsts.items
-    → fabric.cables.items ≡ plan.cables.items → fabric.ports.items ≡ map new_port plan.buffers.items → Stands (set_up_all bare lines) [] fabric
+pub new_stands : (names : List (List ℕ)) (lines : List Numbered) (plan : Plan) (fabric : Fabric)
+    → Passes names lines → PlansFor plan (set_up_all bare lines)
+    → fabric.devices.items ≡ plan.devices.items → fabric.firsts.items ≡ plan.firsts.items
+    → fabric.cables.items ≡ plan.cables.items → fabric.ports.items ≡ map new_port plan.buffers.items
+    → Stands (set_up_all bare lines) [] fabric
 new_stands names lines plan fabric passes is d f c ports =
     let set_up = set_up_bare lines (may_set_up names lines passes) in
     record {
@@ -98,28 +113,38 @@ new_stands names lines plan fabric passes is d f c ports =
       made = Done refl;
       sent = refl;
       shows = new_shows fabric plan.buffers.items (set_up_all bare lines) set_up.empty
-          (lists_same plan.devices.items fabric.devices.items plan.firsts.items fabric.firsts.items plan.buffers.items plan.buffers.items plan.cables.items fabric.cables.items (set_up_all bare lines) d f refl c (lists_of plan (set_up_all bare lines) is)) ports;
+          (lists_same plan.devices.items fabric.devices.items plan.firsts.items fabric.firsts.items
+          plan.buffers.items plan.buffers.items plan.cables.items fabric.cables.items
+          (set_up_all bare lines) d f refl c (lists_of plan (set_up_all bare lines) is)) ports;
       plain = empty_plain (set_up_all bare lines) set_up.empty;
     }
 
 -- ---- from line to line
 
-set_up_all-append : (net : Network) (lines more : List Numbered) → set_up_all net (lines ++ more) ≡ set_up_all (set_up_all net lines) more
+set_up_all-append : (net : Network) (lines more : List Numbered)
+    → set_up_all net (lines ++ more) ≡ set_up_all (set_up_all net lines) more
 set_up_all-append net [] more = refl
 set_up_all-append net (line ∷ lines) more = set_up_all-append (set_up net line.line) lines more
 
-counts-append : (counts : List ℕ) (lines more : List Numbered) → counts_after_all counts (lines ++ more) ≡ counts_after_all (counts_after_all counts lines) more
+counts-append : (counts : List ℕ) (lines more : List Numbered)
+    → counts_after_all counts (lines ++ more) ≡ counts_after_all (counts_after_all counts lines)
+    more
 counts-append counts [] more = refl
 counts-append counts (line ∷ lines) more = counts-append (counts_after counts line.line) lines more
 
-may_at : (net : Network) (before behind : List Numbered) (line : Numbered) → MaySetUpAll net (before ++ line ∷ behind) → MaySetUp (set_up_all net before) line.line
+may_at : (net : Network) (before behind : List Numbered) (line : Numbered)
+    → MaySetUpAll net (before ++ line ∷ behind) → MaySetUp (set_up_all net before) line.line
 may_at net [] behind line may = may.0
-may_at net (first ∷ before) behind line may = may_at (set_up net first.line) before behind line may.1
+may_at net (first ∷ before) behind line may =
+    may_at (set_up net first.line) before behind line may.1
 
 -- the lines as those before a place, the one there, and those behind it
-split_at : (lines : List Numbered) (i : ℕ) (line : Numbered) → i < length lines → line ≡ get_or lines i line → lines ≡ take i lines ++ line ∷ drop (i + 1) lines
+split_at : (lines : List Numbered) (i : ℕ) (line : Numbered) → i < length lines
+    → line ≡ get_or lines i line → lines ≡ take i lines ++ line ∷ drop (i + 1) lines
 split_at lines i line within at =
-    sym (take-append-drop i lines) ∙ ap (λ rest. take i lines ++ rest) (drop_more lines i line within ∙ ap (λ x. x ∷ drop (i + 1) lines) (sym at))
+    sym (take-append-drop i lines)
+    ∙ ap (λ rest. take i lines ++ rest) (drop_more lines i line within
+    ∙ ap (λ x. x ∷ drop (i + 1) lines) (sym at))
 
 -- A plan is for the network of the first lines of a script.
 pub record PlansFirst (plan : Plan) (lines : List Numbered) (i : ℕ) : Type 0 where
@@ -127,48 +152,83 @@ pub record PlansFirst (plan : Plan) (lines : List Numbered) (i : ℕ) : Type 0 w
   pub counts : counts_of plan.devices.items ≡ port_counts (take i lines)
 
 -- the ports of the next line are those of the plan
-pub next_ports : (names : List (List ℕ)) (lines : List Numbered) (i : ℕ) (line : Numbered) (plan : Plan) → Passes names lines → i < length lines → line ≡ get_or lines i line → PlansFirst plan lines i → ArePorts (counts_of plan.devices.items) line.line
+pub next_ports : (names : List (List ℕ)) (lines : List Numbered) (i : ℕ) (line : Numbered)
+    (plan : Plan) → Passes names lines → i < length lines → line ≡ get_or lines i line
+    → PlansFirst plan lines i → ArePorts (counts_of plan.devices.items) line.line
 next_ports names lines i line plan passes within at first =
     subst (λ counts. ArePorts counts line.line) (sym first.counts)
-    (ports_there names (take i lines) (drop (i + 1) lines) line (subst (Passes names) (split_at lines i line within at) passes))
+    (ports_there names (take i lines) (drop (i + 1) lines) line
+    (subst (Passes names) (split_at lines i line within at) passes))
 
-pub next_plan : (names : List (List ℕ)) (lines : List Numbered) (i : ℕ) (line : Numbered) (old new : Plan) → Passes names lines → i < length lines → line ≡ get_or lines i line → PlansFirst old lines i
-    → ((net : Network) → PlansFor old net → MaySetUp net line.line → PlansFor new (set_up net line.line)) → counts_of new.devices.items ≡ counts_after (counts_of old.devices.items) line.line → PlansFirst new lines (i + 1)
+pub next_plan : (names : List (List ℕ)) (lines : List Numbered) (i : ℕ) (line : Numbered)
+    (old new : Plan) → Passes names lines → i < length lines → line ≡ get_or lines i line
+    → PlansFirst old lines i
+    → ((net : Network) → PlansFor old net → MaySetUp net line.line
+    → PlansFor new (set_up net line.line))
+    → counts_of new.devices.items ≡ counts_after (counts_of old.devices.items) line.line
+    → PlansFirst new lines (i + 1)
 next_plan names lines i line old new passes within at first plans counts =
-    let more : take (i + 1) lines ≡ take i lines ++ line ∷ [] = take_more lines i line within ∙ ap (λ x. take i lines ++ x ∷ []) (sym at) in
-    let may = may_at bare (take i lines) (drop (i + 1) lines) line (subst (MaySetUpAll bare) (split_at lines i line within at) (may_set_up names lines passes)) in
+    let more : take (i + 1) lines ≡ take i lines ++ line ∷ [] = take_more lines i line within
+    ∙ ap (λ x. take i lines ++ x ∷ []) (sym at) in
+    let may = may_at bare (take i lines) (drop (i + 1) lines) line
+    (subst (MaySetUpAll bare) (split_at lines i line within at)
+    (may_set_up names lines passes)) in
     record {
-      plans = subst (PlansFor new) (sym (ap (set_up_all bare) more ∙ set_up_all-append bare (take i lines) (line ∷ []))) (plans (set_up_all bare (take i lines)) first.plans may);
-      counts = counts ∙ ap (λ x. counts_after x line.line) first.counts ∙ sym (ap port_counts more ∙ counts-append [] (take i lines) (line ∷ []));
+      plans = subst (PlansFor new)
+          (sym (ap (set_up_all bare) more ∙ set_up_all-append bare (take i lines) (line ∷ [])))
+          (plans (set_up_all bare (take i lines)) first.plans may);
+      counts = counts ∙ ap (λ x. counts_after x line.line) first.counts
+          ∙ sym (ap port_counts more ∙ counts-append [] (take i lines) (line ∷ []));
     }
 
 -- ---- names
 
 -- as many nodes as names
-names_count : (known : Known) (names : List (List ℕ)) (counts : List ℕ) (lines : List Numbered) → length counts ≡ length known.names → PassesFrom known names lines → length (counts_after_all counts lines) ≡ length names
+names_count : (known : Known) (names : List (List ℕ)) (counts : List ℕ) (lines : List Numbered)
+    → length counts ≡ length known.names → PassesFrom known names lines
+    → length (counts_after_all counts lines) ≡ length names
 names_count known names counts [] same passes = same ∙ ap length passes
 names_count known names counts (line ∷ lines) same passes =
     let new = new_name names line.line in
-    names_count (known_after known new line.line) names (counts_after counts line.line) lines (one_more line.line) passes.2
+    names_count (known_after known new line.line) names (counts_after counts line.line) lines
+    (one_more line.line) passes.2
   where
-    one_more : (line : Line) → length (counts_after counts line) ≡ length (names_after known.names (new_name names line) line)
-    one_more (Endpoint name id) = omega (arith, length-append counts (1 ∷ []), length-append known.names (new_name names (Endpoint name id) ∷ []))
-    one_more (Switch name ports) = omega (arith, length-append counts (ports ∷ []), length-append known.names (new_name names (Switch name ports) ∷ []))
+    one_more : (line : Line)
+        → length (counts_after counts line) ≡ length
+        (names_after known.names (new_name names line) line)
+    one_more (Endpoint name id) =
+        omega (
+          arith,
+          length-append counts (1 ∷ []),
+          length-append known.names
+              (new_name names (Endpoint name id) ∷ []),
+        )
+    one_more (Switch name ports) =
+        omega (
+          arith,
+          length-append counts (ports ∷ []),
+          length-append known.names
+              (new_name names (Switch name ports) ∷ []),
+        )
     one_more _ = same
 
-pub devices_named : (names : List (List ℕ)) (lines : List Numbered) (devices : List Device) → Passes names lines → counts_of devices ≡ port_counts lines → length devices ≡ length names
+pub devices_named : (names : List (List ℕ)) (lines : List Numbered) (devices : List Device)
+    → Passes names lines → counts_of devices ≡ port_counts lines → length devices ≡ length names
 devices_named names lines devices passes counts =
-    sym (length-map devices (λ (device : Device). device.ports)) ∙ ap length counts ∙ names_count nothing names [] lines refl passes
+    sym (length-map devices (λ (device : Device). device.ports)) ∙ ap length counts
+    ∙ names_count nothing names [] lines refl passes
 
 -- ---- what is built
 
-pub all_built : (lines : List Numbered) → unbuilt_in lines ≡ None → All (λ line. is_built line.line ≡ true) lines
+pub all_built : (lines : List Numbered) → unbuilt_in lines ≡ None
+    → All (λ line. is_built line.line ≡ true) lines
 all_built [] none = All-nil (λ line. is_built line.line ≡ true)
 all_built (line ∷ lines) none =
     let parts = by_test (is_built line.line) none in
     All-cons (λ line. is_built line.line ≡ true) line lines parts.0 (all_built lines parts.1)
   where
-    by_test : (t : Bool) → cond t (unbuilt_in lines) (Some line.number) ≡ None → (t ≡ true) × (unbuilt_in lines ≡ None)
+    by_test : (t : Bool) → cond t (unbuilt_in lines) (Some line.number) ≡ None → (t ≡ true)
+        × (unbuilt_in lines ≡ None)
     by_test true none = (refl, none)
     by_test false none = absurd (cc)
 
@@ -176,6 +236,8 @@ no_switch : (line : Line) → is_built line ≡ true → MakesNoSwitch line
 no_switch (Switch name ports) built = absurd (false≢true built)
 no_switch _ built = tt
 
-pub built_without_switches : (lines : List Numbered) → unbuilt_in lines ≡ None → All (λ line. MakesNoSwitch line.line) lines
+pub built_without_switches : (lines : List Numbered) → unbuilt_in lines ≡ None
+    → All (λ line. MakesNoSwitch line.line) lines
 built_without_switches lines none =
-    All-weaker (λ line. is_built line.line ≡ true) (λ line. MakesNoSwitch line.line) (λ line built. no_switch line.line built) lines (all_built lines none)
+    All-weaker (λ line. is_built line.line ≡ true) (λ line. MakesNoSwitch line.line)
+    (λ line built. no_switch line.line built) lines (all_built lines none)

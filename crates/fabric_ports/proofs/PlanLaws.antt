@@ -25,18 +25,21 @@ use Rattle.fabric_ports.proofs.Rows.{get-append, get-last, get-set, get-set_othe
 -- ---- the lists of a plan
 
 -- what a plan is for, by its lists
-pub record Lists (devices : List Device) (firsts buffers : List ℕ) (cables : List Cable) (net : Network) : Type 0 where
+pub record Lists (devices : List Device) (firsts buffers : List ℕ) (cables : List Cable)
+    (net : Network) : Type 0 where
   pub rows : AreFirsts 0 devices firsts
   pub endpoints : All IsEndpointDevice devices
   pub count : length buffers ≡ port_count devices
   pub few : All AreBuffers buffers
-  pub here : (p : PortRef) → IsPortOf devices p → slice_get buffers (place_of firsts p) ≡ Some (net.buffers p)
+  pub here : (p : PortRef) → IsPortOf devices p
+      → slice_get buffers (place_of firsts p) ≡ Some (net.buffers p)
   pub elsewhere : (p : PortRef) → ¬ IsPortOf devices p → net.buffers p ≡ 8
   pub new : All (IsNewCable devices) cables
   pub links : map ends_of cables ≡ net.links
   pub registers : AreRegisters net devices
 
-pub lists_of : (plan : Plan) (net : Network) → PlansFor plan net → Lists plan.devices.items plan.firsts.items plan.buffers.items plan.cables.items net
+pub lists_of : (plan : Plan) (net : Network) → PlansFor plan net
+    → Lists plan.devices.items plan.firsts.items plan.buffers.items plan.cables.items net
 lists_of plan net is = record {
   rows = is.whole.firsts;
   endpoints = is.whole.endpoints;
@@ -49,7 +52,9 @@ lists_of plan net is = record {
   registers = is.registers;
 }
 
-plan_of : (plan : Plan) (net : Network) → Lists plan.devices.items plan.firsts.items plan.buffers.items plan.cables.items net → PlansFor plan net
+plan_of : (plan : Plan) (net : Network)
+    → Lists plan.devices.items plan.firsts.items plan.buffers.items plan.cables.items net
+    → PlansFor plan net
 plan_of plan net l = record {
   whole = record { firsts = l.rows; endpoints = l.endpoints; count = l.count; few = l.few };
   buffers = l.here;
@@ -59,79 +64,112 @@ plan_of plan net l = record {
   registers = l.registers;
 }
 
-pub lists_same : (devices devices2 : List Device) (firsts firsts2 buffers buffers2 : List ℕ) (cables cables2 : List Cable) (net : Network) → devices2 ≡ devices → firsts2 ≡ firsts → buffers2 ≡ buffers → cables2 ≡ cables → Lists devices firsts buffers cables net → Lists devices2 firsts2 buffers2 cables2 net
+pub lists_same : (devices devices2 : List Device) (firsts firsts2 buffers buffers2 : List ℕ)
+    (cables cables2 : List Cable) (net : Network) → devices2 ≡ devices → firsts2 ≡ firsts
+    → buffers2 ≡ buffers → cables2 ≡ cables → Lists devices firsts buffers cables net
+    → Lists devices2 firsts2 buffers2 cables2 net
 lists_same devices devices2 firsts firsts2 buffers buffers2 cables cables2 net d f b c l =
     subst (λ x. Lists x firsts2 buffers2 cables2 net) (sym d)
     (subst (λ x. Lists devices x buffers2 cables2 net) (sym f)
     (subst (λ x. Lists devices firsts x cables2 net) (sym b)
     (subst (λ x. Lists devices firsts buffers x net) (sym c) l)))
 
-pub plan_bare : (plan : Plan) → plan.devices.items ≡ [] → plan.firsts.items ≡ [] → plan.buffers.items ≡ [] → plan.cables.items ≡ [] → PlansFor plan bare
-plan_bare plan d f b c = plan_of plan bare (lists_same [] plan.devices.items [] plan.firsts.items [] plan.buffers.items [] plan.cables.items bare d f b c (record {
-  rows = tt;
-  endpoints = All-nil IsEndpointDevice;
-  count = refl;
-  few = All-nil AreBuffers;
-  here = λ p is. absurd is;
-  elsewhere = λ p not. refl;
-  new = All-nil (IsNewCable []);
-  links = refl;
-  registers = refl;
-}))
+pub plan_bare : (plan : Plan) → plan.devices.items ≡ [] → plan.firsts.items ≡ []
+    → plan.buffers.items ≡ [] → plan.cables.items ≡ [] → PlansFor plan bare
+plan_bare plan d f b c =
+    plan_of plan bare
+    (lists_same [] plan.devices.items [] plan.firsts.items [] plan.buffers.items []
+    plan.cables.items bare d f b c (record {
+      rows = tt;
+      endpoints = All-nil IsEndpointDevice;
+      count = refl;
+      few = All-nil AreBuffers;
+      here = λ p is. absurd is;
+      elsewhere = λ p not. refl;
+      new = All-nil (IsNewCable []);
+      links = refl;
+      registers = refl;
+    }))
 
 -- ---- an endpoint
 
-endpoint_here : (devices : List Device) (firsts buffers : List ℕ) (cables : List Cable) (net : Network) (id : ℕ) → Lists devices firsts buffers cables net → (p : PortRef) → IsPortOf (devices ++ new_endpoint id false ∷ []) p
-    → slice_get (buffers ++ 8 ∷ []) (place_of (firsts ++ length buffers ∷ []) p) ≡ Some (net.buffers p)
-endpoint_here devices firsts buffers cables net id l p is = elim (old_or_new devices (new_endpoint id false) p is) [
-  | inl old ↦
-      let at = placed devices firsts p l.rows old in
-      let within = at.within in
-      let all = l.count in
-      ap (slice_get (buffers ++ 8 ∷ [])) (place_stays firsts (length buffers ∷ []) p at.known)
-      ∙ get-append buffers (8 ∷ []) (place_of firsts p) (omega arith)
-      ∙ l.here p old
-  | inr last ↦
-      let node = last.0 in
-      let port = last.1 in
-      let many = as_many_firsts 0 devices firsts l.rows in
-      let first : get_or (firsts ++ length buffers ∷ []) p.node 0 ≡ length buffers =
-      ap (λ n. get_or (firsts ++ length buffers ∷ []) n 0) (node ∙ sym many) ∙ get_or-append_seam firsts (length buffers) [] 0 in
-      let place : place_of (firsts ++ length buffers ∷ []) p ≡ length buffers = omega arith in
-      ap (slice_get (buffers ++ 8 ∷ [])) place ∙ get-last buffers 8
-      ∙ ap Some (sym (l.elsewhere p (λ old. let at = (placed devices firsts p l.rows old).device in omega arith)))
-]
+endpoint_here : (devices : List Device) (firsts buffers : List ℕ) (cables : List Cable)
+    (net : Network) (id : ℕ) → Lists devices firsts buffers cables net → (p : PortRef)
+    → IsPortOf (devices ++ new_endpoint id false ∷ []) p
+    → slice_get (buffers ++ 8 ∷ []) (place_of (firsts ++ length buffers ∷ []) p) ≡ Some
+    (net.buffers p)
+endpoint_here devices firsts buffers cables net id l p is =
+    elim (old_or_new devices (new_endpoint id false) p is) [
+      | inl old ↦
+          let at = placed devices firsts p l.rows old in
+          let within = at.within in
+          let all = l.count in
+          ap (slice_get (buffers ++ 8 ∷ [])) (place_stays firsts (length buffers ∷ []) p at.known)
+          ∙ get-append buffers (8 ∷ []) (place_of firsts p) (omega arith)
+          ∙ l.here p old
+      | inr last ↦
+          let node = last.0 in
+          let port = last.1 in
+          let many = as_many_firsts 0 devices firsts l.rows in
+          let first : get_or (firsts ++ length buffers ∷ []) p.node 0 ≡ length buffers =
+          ap (λ n. get_or (firsts ++ length buffers ∷ []) n 0) (node ∙ sym many)
+          ∙ get_or-append_seam firsts (length buffers) [] 0 in
+          let place : place_of (firsts ++ length buffers ∷ []) p ≡ length buffers = omega arith in
+          ap (slice_get (buffers ++ 8 ∷ [])) place ∙ get-last buffers 8
+          ∙ ap Some (sym
+          (l.elsewhere p (λ old. let at = (placed devices firsts p l.rows old).device in
+          omega arith)))
+    ]
 
-endpoint_lists : (devices : List Device) (firsts buffers : List ℕ) (cables : List Cable) (net : Network) (name id : ℕ) → Lists devices firsts buffers cables net
-    → Lists (devices ++ new_endpoint id false ∷ []) (firsts ++ length buffers ∷ []) (buffers ++ 8 ∷ []) cables (set_up net (Endpoint name id))
+endpoint_lists : (devices : List Device) (firsts buffers : List ℕ) (cables : List Cable)
+    (net : Network) (name id : ℕ) → Lists devices firsts buffers cables net
+    → Lists (devices ++ new_endpoint id false ∷ []) (firsts ++ length buffers ∷ [])
+    (buffers ++ 8 ∷ []) cables (set_up net (Endpoint name id))
 endpoint_lists devices firsts buffers cables net name id l =
     let device = new_endpoint id false in
     let all = l.count in
     record {
-      rows = subst (λ n. AreFirsts 0 (devices ++ device ∷ []) (firsts ++ n ∷ [])) (sym all) (firsts-append devices firsts device l.rows);
+      rows = subst (λ n. AreFirsts 0 (devices ++ device ∷ []) (firsts ++ n ∷ [])) (sym all)
+          (firsts-append devices firsts device l.rows);
       endpoints = All-push IsEndpointDevice devices device l.endpoints (refl, omega arith);
       count = omega (arith, length-append buffers (8 ∷ []), count-append devices device);
       few = All-push AreBuffers buffers 8 l.few (omega arith, omega arith);
       here = endpoint_here devices firsts buffers cables net id l;
       elsewhere = λ p not. l.elsewhere p (λ old. not (port_stays devices (device ∷ []) p old));
       new = All-weaker (IsNewCable devices) (IsNewCable (devices ++ device ∷ []))
-          (λ cable is. record { port_a = port_stays devices (device ∷ []) cable.a is.port_a; port_b = port_stays devices (device ∷ []) cable.b is.port_b; wires = is.wires })
+          (λ cable is. record {
+            port_a =
+                port_stays devices (device ∷ []) cable.a is.port_a;
+            port_b =
+                port_stays devices (device ∷ []) cable.b is.port_b;
+            wires = is.wires;
+          })
           cables l.new;
       links = l.links;
       registers = ap (λ x. x ++ new_endpoint id false ∷ []) l.registers;
     }
 
-pub plan-endpoint : (old new : Plan) (net : Network) (name id : ℕ) → new.devices.items ≡ old.devices.items ++ new_endpoint id false ∷ [] → new.firsts.items ≡ old.firsts.items ++ length old.buffers.items ∷ []
-    → new.buffers.items ≡ old.buffers.items ++ 8 ∷ [] → new.cables.items ≡ old.cables.items → PlansFor old net → PlansFor new (set_up net (Endpoint name id))
+pub plan-endpoint : (old new : Plan) (net : Network) (name id : ℕ)
+    → new.devices.items ≡ old.devices.items ++ new_endpoint id false ∷ []
+    → new.firsts.items ≡ old.firsts.items ++ length old.buffers.items ∷ []
+    → new.buffers.items ≡ old.buffers.items ++ 8 ∷ [] → new.cables.items ≡ old.cables.items
+    → PlansFor old net → PlansFor new (set_up net (Endpoint name id))
 plan-endpoint old new net name id d f b c is =
     plan_of new (set_up net (Endpoint name id))
-    (lists_same (old.devices.items ++ new_endpoint id false ∷ []) new.devices.items (old.firsts.items ++ length old.buffers.items ∷ []) new.firsts.items (old.buffers.items ++ 8 ∷ []) new.buffers.items old.cables.items new.cables.items (set_up net (Endpoint name id)) d f b c
-    (endpoint_lists old.devices.items old.firsts.items old.buffers.items old.cables.items net name id (lists_of old net is)))
+    (lists_same (old.devices.items ++ new_endpoint id false ∷ []) new.devices.items
+    (old.firsts.items ++ length old.buffers.items ∷ []) new.firsts.items
+    (old.buffers.items ++ 8 ∷ []) new.buffers.items old.cables.items new.cables.items
+    (set_up net (Endpoint name id)) d f b c
+    (endpoint_lists old.devices.items old.firsts.items old.buffers.items old.cables.items net name
+    id (lists_of old net is)))
 
 -- ---- a link
 
-link_lists : (devices : List Device) (firsts buffers : List ℕ) (cables : List Cable) (net : Network) (a b : PortRef) → IsPortOf devices a → IsPortOf devices b → Lists devices firsts buffers cables net
-    → Lists devices firsts buffers (cables ++ record { a = a; b = b; link = empty_wires } ∷ []) (set_up net (Link a b))
+link_lists : (devices : List Device) (firsts buffers : List ℕ) (cables : List Cable) (net : Network)
+    (a b : PortRef) → IsPortOf devices a → IsPortOf devices b
+    → Lists devices firsts buffers cables net
+    → Lists devices firsts buffers (cables ++ record { a = a; b = b; link = empty_wires } ∷ [])
+    (set_up net (Link a b))
 link_lists devices firsts buffers cables net a b is_a is_b l = record {
   rows = l.rows;
   endpoints = l.endpoints;
@@ -139,36 +177,58 @@ link_lists devices firsts buffers cables net a b is_a is_b l = record {
   few = l.few;
   here = l.here;
   elsewhere = l.elsewhere;
-  new = All-push (IsNewCable devices) cables (record { a = a; b = b; link = empty_wires }) l.new (record { port_a = is_a; port_b = is_b; wires = refl });
-  links = map-append ends_of cables (record { a = a; b = b; link = empty_wires } ∷ []) ∙ ap (λ links. links ++ (a, b) ∷ []) l.links;
+  new = All-push (IsNewCable devices) cables (record { a = a; b = b; link = empty_wires }) l.new
+      (record { port_a = is_a; port_b = is_b; wires = refl });
+  links = map-append ends_of cables (record { a = a; b = b; link = empty_wires } ∷ [])
+      ∙ ap (λ links. links ++ (a, b) ∷ []) l.links;
   registers = l.registers;
 }
 
-pub plan-link : (old new : Plan) (net : Network) (a b : PortRef) → IsPortOf old.devices.items a → IsPortOf old.devices.items b → new.devices.items ≡ old.devices.items → new.firsts.items ≡ old.firsts.items → new.buffers.items ≡ old.buffers.items
-    → new.cables.items ≡ old.cables.items ++ record { a = a; b = b; link = empty_wires } ∷ [] → PlansFor old net → PlansFor new (set_up net (Link a b))
+pub plan-link : (old new : Plan) (net : Network) (a b : PortRef) → IsPortOf old.devices.items a
+    → IsPortOf old.devices.items b → new.devices.items ≡ old.devices.items
+    → new.firsts.items ≡ old.firsts.items → new.buffers.items ≡ old.buffers.items
+    → new.cables.items ≡ old.cables.items ++ record { a = a; b = b; link = empty_wires } ∷ []
+    → PlansFor old net → PlansFor new (set_up net (Link a b))
 plan-link old new net a b is_a is_b d f bu c is =
     plan_of new (set_up net (Link a b))
-    (lists_same old.devices.items new.devices.items old.firsts.items new.firsts.items old.buffers.items new.buffers.items (old.cables.items ++ record { a = a; b = b; link = empty_wires } ∷ []) new.cables.items (set_up net (Link a b)) d f bu c
-    (link_lists old.devices.items old.firsts.items old.buffers.items old.cables.items net a b is_a is_b (lists_of old net is)))
+    (lists_same old.devices.items new.devices.items old.firsts.items new.firsts.items
+    old.buffers.items new.buffers.items
+    (old.cables.items ++ record { a = a; b = b; link = empty_wires } ∷ []) new.cables.items
+    (set_up net (Link a b)) d f bu c
+    (link_lists old.devices.items old.firsts.items old.buffers.items old.cables.items net a b is_a
+    is_b (lists_of old net is)))
 
 -- ---- the buffers of a port
 
-buffers_here : (devices : List Device) (firsts buffers : List ℕ) (cables : List Cable) (net : Network) (port : PortRef) (n : ℕ) → IsPortOf devices port → Lists devices firsts buffers cables net → (p : PortRef) → IsPortOf devices p
-    → slice_get (set buffers (place_of firsts port) n) (place_of firsts p) ≡ Some (if same_port p port then n else net.buffers p)
+buffers_here : (devices : List Device) (firsts buffers : List ℕ) (cables : List Cable)
+    (net : Network) (port : PortRef) (n : ℕ) → IsPortOf devices port
+    → Lists devices firsts buffers cables net → (p : PortRef) → IsPortOf devices p
+    → slice_get (set buffers (place_of firsts port) n) (place_of firsts p) ≡ Some
+    (if same_port p port then n else net.buffers p)
 buffers_here devices firsts buffers cables net port n is l p is_p =
     let at = placed devices firsts port l.rows is in
     let within = at.within in
     let all = l.count in
-    elim (same_port p port) as (λ s. same_port p port ≡ s → slice_get (set buffers (place_of firsts port) n) (place_of firsts p) ≡ Some (if s then n else net.buffers p)) [
-      | true ↦ λ same. ap (λ q. slice_get (set buffers (place_of firsts port) n) (place_of firsts q)) (port_is p port same) ∙ get-set buffers (place_of firsts port) n (omega arith)
+    elim (same_port p port) as (λ s. same_port p port ≡ s
+    → slice_get (set buffers (place_of firsts port) n) (place_of firsts p) ≡ Some
+    (if s then n else net.buffers p)) [
+      | true ↦ λ same.
+          ap (λ q. slice_get (set buffers (place_of firsts port) n) (place_of firsts q))
+          (port_is p port same) ∙ get-set buffers (place_of firsts port) n (omega arith)
       | false ↦ λ apart.
           get-set_other buffers (place_of firsts port) (place_of firsts p) n
-          (λ e. true≢false (sym (ap (λ q. same_port q port) (same_place devices firsts p port l.rows is_p is (sym e)) ∙ same_port-refl port) ∙ apart))
+          (λ e. true≢false
+          (sym (ap (λ q. same_port q port)
+          (same_place devices firsts p port l.rows is_p is (sym e)) ∙ same_port-refl port)
+          ∙ apart))
           ∙ l.here p is_p
     ] refl
 
-buffers_lists : (devices : List Device) (firsts buffers : List ℕ) (cables : List Cable) (net : Network) (port : PortRef) (n : ℕ) → IsPortOf devices port → AreBuffers n → Lists devices firsts buffers cables net
-    → Lists devices firsts (set buffers (place_of firsts port) n) cables (set_up net (Buffers port n))
+buffers_lists : (devices : List Device) (firsts buffers : List ℕ) (cables : List Cable)
+    (net : Network) (port : PortRef) (n : ℕ) → IsPortOf devices port → AreBuffers n
+    → Lists devices firsts buffers cables net
+    → Lists devices firsts (set buffers (place_of firsts port) n) cables
+    (set_up net (Buffers port n))
 buffers_lists devices firsts buffers cables net port n is few l =
     let place = place_of firsts port in
     record {
@@ -178,26 +238,36 @@ buffers_lists devices firsts buffers cables net port n is few l =
       few = All-set AreBuffers buffers place n few l.few;
       here = buffers_here devices firsts buffers cables net port n is l;
       elsewhere = λ p not.
-          let apart = false_from_ne_true (same_port p port) (λ same. not (subst (IsPortOf devices) (sym (port_is p port same)) is)) in
+          let apart = false_from_ne_true (same_port p port)
+          (λ same. not (subst (IsPortOf devices) (sym (port_is p port same)) is)) in
           ap (λ s. if s then n else net.buffers p) apart ∙ l.elsewhere p not;
       new = l.new;
       links = l.links;
       registers = l.registers;
     }
 
-pub plan-buffers : (old new : Plan) (net : Network) (port : PortRef) (n : ℕ) → IsPortOf old.devices.items port → AreBuffers n → new.devices.items ≡ old.devices.items → new.firsts.items ≡ old.firsts.items
-    → new.buffers.items ≡ set old.buffers.items (place_of old.firsts.items port) n → new.cables.items ≡ old.cables.items → PlansFor old net → PlansFor new (set_up net (Buffers port n))
+pub plan-buffers : (old new : Plan) (net : Network) (port : PortRef) (n : ℕ)
+    → IsPortOf old.devices.items port → AreBuffers n → new.devices.items ≡ old.devices.items
+    → new.firsts.items ≡ old.firsts.items
+    → new.buffers.items ≡ set old.buffers.items (place_of old.firsts.items port) n
+    → new.cables.items ≡ old.cables.items → PlansFor old net
+    → PlansFor new (set_up net (Buffers port n))
 plan-buffers old new net port n is few d f b c plans =
     plan_of new (set_up net (Buffers port n))
-    (lists_same old.devices.items new.devices.items old.firsts.items new.firsts.items (set old.buffers.items (place_of old.firsts.items port) n) new.buffers.items old.cables.items new.cables.items (set_up net (Buffers port n)) d f b c
-    (buffers_lists old.devices.items old.firsts.items old.buffers.items old.cables.items net port n is few (lists_of old net plans)))
+    (lists_same old.devices.items new.devices.items old.firsts.items new.firsts.items
+    (set old.buffers.items (place_of old.firsts.items port) n) new.buffers.items
+    old.cables.items new.cables.items (set_up net (Buffers port n)) d f b c
+    (buffers_lists old.devices.items old.firsts.items old.buffers.items old.cables.items net port n
+    is few (lists_of old net plans)))
 
 -- ---- ports by their counts
 
-pub port_by_count : (devices : List Device) (p : PortRef) → IsPort (counts_of devices) p → IsPortOf devices p
+pub port_by_count : (devices : List Device) (p : PortRef) → IsPort (counts_of devices) p
+    → IsPortOf devices p
 port_by_count devices p is = at devices p.node is
   where
-    at : (devices : List Device) (n : ℕ) → p.port < get_or (counts_of devices) n 0 → HasPort (slice_get devices n) p.port
+    at : (devices : List Device) (n : ℕ) → p.port < get_or (counts_of devices) n 0
+        → HasPort (slice_get devices n) p.port
     at [] n is = absurd (omega arith)
     at (d ∷ devices) zero is = is
     at (d ∷ devices) (suc n) is = at devices n is
@@ -208,6 +278,7 @@ pub ok_from : {T E A D : Type 0} (r : Result T E) → IfOk r (λ x. A) → (A �
 ok_from (Ok x) a f = f a
 ok_from (Err e) a f = tt
 
-pub ok_from_three : {T E A B C D : Type 0} (r : Result T E) → IfOk r (λ x. A) → IfOk r (λ x. B) → IfOk r (λ x. C) → (A → B → C → D) → IfOk r (λ x. D)
+pub ok_from_three : {T E A B C D : Type 0} (r : Result T E) → IfOk r (λ x. A) → IfOk r (λ x. B)
+    → IfOk r (λ x. C) → (A → B → C → D) → IfOk r (λ x. D)
 ok_from_three (Ok x) a b c f = f a b c
 ok_from_three (Err e) a b c f = tt

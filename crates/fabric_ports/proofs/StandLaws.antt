@@ -1,5 +1,5 @@
 -- For which lines a fabric stands after an event.
-use Rattle.std.proofs.Common.{◌≡◌, List, [], ◌∷◌, ◌++◌, Some, None, subst, sym, refl, ap, ◌∙◌}
+use Rattle.std.proofs.Common.{◌≡◌, List, [], ◌∷◌, ◌++◌, None, subst, sym, refl, ap, ◌∙◌}
 use Rattle.fabric_script.specs.declared.lines.Line.{Line}
 use Rattle.fabric_model.specs.Network.{Network}
 use Rattle.fabric_trace.specs.Blocks.{IsBlock}
@@ -18,7 +18,8 @@ use Rattle.fabric_ports.specs.Showing.{ShowsFabric}
 use Rattle.fabric_ports.specs.Standing.{IsPlain, Stands}
 
 -- what is known after the lines of an event, and the lines that it stands behind
-pub stands_on : (net : Network) (lines : List TraceLine) (old new : Fabric) (line : Line) (block : List TraceLine) → Stands net lines old
+pub stands_on : (net : Network) (lines : List TraceLine) (old new : Fabric) (line : Line)
+    (block : List TraceLine) → Stands net lines old
     → IsBlock (seen (begins net) lines) line block
     → (seen (seen (begins net) lines) (Begun line ∷ block)).unfaithful ≡ None
     → ShowsFabric new (seen (seen (begins net) lines) (Begun line ∷ block))
@@ -28,10 +29,13 @@ stands_on net lines old new line block stands is sent shows plain =
     let s = seen (begins net) lines in
     let good = (made_keeps (good_start net stands.set_up) stands.made).good in
     let made = block_made line s block good stands.sent is in
-    let joined : seen (begins net) (lines ++ Begun line ∷ block) ≡ seen s (Begun line ∷ block) = seen-append (begins net) lines (Begun line ∷ block) in
+    let joined : seen (begins net) (lines ++ Begun line ∷ block) ≡ seen s (Begun line ∷ block) =
+    seen-append (begins net) lines (Begun line ∷ block) in
     record {
       set_up = stands.set_up;
-      made = made-append stands.made (made-append {s = s} {xs = Begun line ∷ []} {ys = block} (one_part (Begins line refl)) made);
+      made = made-append stands.made
+          (made-append {s = s} {xs = Begun line ∷ []} {ys = block} (one_part (Begins line refl))
+          made);
       sent = ap (λ (t : Seen). t.unfaithful) joined ∙ sent;
       shows = subst (ShowsFabric new) (sym joined) shows;
       plain = subst (λ (t : Seen). IsPlain t.network) (sym joined) plain;

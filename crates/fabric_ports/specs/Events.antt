@@ -26,8 +26,8 @@ use Rattle.fabric_ports.specs.Standing.{IsPlain, Stands}
 
 -- ---- before
 
--- Whether a line is built: a switch is not yet, nor are its routes, its moves and `run`; nor is what asks registers, as a
--- packet of format type 8.
+-- Whether a line is built: a switch is not yet, nor are its routes, its moves and `run`; nor is
+-- what asks registers, as a packet of format type 8.
 abbrev pub is_built : Line → Bool
 is_built (Endpoint name id) = true
 is_built (Link a b) = true
@@ -43,7 +43,8 @@ is_built (Settle port) = true
 is_built (Collect node) = true
 is_built _ = false
 
--- The fabric stands for some lines, and the event may follow them. Each device of the fabric has a name.
+-- The fabric stands for some lines, and the event may follow them. Each device of the fabric has a
+-- name.
 pub record MayFollow (fabric : Fabric) (names : List (List ℕ)) (line : Line) : Type 0 where
   pub net : Network
   pub lines : List TraceLine
@@ -87,7 +88,8 @@ abbrev pub other_of : Result (Unit {0}) EventEnd → Result Happened EventEnd
 other_of (Ok done) = Ok Other
 other_of (Err end) = Err end
 
--- A call wrote lines which are such, and the fabric shows what is known after them. `s` is what was known before.
+-- A call wrote lines which are such, and the fabric shows what is known after them. `s` is what was
+-- known before.
 pub record Did (Is : List TraceLine → Type 0) (names : List (List ℕ)) {K : Type 0}
     (written : K → Option (List ℕ)) (faults : K → ℕ) (old new : Outbox K)
     (s : Seen) (fabric : Fabric) : Type 0 where
@@ -98,7 +100,8 @@ pub record Did (Is : List TraceLine → Type 0) (names : List (List ℕ)) {K : T
   pub shows : ShowsFabric fabric (seen s block)
   pub plain : IsPlain (seen s block).network
 
--- An event was carried out behind these lines: its block was written, and the fabric stands for the lines with it.
+-- An event was carried out behind these lines: its block was written, and the fabric stands for the
+-- lines with it.
 pub record Evented (line : Line) (names : List (List ℕ)) {K : Type 0}
     (written : K → Option (List ℕ)) (faults : K → ℕ) (old new : Outbox K)
     (net : Network) (lines : List TraceLine) (fabric : Fabric) (answer : Happened) : Type 0 where

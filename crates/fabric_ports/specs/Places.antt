@@ -1,9 +1,10 @@
 -- Where the ports of a fabric stand in its list.
-use Rattle.std.specs.Prelude.{◌≡◌, ℕ, ◌+◌, ◌<◌, false, List, [], ◌∷◌, length, Option, Some, None, slice_get, slice_index_or}
+use Rattle.std.specs.Prelude.{◌≡◌, ℕ, ◌+◌, ◌<◌, false, List, [], ◌∷◌, Option, Some, None, slice_get, slice_index_or}
 use Rattle.fabric_script.specs.declared.ports.PortRef.{PortRef}
 use Rattle.maint_registers.specs.Devices.{Device, is_switch}
 
--- each device's ports stand in a row, behind those of the devices before it: where the first of each stands
+-- each device's ports stand in a row, behind those of the devices before it: where the first of
+-- each stands
 abbrev pub AreFirsts : ℕ → List Device → List ℕ → Type 0
 AreFirsts place [] [] = Unit {0}
 AreFirsts place [] (first ∷ firsts) = ⊥

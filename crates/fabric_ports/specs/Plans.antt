@@ -18,7 +18,8 @@ counts_of devices = map (λ (device : Device). device.ports) devices
 abbrev pub IsEndpointDevice : Device → Type 0
 IsEndpointDevice device = (is_switch device ≡ false) × (0 < device.ports)
 
--- The devices of a plan are endpoints, their ports stand in rows, and the plan has a number of buffers for each.
+-- The devices of a plan are endpoints, their ports stand in rows, and the plan has a number of
+-- buffers for each.
 pub record IsPlan (plan : Plan) : Type 0 where
   pub endpoints : All IsEndpointDevice plan.devices.items
   pub firsts : AreFirsts 0 plan.devices.items plan.firsts.items
@@ -31,7 +32,8 @@ pub record IsNewCable (devices : List Device) (cable : Cable) : Type 0 where
   pub port_b : IsPortOf devices cable.b
   pub wires : cable.link ≡ empty_wires
 
--- A plan has the links, the registers and the buffers of a network, which has 8 buffers at all ports of other devices.
+-- A plan has the links, the registers and the buffers of a network, which has 8 buffers at all
+-- ports of other devices.
 pub record PlansFor (plan : Plan) (net : Network) : Type 0 where
   pub whole : IsPlan plan
   pub buffers : (p : PortRef) → IsPortOf plan.devices.items p

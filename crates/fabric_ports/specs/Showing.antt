@@ -1,5 +1,5 @@
 -- What a fabric shows of what is known of a trace.
-use Rattle.std.specs.Prelude.{◌≡◌, ℕ, List, All, map, length, Option, Some, slice_get}
+use Rattle.std.specs.Prelude.{◌≡◌, ℕ, List, All, map, length, Some, slice_get}
 use Rattle.link_machine.specs.States.{Wires}
 use Rattle.fabric_script.specs.declared.ports.PortRef.{PortRef}
 use Rattle.fabric_model.specs.Network.{Network, IsEndpoint}
@@ -26,7 +26,8 @@ pub record ShowsCable (devices : List Device) (s : Seen) (cable : Cable) : Type 
 abbrev pub AreRegisters : Network → List Device → Type 0
 AreRegisters net devices = net.registers ≡ devices
 
--- Each port of the fabric is what the step tables see there; its links, wires and registers are those that are known.
+-- Each port of the fabric is what the step tables see there; its links, wires and registers are
+-- those that are known.
 pub record ShowsFabric (fabric : Fabric) (s : Seen) : Type 0 where
   pub firsts : AreFirsts 0 fabric.devices.items fabric.firsts.items
   pub count : length fabric.ports.items ≡ port_count fabric.devices.items

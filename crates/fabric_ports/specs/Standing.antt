@@ -23,8 +23,8 @@ pub record IsPlain (net : Network) : Type 0 where
   pub received : ArePlain net.received
   pub waiting : ArePlain net.waiting
 
--- From a network that was set up on, these lines were made of parts, every event that was acted on was sent, and the
--- fabric shows what is known after them. No packet in it is a request.
+-- From a network that was set up on, these lines were made of parts, every event that was acted on
+-- was sent, and the fabric shows what is known after them. No packet in it is a request.
 pub record Stands (net : Network) (lines : List TraceLine) (fabric : Fabric) : Type 0 where
   pub set_up : IsSetUp net
   pub made : Made (begins net) lines

@@ -5,8 +5,9 @@ ghost use Rattle.fabric_ports.specs.Events.{is_built};
 
 use fabric_script::{Line, Script};
 
-/// The number of the first line that is not built yet: of a switch, its routes and moves, a host lock, a read or write of
-/// registers, a `send` of format type 8, and `run`. None if there is no such line.
+/// The number of the first line that is not built yet: of a switch, its routes and moves, a host
+/// lock, a read or write of registers, a `send` of format type 8, and `run`. None if there is no
+/// such line.
 pub fn unbuilt(script: &Script) -> Option<u32>
     ensures { result ≡ unbuilt_in script.now.lines.items }
 {

@@ -5,24 +5,23 @@ ghost use Rattle.fabric_trace.specs.Lines.{TraceLine};
 ghost use Rattle.fabric_ports.specs.Events.{MayFollow, Evented, EventEnds, other_of};
 ghost use Rattle.fabric_ports.specs.Standing.{Stands};
 
-use crate::actions::Action;
 use crate::answers::{EventEnd, Happened};
 use crate::fabric::Fabric;
 use fabric_script::{Line, Name};
-use link_wires::Edit;
 use rio_chars::{Outbox, Sink};
 use rio_packets::{Header, build};
 use std::alloc::Global;
 use trace_lines::write_begun;
 
 impl Fabric {
-    /// Carries out an event, and writes its block of the trace: the line with which it begins, and the lines of what was
-    /// done. The event may follow the lines for which the fabric stands, as each event line of the script does of which
-    /// the fabric was made.
+    /// Carries out an event, and writes its block of the trace: the line with which it begins, and
+    /// the lines of what was done. The event may follow the lines for which the fabric stands, as
+    /// each event line of the script does of which the fabric was made.
     ///
-    /// `Undetected` comes exactly if a port acted on an event that was not sent, and names that port and the first such
-    /// event; the block up to it was written. With `NoMemory` a front of the block was written. The fabric is of no use
-    /// after either. A write that fails does not end an event: ask the outbox behind it.
+    /// `Undetected` comes exactly if a port acted on an event that was not sent, and names that
+    /// port and the first such event; the block up to it was written. With `NoMemory` a front of
+    /// the block was written. The fabric is of no use after either. A write that fails does not end
+    /// an event: ask the outbox behind it.
     pub fn event<K: Sink>(
         &mut self,
         alloc: Global,
@@ -60,47 +59,8 @@ impl Fabric {
                 }
             }
             Line::Collect { node } => Ok(self.collect(names, *node, outbox)),
-            Line::Pump { port, n } => {
-                other(self.act(alloc, names, *port, Action::Pump(*n), outbox))
-            }
-            Line::Deliver { port, n } => {
-                other(self.act(alloc, names, *port, Action::Deliver(*n), outbox))
-            }
-            Line::Timeout { port } => other(self.act(alloc, names, *port, Action::TimeOut, outbox)),
-            Line::Settle { port } => other(self.act(alloc, names, *port, Action::Settle, outbox)),
-            Line::Alter { port, place, ch } => {
-                let edit = Edit::Alter {
-                    place: *place,
-                    ch: *ch,
-                };
-                other(self.edit(alloc, *port, &edit, outbox))
-            }
-            Line::Erase { port, place, n } => {
-                let edit = Edit::Erase {
-                    place: *place,
-                    count: *n,
-                };
-                other(self.edit(alloc, *port, &edit, outbox))
-            }
-            Line::Insert { port, place, ch } => {
-                let edit = Edit::Insert {
-                    place: *place,
-                    ch: *ch,
-                };
-                other(self.edit(alloc, *port, &edit, outbox))
-            }
-            // No other line is an event that is built.
-            Line::Endpoint { .. }
-            | Line::Switch { .. }
-            | Line::Link { .. }
-            | Line::Buffers { .. }
-            | Line::Route { .. }
-            | Line::Default { .. }
-            | Line::Lock { .. }
-            | Line::Read { .. }
-            | Line::Write { .. }
-            | Line::Move { .. }
-            | Line::Run { .. } => unreachable!(),
+            // Any other event that is built is one at a link.
+            _ => other(self.at_link(alloc, names, line, outbox)),
         }
     }
 }

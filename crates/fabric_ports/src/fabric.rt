@@ -19,7 +19,8 @@ pub(crate) struct Cable {
     pub(crate) link: Link,
 }
 
-/// The devices of a fabric, their ports in one list, each device's in a row, and its links in the order of their lines.
+/// The devices of a fabric, their ports in one list, each device's in a row, and its links in the
+/// order of their lines.
 #[derive(Drop)]
 pub struct Fabric {
     pub(crate) devices: Vec<Registers>,

@@ -26,8 +26,9 @@ use std::alloc::{AllocError, Global};
 const BUFFERS: u8 = 8;
 
 impl Fabric {
-    /// Makes the fabric that the set-up lines of a script make, with no packet in it and nothing on its wires. The script
-    /// passes, and none of its lines is unbuilt. All memory of the ports is taken here; `NoMemory` is the only other answer.
+    /// Makes the fabric that the set-up lines of a script make, with no packet in it and nothing on
+    /// its wires. The script passes, and none of its lines is unbuilt. All memory of the ports is
+    /// taken here; `NoMemory` is the only other answer.
     pub fn new(alloc: Global, script: &Script) -> Result<Fabric, NoMemory>
         requires passes { Passes script.now.names.items script.now.lines.items }
         requires built { unbuilt_in script.now.lines.items ≡ None }

@@ -1,4 +1,4 @@
-use Rattle.std.proofs.Common.{◌≡◌, List, OnOk, IfErr, refl, sym, subst}
+use Rattle.std.proofs.Common.{List, OnOk, IfErr, refl, sym, subst}
 use Rattle.fabric_script.specs.declared.lines.Line.{Line}
 use Rattle.fabric_script.specs.declared.lines.Line.TheVariants.{Alter, Erase, Insert}
 use Rattle.fabric_model.specs.Network.{Network}
@@ -41,12 +41,14 @@ pub returns-in-Deliver-clause-done : goal.returns-in-Deliver-clause-done
 returns-in-Deliver-clause-done g c =
     subst (λ (l : Line). OnOk c.act-in-Deliver.result ((net : Network) (lines : List TraceLine)
     → Stands net lines c.args.self.now → Blocked l c.args.names.now g.K.Sink.written
-    g.K.Sink.faults c.args.outbox.now c.act-in-Deliver.new.outbox net lines c.act-in-Deliver.new.self))
+    g.K.Sink.faults c.args.outbox.now c.act-in-Deliver.new.outbox net lines
+    c.act-in-Deliver.new.self))
     (sym c.in-Deliver.is) c.act-in-Deliver.ensures.done
 
 pub returns-in-Deliver-clause-ended : goal.returns-in-Deliver-clause-ended
 returns-in-Deliver-clause-ended g c =
-    subst (λ (l : Line). IfErr c.act-in-Deliver.result (λ end. (net : Network) (lines : List TraceLine)
+    subst (λ (l : Line). IfErr c.act-in-Deliver.result
+    (λ end. (net : Network) (lines : List TraceLine)
     → Stands net lines c.args.self.now → BlockEnds l c.args.names.now g.K.Sink.written
     g.K.Sink.faults c.args.outbox.now c.act-in-Deliver.new.outbox net lines end))
     (sym c.in-Deliver.is) c.act-in-Deliver.ensures.ended
@@ -61,12 +63,14 @@ pub returns-in-Timeout-clause-done : goal.returns-in-Timeout-clause-done
 returns-in-Timeout-clause-done g c =
     subst (λ (l : Line). OnOk c.act-in-Timeout.result ((net : Network) (lines : List TraceLine)
     → Stands net lines c.args.self.now → Blocked l c.args.names.now g.K.Sink.written
-    g.K.Sink.faults c.args.outbox.now c.act-in-Timeout.new.outbox net lines c.act-in-Timeout.new.self))
+    g.K.Sink.faults c.args.outbox.now c.act-in-Timeout.new.outbox net lines
+    c.act-in-Timeout.new.self))
     (sym c.in-Timeout.is) c.act-in-Timeout.ensures.done
 
 pub returns-in-Timeout-clause-ended : goal.returns-in-Timeout-clause-ended
 returns-in-Timeout-clause-ended g c =
-    subst (λ (l : Line). IfErr c.act-in-Timeout.result (λ end. (net : Network) (lines : List TraceLine)
+    subst (λ (l : Line). IfErr c.act-in-Timeout.result
+    (λ end. (net : Network) (lines : List TraceLine)
     → Stands net lines c.args.self.now → BlockEnds l c.args.names.now g.K.Sink.written
     g.K.Sink.faults c.args.outbox.now c.act-in-Timeout.new.outbox net lines end))
     (sym c.in-Timeout.is) c.act-in-Timeout.ensures.ended
@@ -81,12 +85,14 @@ pub returns-in-Settle-clause-done : goal.returns-in-Settle-clause-done
 returns-in-Settle-clause-done g c =
     subst (λ (l : Line). OnOk c.act-in-Settle.result ((net : Network) (lines : List TraceLine)
     → Stands net lines c.args.self.now → Blocked l c.args.names.now g.K.Sink.written
-    g.K.Sink.faults c.args.outbox.now c.act-in-Settle.new.outbox net lines c.act-in-Settle.new.self))
+    g.K.Sink.faults c.args.outbox.now c.act-in-Settle.new.outbox net lines
+    c.act-in-Settle.new.self))
     (sym c.in-Settle.is) c.act-in-Settle.ensures.done
 
 pub returns-in-Settle-clause-ended : goal.returns-in-Settle-clause-ended
 returns-in-Settle-clause-ended g c =
-    subst (λ (l : Line). IfErr c.act-in-Settle.result (λ end. (net : Network) (lines : List TraceLine)
+    subst (λ (l : Line). IfErr c.act-in-Settle.result
+    (λ end. (net : Network) (lines : List TraceLine)
     → Stands net lines c.args.self.now → BlockEnds l c.args.names.now g.K.Sink.written
     g.K.Sink.faults c.args.outbox.now c.act-in-Settle.new.outbox net lines end))
     (sym c.in-Settle.is) c.act-in-Settle.ensures.ended
@@ -102,14 +108,18 @@ returns-in-Alter-clause-done g c =
     subst (λ (l : Line). OnOk c.edit.result ((net : Network) (lines : List TraceLine)
     → Stands net lines c.args.self.now → Blocked l c.args.names.now g.K.Sink.written
     g.K.Sink.faults c.args.outbox.now c.edit.new.outbox net lines c.edit.new.self))
-    (sym c.in-Alter.is) (c.edit.ensures.done c.args.names.now (Alter c.in-Alter.port c.in-Alter.place c.in-Alter.ch) refl)
+    (sym c.in-Alter.is)
+    (c.edit.ensures.done c.args.names.now (Alter c.in-Alter.port c.in-Alter.place c.in-Alter.ch)
+    refl)
 
 pub returns-in-Alter-clause-ended : goal.returns-in-Alter-clause-ended
 returns-in-Alter-clause-ended g c =
     subst (λ (l : Line). IfErr c.edit.result (λ end. (net : Network) (lines : List TraceLine)
     → Stands net lines c.args.self.now → BlockEnds l c.args.names.now g.K.Sink.written
     g.K.Sink.faults c.args.outbox.now c.edit.new.outbox net lines end))
-    (sym c.in-Alter.is) (c.edit.ensures.ended c.args.names.now (Alter c.in-Alter.port c.in-Alter.place c.in-Alter.ch) refl)
+    (sym c.in-Alter.is)
+    (c.edit.ensures.ended c.args.names.now
+    (Alter c.in-Alter.port c.in-Alter.place c.in-Alter.ch) refl)
 
 pub edit-requires-in-Erase : goal.edit-requires-in-Erase
 edit-requires-in-Erase g c =
@@ -121,15 +131,21 @@ pub returns-in-Erase-clause-done : goal.returns-in-Erase-clause-done
 returns-in-Erase-clause-done g c =
     subst (λ (l : Line). OnOk c.edit-in-Erase.result ((net : Network) (lines : List TraceLine)
     → Stands net lines c.args.self.now → Blocked l c.args.names.now g.K.Sink.written
-    g.K.Sink.faults c.args.outbox.now c.edit-in-Erase.new.outbox net lines c.edit-in-Erase.new.self))
-    (sym c.in-Erase.is) (c.edit-in-Erase.ensures.done c.args.names.now (Erase c.in-Erase.port c.in-Erase.place c.in-Erase.n) refl)
+    g.K.Sink.faults c.args.outbox.now c.edit-in-Erase.new.outbox net lines
+    c.edit-in-Erase.new.self))
+    (sym c.in-Erase.is)
+    (c.edit-in-Erase.ensures.done c.args.names.now
+    (Erase c.in-Erase.port c.in-Erase.place c.in-Erase.n) refl)
 
 pub returns-in-Erase-clause-ended : goal.returns-in-Erase-clause-ended
 returns-in-Erase-clause-ended g c =
-    subst (λ (l : Line). IfErr c.edit-in-Erase.result (λ end. (net : Network) (lines : List TraceLine)
+    subst (λ (l : Line). IfErr c.edit-in-Erase.result
+    (λ end. (net : Network) (lines : List TraceLine)
     → Stands net lines c.args.self.now → BlockEnds l c.args.names.now g.K.Sink.written
     g.K.Sink.faults c.args.outbox.now c.edit-in-Erase.new.outbox net lines end))
-    (sym c.in-Erase.is) (c.edit-in-Erase.ensures.ended c.args.names.now (Erase c.in-Erase.port c.in-Erase.place c.in-Erase.n) refl)
+    (sym c.in-Erase.is)
+    (c.edit-in-Erase.ensures.ended c.args.names.now
+    (Erase c.in-Erase.port c.in-Erase.place c.in-Erase.n) refl)
 
 pub edit-requires-in-Insert : goal.edit-requires-in-Insert
 edit-requires-in-Insert g c =
@@ -141,12 +157,18 @@ pub returns-in-Insert-clause-done : goal.returns-in-Insert-clause-done
 returns-in-Insert-clause-done g c =
     subst (λ (l : Line). OnOk c.edit-in-Insert.result ((net : Network) (lines : List TraceLine)
     → Stands net lines c.args.self.now → Blocked l c.args.names.now g.K.Sink.written
-    g.K.Sink.faults c.args.outbox.now c.edit-in-Insert.new.outbox net lines c.edit-in-Insert.new.self))
-    (sym c.in-Insert.is) (c.edit-in-Insert.ensures.done c.args.names.now (Insert c.in-Insert.port c.in-Insert.place c.in-Insert.ch) refl)
+    g.K.Sink.faults c.args.outbox.now c.edit-in-Insert.new.outbox net lines
+    c.edit-in-Insert.new.self))
+    (sym c.in-Insert.is)
+    (c.edit-in-Insert.ensures.done c.args.names.now
+    (Insert c.in-Insert.port c.in-Insert.place c.in-Insert.ch) refl)
 
 pub returns-in-Insert-clause-ended : goal.returns-in-Insert-clause-ended
 returns-in-Insert-clause-ended g c =
-    subst (λ (l : Line). IfErr c.edit-in-Insert.result (λ end. (net : Network) (lines : List TraceLine)
+    subst (λ (l : Line). IfErr c.edit-in-Insert.result
+    (λ end. (net : Network) (lines : List TraceLine)
     → Stands net lines c.args.self.now → BlockEnds l c.args.names.now g.K.Sink.written
     g.K.Sink.faults c.args.outbox.now c.edit-in-Insert.new.outbox net lines end))
-    (sym c.in-Insert.is) (c.edit-in-Insert.ensures.ended c.args.names.now (Insert c.in-Insert.port c.in-Insert.place c.in-Insert.ch) refl)
+    (sym c.in-Insert.is)
+    (c.edit-in-Insert.ensures.ended c.args.names.now
+    (Insert c.in-Insert.port c.in-Insert.place c.in-Insert.ch) refl)

@@ -11,37 +11,58 @@ pub add-requires-clause-ports : goal.add-requires-clause-ports
 add-requires-clause-ports c =
     let script = c.args.script.now in
     let within : c.loop-numbered.numbered-index < length script.lines.items = omega arith in
-    let here : c.numbered-item.result ≡ get_or script.lines.items c.loop-numbered.numbered-index c.numbered-item.result = search rules in
-    next_ports script.names.items script.lines.items c.loop-numbered.numbered-index c.numbered-item.result c.loop-numbered.plan c.requires.passes within here c.loop-numbered.invariant
+    let here : c.numbered-item.result ≡ get_or script.lines.items c.loop-numbered.numbered-index
+    c.numbered-item.result = search rules in
+    next_ports script.names.items script.lines.items c.loop-numbered.numbered-index
+    c.numbered-item.result c.loop-numbered.plan c.requires.passes within here
+    c.loop-numbered.invariant
 
 pub add-requires-clause-endpoint : goal.add-requires-clause-endpoint
 add-requires-clause-endpoint c =
     let script = c.args.script.now in
     let within : c.loop-numbered.numbered-index < length script.lines.items = omega arith in
-    let here : c.numbered-item.result ≡ get_or script.lines.items c.loop-numbered.numbered-index c.numbered-item.result = search rules in
-    subst (λ line. MakesNoSwitch line.line) (sym here) (built_without_switches script.lines.items c.requires.built c.loop-numbered.numbered-index c.numbered-item.result within)
+    let here : c.numbered-item.result ≡ get_or script.lines.items c.loop-numbered.numbered-index
+    c.numbered-item.result = search rules in
+    subst (λ line. MakesNoSwitch line.line) (sym here)
+    (built_without_switches script.lines.items c.requires.built c.loop-numbered.numbered-index
+    c.numbered-item.result within)
 
 pub loop-numbered-preserved : goal.loop-numbered-preserved
 loop-numbered-preserved c =
     let script = c.args.script.now in
     let within : c.loop-numbered.numbered-index < length script.lines.items = omega arith in
-    let here : c.numbered-item.result ≡ get_or script.lines.items c.loop-numbered.numbered-index c.numbered-item.result = search rules in
-    next_plan script.names.items script.lines.items c.loop-numbered.numbered-index c.numbered-item.result c.loop-numbered.plan c.add.new.self c.requires.passes within here c.loop-numbered.invariant
+    let here : c.numbered-item.result ≡ get_or script.lines.items c.loop-numbered.numbered-index
+    c.numbered-item.result = search rules in
+    next_plan script.names.items script.lines.items c.loop-numbered.numbered-index
+    c.numbered-item.result c.loop-numbered.plan c.add.new.self c.requires.passes within here
+    c.loop-numbered.invariant
     c.in_ok-add.ensures.plans c.in_ok-add.ensures.counts
 
 pub returns-clause-stands : goal.returns-clause-stands
 returns-clause-stands c =
     let script = c.args.script.now in
     let plan = c.loop-numbered.plan in
-    let all : take c.loop-numbered.numbered-index script.lines.items ≡ script.lines.items = take_all c.loop-numbered.numbered-index script.lines.items (omega arith) in
+    let all : take c.loop-numbered.numbered-index script.lines.items ≡ script.lines.items =
+    take_all c.loop-numbered.numbered-index script.lines.items (omega arith) in
     let buffers : c.deref.result.now ≡ plan.buffers.items = search rules in
-    new_stands script.names.items script.lines.items plan (record { devices = plan.devices; firsts = plan.firsts; ports = c.in_ok-ports.ports; cables = plan.cables }) c.requires.passes
-    (subst (λ lines. PlansFor plan (set_up_all bare lines)) all c.loop-numbered.invariant.plans) refl refl refl
+    new_stands script.names.items script.lines.items plan
+    (record {
+      devices = plan.devices;
+      firsts = plan.firsts;
+      ports =
+          c.in_ok-ports.ports;
+      cables = plan.cables;
+    }) c.requires.passes
+    (subst (λ lines. PlansFor plan (set_up_all bare lines)) all c.loop-numbered.invariant.plans)
+    refl refl refl
     (c.in_ok-ports.ensures ∙ ap (map new_port) buffers)
 
 pub returns-clause-named : goal.returns-clause-named
 returns-clause-named c =
     let script = c.args.script.now in
     let plan = c.loop-numbered.plan in
-    let all : take c.loop-numbered.numbered-index script.lines.items ≡ script.lines.items = take_all c.loop-numbered.numbered-index script.lines.items (omega arith) in
-    devices_named script.names.items script.lines.items plan.devices.items c.requires.passes (subst (λ lines. counts_of plan.devices.items ≡ port_counts lines) all c.loop-numbered.invariant.counts)
+    let all : take c.loop-numbered.numbered-index script.lines.items ≡ script.lines.items =
+    take_all c.loop-numbered.numbered-index script.lines.items (omega arith) in
+    devices_named script.names.items script.lines.items plan.devices.items c.requires.passes
+    (subst (λ lines. counts_of plan.devices.items ≡ port_counts lines) all
+    c.loop-numbered.invariant.counts)

@@ -1,4 +1,4 @@
-use Rattle.std.proofs.Common.{rules, ◌≡◌, ◌≤◌, ◌<◌, true, false, nat_lt, length, refl, sym, ap, subst, ◌∙◌, arith}
+use Rattle.std.proofs.Common.{◌≡◌, ◌≤◌, ◌<◌, true, false, nat_lt, length, sym, ap, subst, ◌∙◌, arith}
 use Rattle.std.proofs.lemmas.Bool.{lt-ltb, le-ltb, false≢true}
 use Rattle.rio_packets.specs.Fields.{prio_of}
 use Rattle.link_buffers.specs.Queues.{list_at}
@@ -10,25 +10,44 @@ use Rattle.fabric_ports.proofs.fabric.Fabric.send.Goals as goal
 
 pub returns-then-not-out_room : goal.returns-then-not-out_room
 returns-then-not-out_room g c = λ s shows sent plain.
-    let few : prio_of c.args.packet < 4 = subst (λ n. n < 4) c.prio.ensures.value c.prio.ensures.range in
-    let at = port_read c.args.self.now s c.args.node c.place-place.result c.index.result.now shows c.requires.endpoint c.place-place.ensures.place c.index.ensures in
+    let few : prio_of c.args.packet < 4 =
+    subst (λ n. n < 4) c.prio.ensures.value c.prio.ensures.range in
+    let at = port_read c.args.self.now s c.args.node c.place-place.result c.index.result.now shows
+    c.requires.endpoint c.place-place.ensures.place c.index.ensures in
     let not_now : ¬ (length (list_at c.index.result.now.queued (prio_of c.args.packet)) < 16) =
-    λ h. false≢true (sym c.if-not-out_room.true ∙ c.out_room.ensures.exact.1 (subst (λ n. length (list_at c.index.result.now.queued n) < 16) (sym c.prio.ensures.value) h)) in
-    let none : 16 ≤ length (list_at c.index.result.now.queued (prio_of c.args.packet)) = omega (arith, not_now) in
-    let room : room_out s.network (port_of c.args.node) (prio_of c.args.packet) ≡ false = room_shown s (port_of c.args.node) (prio_of c.args.packet) few
-    ∙ ap (λ (p : PortState). nat_lt (length (list_at p.queued (prio_of c.args.packet))) 16) at ∙ le-ltb _ _ none in
-    did_full c.args.names.now _ _ _ _ s c.args.self.now c.args.node c.args.packet shows sent plain room c.write_full.ensures
+    λ h. false≢true (sym c.if-not-out_room.true
+    ∙ c.out_room.ensures.exact.1
+    (subst (λ n. length (list_at c.index.result.now.queued n) < 16) (sym c.prio.ensures.value)
+    h)) in
+    let none : 16 ≤ length (list_at c.index.result.now.queued (prio_of c.args.packet)) =
+    omega (arith, not_now) in
+    let room : room_out s.network (port_of c.args.node) (prio_of c.args.packet) ≡ false =
+    room_shown s (port_of c.args.node) (prio_of c.args.packet) few
+    ∙ ap (λ (p : PortState). nat_lt (length (list_at p.queued (prio_of c.args.packet))) 16) at
+    ∙ le-ltb _ _ none in
+    did_full c.args.names.now _ _ _ _ s c.args.self.now c.args.node c.args.packet shows sent plain
+    room c.write_full.ensures
 
 pub returns : goal.returns
 returns g c = λ s shows sent plain.
-    let few : prio_of c.args.packet < 4 = subst (λ n. n < 4) c.prio.ensures.value c.prio.ensures.range in
-    let at = port_read c.args.self.now s c.args.node c.place-place.result c.index_mut.result.now shows c.requires.endpoint c.place-place.ensures.place c.index_mut.ensures.value in
-    let before = port_read c.args.self.now s c.args.node c.place-place.result c.index.result.now shows c.requires.endpoint c.place-place.ensures.place c.index.ensures in
+    let few : prio_of c.args.packet < 4 =
+    subst (λ n. n < 4) c.prio.ensures.value c.prio.ensures.range in
+    let at = port_read c.args.self.now s c.args.node c.place-place.result c.index_mut.result.now
+    shows c.requires.endpoint c.place-place.ensures.place c.index_mut.ensures.value in
+    let before = port_read c.args.self.now s c.args.node c.place-place.result c.index.result.now
+    shows c.requires.endpoint c.place-place.ensures.place c.index.ensures in
     let some : length (list_at c.index_mut.result.now.queued (prio_of c.args.packet)) < 16 =
-    subst (λ (p : PortState). length (list_at p.queued (prio_of c.args.packet)) < 16) (sym before ∙ at)
-    (subst (λ n. length (list_at c.index.result.now.queued n) < 16) c.prio.ensures.value (c.out_room.ensures.exact.0 c.if-not-out_room.false)) in
-    let room : room_out s.network (port_of c.args.node) (prio_of c.args.packet) ≡ true = room_shown s (port_of c.args.node) (prio_of c.args.packet) few
-    ∙ ap (λ (p : PortState). nat_lt (length (list_at p.queued (prio_of c.args.packet))) 16) at ∙ lt-ltb _ _ some in
-    did_take c.args.names.now _ _ _ _ s c.args.self.now c.args.node c.args.packet (with_port c.args.self.now c.place-place.result c.out_put.new.self) c.index_mut.result.now c.out_put.new.self shows sent plain room few c.requires.plain c.requires.endpoint at
-    (has_port c.args.self.now (port_of c.args.node) c.place-place.result c.out_put.new.self c.place-place.ensures.place)
+    subst (λ (p : PortState). length (list_at p.queued (prio_of c.args.packet)) < 16)
+    (sym before ∙ at)
+    (subst (λ n. length (list_at c.index.result.now.queued n) < 16) c.prio.ensures.value
+    (c.out_room.ensures.exact.0 c.if-not-out_room.false)) in
+    let room : room_out s.network (port_of c.args.node) (prio_of c.args.packet) ≡ true =
+    room_shown s (port_of c.args.node) (prio_of c.args.packet) few
+    ∙ ap (λ (p : PortState). nat_lt (length (list_at p.queued (prio_of c.args.packet))) 16) at
+    ∙ lt-ltb _ _ some in
+    did_take c.args.names.now _ _ _ _ s c.args.self.now c.args.node c.args.packet
+    (with_port c.args.self.now c.place-place.result c.out_put.new.self) c.index_mut.result.now
+    c.out_put.new.self shows sent plain room few c.requires.plain c.requires.endpoint at
+    (has_port c.args.self.now (port_of c.args.node) c.place-place.result c.out_put.new.self
+    c.place-place.ensures.place)
     c.out_put.ensures.alike c.out_put.ensures.queued c.out_put.ensures.received c.write_take.ensures
