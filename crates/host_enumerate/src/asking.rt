@@ -9,11 +9,9 @@ ghost use Rattle.host_enumerate.specs.Causes.{IsCaused};
 ghost use Rattle.host_enumerate.specs.Asking.{IsAskable, IsOpenAfter, IsWritable, AreSame, Becomes};
 
 use crate::maint::{Access, Answer, Maint, MaintEnd};
+use crate::offsets::ALONG_PATH;
 use fabric_map::Path;
 use std::alloc::Global;
-
-/// The destination by which a host asks along a path.
-const ALONG_PATH: u8 = 255;
 
 /// Asks the device on a path.
 fn ask<M: Maint>(

@@ -7,18 +7,10 @@ ghost use Rattle.fabric_map.specs.Topology.{port_at, peer_in};
 ghost use Rattle.host_enumerate.specs.Plain.{registers_of};
 ghost use Rattle.host_enumerate.specs.Checking.{IsNewFabric, IsNewDevice, ports_shown, has_port, leads_to, is_link, shows_link};
 
+use crate::offsets::{COMPONENT_TAG, FIRST_STATUS, STATUS_STEP};
 use crate::plain::{PlainMaint, peer_in, same_port};
 use fabric_script::PortRef;
 use maint_registers::Registers;
-
-/// The offset of the component tag (RapidIO Interconnect Specification 1.3, Part 3).
-const COMPONENT_TAG: u32 = 0x00_006c;
-
-/// The offset of the error and status register of port 0, and how far two of them are apart
-/// (RapidIO Interconnect Specification 1.3, Part 6, in a block that begins at 000100).
-const FIRST_STATUS: u32 = 0x00_0158;
-
-const STATUS_STEP: u32 = 0x20;
 
 /// The most devices of a fabric.
 const MOST_DEVICES: usize = 64;

@@ -23,6 +23,7 @@ mod checking_tests;
 mod ends;
 mod examples;
 mod maint;
+mod offsets;
 mod plain;
 mod setting;
 mod taking;

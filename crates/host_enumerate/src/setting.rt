@@ -10,19 +10,9 @@ ghost use Rattle.host_enumerate.specs.Setting.{with_entry, AreRouted, HasNewId, 
 
 use crate::asking::{read, write};
 use crate::maint::{Maint, MaintEnd};
+use crate::offsets::{BASE_ID, DEFAULT_PORT, PORT_INFORMATION, ROUTE_ENTRY, ROUTE_SELECT};
 use fabric_map::{Kind, Path};
 use std::alloc::Global;
-
-/// The offsets of the registers (RapidIO Interconnect Specification 1.3, Part 3).
-const PORT_INFORMATION: u32 = 0x00_0014;
-
-const BASE_ID: u32 = 0x00_0060;
-
-const ROUTE_SELECT: u32 = 0x00_0070;
-
-const ROUTE_ENTRY: u32 = 0x00_0074;
-
-const DEFAULT_PORT: u32 = 0x00_0078;
 
 /// An entry that names no port, so that the default port counts (this project's profile).
 const NO_ENTRY: u8 = 255;

@@ -11,16 +11,10 @@ ghost use Rattle.host_enumerate.specs.TakingIn.{IsIdGiven, IsKindLeft, IsTakenIn
 
 use crate::asking::{read, write};
 use crate::maint::{Maint, MaintEnd};
+use crate::offsets::{COMPONENT_TAG, FEATURES, HOST_LOCK};
 use crate::setting::{give_id, send_home};
 use fabric_map::{Device, Kind, Path};
 use std::alloc::Global;
-
-/// The offsets of the registers (RapidIO Interconnect Specification 1.3, Part 1 and Part 3).
-const FEATURES: u32 = 0x00_0010;
-
-const HOST_LOCK: u32 = 0x00_0068;
-
-const COMPONENT_TAG: u32 = 0x00_006c;
 
 /// The bit of the features that a switch has.
 const SWITCH: u32 = 0x1000_0000;

@@ -15,24 +15,14 @@ ghost use Rattle.host_enumerate.specs.Ends.{IsEnded, EndsAtLock, IsFree};
 use crate::asking::read;
 use crate::ends::EnumEnd;
 use crate::maint::Maint;
+use crate::offsets::{ALONG_PATH, BASE_ID, FIRST_STATUS, STATUS_STEP};
 use crate::setting::set_entry;
 use crate::taking::{Holder, Numbering, take, take_in};
 use fabric_map::{Device, Kind, Map, Path, entries_of};
 use std::alloc::Global;
 
-/// The offsets of the registers (RapidIO Interconnect Specification 1.3, Part 3 and Part 6; the step
-/// from port to port is this project's profile).
-const OWN_ID: u32 = 0x00_0060;
-
-const FIRST_STATUS: u32 = 0x00_0158;
-
-const STATUS_STEP: u32 = 0x20;
-
 /// The status of a port with a link (this project's profile).
 const LINKED: u32 = 2;
-
-/// The destination by which a host asks along a path.
-const ALONG_PATH: u8 = 255;
 
 /// Tries a path: takes in the device behind it if it was not met before.
 fn meet<M: Maint>(
@@ -256,7 +246,7 @@ pub fn enumerate<M: Maint>(alloc: Global, maint: &mut M) -> Result<Map, EnumEnd>
     ensures undetected_stays { M.undetected maint.old ≤ M.undetected maint.new }
     ensures faults_stay { M.faults maint.old ≤ M.faults maint.new }
 {
-    let own_id = read(alloc, maint, &Path::of_host(), OWN_ID)?;
+    let own_id = read(alloc, maint, &Path::of_host(), BASE_ID)?;
     let devices = number_devices(alloc, maint, (own_id >> 16) as u8)?;
     let entries = entries_of(alloc, devices.as_slice())?;
     Ok(Map { devices, entries })
