@@ -63,7 +63,7 @@ kinds_stay (device ∷ devices) zero (suc n) change same = refl
 kinds_stay (device ∷ devices) (suc p) zero change same = refl
 kinds_stay (device ∷ devices) (suc p) (suc n) change same = kinds_stay devices p n change same
 
-switches_stay : (net : Network) (step : Step) (n : ℕ) → switch_at (after net step) n ≡ switch_at net n
+pub switches_stay : (net : Network) (step : Step) (n : ℕ) → switch_at (after net step) n ≡ switch_at net n
 switches_stay net (ByDevice (Answer p packet response)) n = kinds_stay net.registers p.node n (device_after p.port (request_of packet)) (device_kind p.port (request_of packet))
 switches_stay net (Linked (Hold q packet)) n = ap (λ devices. option_map is_switch (slice_get devices n)) (registers_stay net (Linked (Hold q packet)) refl)
 switches_stay net (Linked (Free p packet)) n = refl

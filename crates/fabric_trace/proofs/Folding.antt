@@ -143,15 +143,15 @@ moves_seen s a b side (Freed packet ∷ moves) = moves_seen (seen_line s (line_o
 
 -- ---- the network
 
-edited_net : (s : Seen) (edit : Option (PortRef × Edit)) → (edited_by s edit).network ≡ s.network
+pub edited_net : (s : Seen) (edit : Option (PortRef × Edit)) → (edited_by s edit).network ≡ s.network
 edited_net s None = refl
 edited_net s (Some edit) = refl
 
-got_net : (s : Seen) (peer : Option PortRef) (q : PortRef) (chars : List Char) → (got_from s peer q chars).network ≡ s.network
+pub got_net : (s : Seen) (peer : Option PortRef) (q : PortRef) (chars : List Char) → (got_from s peer q chars).network ≡ s.network
 got_net s None q chars = refl
 got_net s (Some p) q chars = refl
 
-fired_net : (s : Seen) (peer : Option PortRef) (p : PortRef) → (fired_from s peer p).network ≡ s.network
+pub fired_net : (s : Seen) (peer : Option PortRef) (p : PortRef) → (fired_from s peer p).network ≡ s.network
 fired_net s None p = refl
 fired_net s (Some q) p = refl
 

@@ -25,3 +25,4 @@ pub mod Fronting
 pub mod Failing
 pub mod Resting
 pub mod Shows
+pub mod Boards
