@@ -1,8 +1,5 @@
-pub mod ShowingLaws
-pub mod TurnLaws
-pub mod PassLaws
-pub mod PassingLaws
 pub mod BuiltLaws
-pub mod EventLaws
-pub mod ReplayingLaws
-pub mod PrintingLaws
+pub mod Joining
+pub mod Cutting
+pub mod Naming
+pub mod Telling

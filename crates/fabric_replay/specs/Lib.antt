@@ -1,9 +1,3 @@
-pub mod SetUps
-pub mod Unbuilt
-pub mod Carried
-pub mod Printing
-pub mod Turns
-pub mod Showing
-pub mod Passing
-pub mod Events
 pub mod Replaying
+pub mod Going
+pub mod Ending

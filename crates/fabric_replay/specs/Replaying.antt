@@ -1,50 +1,61 @@
 -- What a replay writes.
-use Rattle.std.specs.Prelude.{◌≡◌, ℕ, ◌⊎◌, false, List, take, Option}
+use Rattle.std.specs.Prelude.{◌≡◌, ◌≢◌, ◌⊎◌, ℕ, List, [], ◌∷◌, ◌++◌, Option, Some, None, codes}
 use Rattle.std.specs.Io.KnownBytes.{Appends}
-use Rattle.rio_chars.specs.Fronts.{AppendsFront}
-use Rattle.rio_chars.specs.Written.{Writes}
-use Rattle.rio_chars.specs.declared.outbox.Outbox.{Outbox}
+use Rattle.link_model.specs.declared.event.Event.{Event}
+use Rattle.fabric_script.specs.declared.ports.PortRef.{PortRef}
 use Rattle.fabric_script.specs.declared.lines.Numbered.{Numbered}
-use Rattle.fabric_model.specs.Network.{Network}
-use Rattle.fabric_model.specs.Steps.{LegalFrom}
-use Rattle.fabric_model.specs.Lines.{TraceLine, steps_of}
-use Rattle.fabric_model.specs.Text.{trace_text}
-use Rattle.fabric_model.specs.Seen.{seen}
-use Rattle.fabric_model.specs.Runs.{start, Runs, BlocksFrom, Begins}
 use Rattle.fabric_model.specs.Laws.Freeing.{IsFront}
-use Rattle.fabric_model.specs.Laws.Lawful.{Lawful}
-use Rattle.fabric_replay.specs.declared.fabric.Fabric.{Fabric}
-use Rattle.fabric_replay.specs.Events.{ShowsFabric, IsSetUpBy}
+use Rattle.fabric_trace.specs.Fold.{seen}
+use Rattle.fabric_trace.specs.Known.{Found}
+use Rattle.fabric_trace.specs.Lines.{TraceLine, Ended, Undetected}
+use Rattle.fabric_trace.specs.Runs.{start, Runs, Begins}
+use Rattle.fabric_trace.specs.Shown.{Shown}
+use Rattle.fabric_trace.specs.Text.{trace_line_text, trace_text}
 
--- The text of the one trace of the script was written, and the steps that it says are lawful.
+-- The text of the one trace of the script was written, and all laws hold of it.
 pub record Replayed (names : List (List ℕ)) (script : List Numbered)
     (written written_after : Option (List ℕ)) : Type 0 where
   pub lines : List TraceLine
-  pub network : Network
   pub told : Appends written written_after (trace_text names lines)
   pub runs : Runs script lines
   pub only : (other : List TraceLine) → Runs script other → other ≡ lines
-  pub lawful : Lawful (start script).network (steps_of lines) network
+  pub shown : Shown script lines
 
--- A front was written of the text of lines that are the trace, or its first blocks, and so a front
--- of it; their steps are lawful.
+-- The last line is this one, and so much is found by the lines before it of an event that was acted on and not sent.
+pub record EndsWith (script : List Numbered) (lines : List TraceLine) (last : TraceLine)
+    (found : Option Found) : Type 0 where
+  pub front : List TraceLine
+  pub ends : lines ≡ front ++ last ∷ []
+  pub finds : (seen (start script) front).unfaithful ≡ found
+
+-- All events were carried out, and every event that was acted on was sent.
+pub record ReplayedWhole (names : List (List ℕ)) (script : List Numbered)
+    (written written_after : Option (List ℕ)) : Type 0 where
+  pub replayed : Replayed names script written written_after
+  pub ends : EndsWith script replayed.lines Ended None
+
+-- The events were carried out up to this one, which the port acted on and which was not sent: the first of its kind.
+pub record ReplayedUnsent (names : List (List ℕ)) (script : List Numbered) (line : ℕ)
+    (port : PortRef) (event : Event) (written written_after : Option (List ℕ)) : Type 0 where
+  pub replayed : Replayed names script written written_after
+  pub ends : EndsWith script replayed.lines (Undetected line port event)
+      (Some (record { port = port; event = event }))
+
+-- bytes are less than the text of the first of these lines, with its line feed
+abbrev pub IsPart : List (List ℕ) → List TraceLine → List ℕ → Type 0
+IsPart names [] bytes = bytes ≡ []
+IsPart names (line ∷ lines) bytes = (left : List ℕ) × (left ≢ [])
+    × (trace_line_text names line ++ codes "\n" ≡ bytes ++ left)
+
+-- A front of the text was written: these whole lines, and a part of the one behind them. With what comes behind, the
+-- lines are the trace, or the blocks of its first events, and so they are a front of any trace. All laws hold of them.
 pub record ReplayedFront (names : List (List ℕ)) (script : List Numbered)
     (written written_after : Option (List ℕ)) : Type 0 where
   pub lines : List TraceLine
-  pub network : Network
-  pub told : AppendsFront written written_after (trace_text names lines)
-  pub begins : Begins script lines ⊎ Runs script lines
+  pub behind : List TraceLine
+  pub part : List ℕ
+  pub told : Appends written written_after (trace_text names lines ++ part)
+  pub cut : IsPart names behind part
+  pub begins : Begins script (lines ++ behind) ⊎ Runs script (lines ++ behind)
   pub front : (all : List TraceLine) → Runs script all → IsFront lines all
-  pub lawful : Lawful (start script).network (steps_of lines) network
-
--- how far a replay has come: the blocks of the first events of the script were told
-pub record Going {K : Type 0} (written : K → Option (List ℕ)) (faults : K → ℕ)
-    (begun out : Outbox K) (names : List (List ℕ)) (script : List Numbered) (count : ℕ)
-    (fabric : Fabric) : Type 0 where
-  pub lines : List TraceLine
-  pub told : Writes written faults begun out (trace_text names lines)
-  pub fine : out.failed ≡ false
-  pub blocks : BlocksFrom (start script) (take count script) lines
-  pub legal : LegalFrom (start script).network (steps_of lines) (seen (start script) lines).network
-  pub set_up : IsSetUpBy script fabric
-  pub shows : ShowsFabric fabric (seen (start script) lines).network
+  pub shown : Shown script lines

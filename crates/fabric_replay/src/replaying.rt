@@ -1,24 +1,37 @@
 //! A script is carried out and its trace written.
-ghost use Rattle.std.specs.Prelude.{◌≤◌, ◌≡◌, true, false, [], None, IsErrOf, OnOk};
-ghost use Rattle.std.specs.Io.KnownBytes.{Keeps};
+ghost use Rattle.std.specs.Prelude.{◌≤◌, ◌≡◌, ℕ, true, false, [], None, Some, IsErrOf, OnOk};
 ghost use Rattle.rio_chars.specs.Faults.{Rose};
 ghost use Rattle.fabric_script.specs.Scripts.{Passes};
-ghost use Rattle.fabric_model.specs.Runs.{start};
-ghost use Rattle.fabric_replay.specs.Unbuilt.{unbuilt_in};
-ghost use Rattle.fabric_replay.specs.Events.{ShowsFabric, IsSetUpBy};
-ghost use Rattle.fabric_replay.specs.Replaying.{Replayed, ReplayedFront};
+ghost use Rattle.fabric_script.specs.declared.ports.PortRef.{PortRef as Port};
+ghost use Rattle.fabric_trace.specs.Lines.{Ended, Undetected as UnsentLine};
+ghost use Rattle.fabric_trace.specs.Runs.{bare, set_up_all};
+ghost use Rattle.fabric_ports.specs.Standing.{Stands};
+ghost use Rattle.link_model.specs.declared.event.Event.{Event as LinkEvent};
+ghost use Rattle.fabric_ports.specs.Built.{unbuilt_in};
+ghost use Rattle.fabric_replay.specs.Replaying.{ReplayedWhole, ReplayedUnsent, ReplayedFront};
+ghost use Rattle.fabric_replay.specs.Going.{ToldFront, ToldWhole};
+ghost use Rattle.fabric_replay.specs.Ending.{IsNamed, EndsBy};
 ghost use Rattle.fabric_replay.specs.declared.replaying.ReplayEnd.TheVariants.{NoMemory};
 
-use crate::fabric::Fabric;
-use fabric_script::Script;
+use fabric_ports::{EventEnd, Fabric};
+use fabric_script::{Name, PortRef, Script};
+use link_model::Event;
 use rio_chars::{Outbox, Sink, TextBuffer};
 use std::alloc::Global;
+use trace_lines::{write_end, write_undetected};
 
 /// Why a replay ended early.
-#[derive(Clone, Copy, Debug, PartialEq, Eq)]
+#[derive(Debug, Drop)]
 pub enum ReplayEnd {
     /// The sink failed.
     WriteFault,
+    /// A port acted on an event that was not sent, in the event of this line of the script: a
+    /// corruption that no check of the link has found.
+    Undetected {
+        line: u32,
+        port: PortRef,
+        event: Event,
+    },
     /// Memory ran out.
     NoMemory,
 }
@@ -35,20 +48,27 @@ impl From<rio_chars::NoMemory> for ReplayEnd {
 /// script passes, as each that `parse` of `fabric_script` answers does, and none of its lines is
 /// unbuilt.
 ///
-/// WriteFault comes only if the sink's count of faults rose, and the count rises at no other
-/// answer: then a front of the trace was written, and nothing more is carried out after the event
-/// in which a write failed. All memory is taken before anything is written.
+/// The trace ends with the line `end`, or with the line `undetected` that names the first event
+/// that a port acted on and that was not sent; then the answer is Undetected. WriteFault comes only
+/// if the sink's count of faults rose, and the count rises at no other answer. At WriteFault and
+/// NoMemory a front of the trace was written: whole lines, and a part of one more. Nothing more is
+/// carried out after the event in which a write failed.
 pub fn replay<K: Sink>(alloc: Global, script: &Script, sink: &mut K) -> Result<(), ReplayEnd>
     requires passes { Passes script.now.names.items script.now.lines.items }
     requires built { unbuilt_in script.now.lines.items ≡ None }
-    ensures done { OnOk result (Replayed script.now.names.items script.now.lines.items
+    ensures done { OnOk result (ReplayedWhole script.now.names.items script.now.lines.items
         (K.written sink.old) (K.written sink.new)) }
+    ensures undetected { (line : ℕ) (port : Port) (event : LinkEvent)
+        → IsErrOf result (ReplayEnd.Undetected line port event)
+        → ReplayedUnsent script.now.names.items script.now.lines.items line port event
+        (K.written sink.old) (K.written sink.new) }
     ensures write_fault { IsErrOf result ReplayEnd.WriteFault
         → Rose (K.faults sink.old) (K.faults sink.new)
         × ReplayedFront script.now.names.items script.now.lines.items
         (K.written sink.old) (K.written sink.new) }
     ensures no_memory { IsErrOf result ReplayEnd.NoMemory
-        → Keeps (K.written sink.old) (K.written sink.new) }
+        → ReplayedFront script.now.names.items script.now.lines.items
+        (K.written sink.old) (K.written sink.new) }
     ensures counts { ¬ IsErrOf result ReplayEnd.WriteFault
         → K.faults sink.new ≡ K.faults sink.old }
     ensures never_falls { K.faults sink.old ≤ K.faults sink.new }
@@ -56,41 +76,94 @@ pub fn replay<K: Sink>(alloc: Global, script: &Script, sink: &mut K) -> Result<(
     let mut buffer = TextBuffer::new(alloc)?;
     let mut fabric = Fabric::new(alloc, script)?;
     let mut outbox = Outbox::new(&mut buffer, sink);
-    write_trace(script, &mut fabric, &mut outbox);
-    if outbox.failed() {
-        return Err(ReplayEnd::WriteFault);
-    }
-    Ok(())
+    write_trace(alloc, script, &mut fabric, &mut outbox)
 }
 
-/// Carries out the events and writes the trace, up to the event in which a write failed.
-fn write_trace<K: Sink>(script: &Script, fabric: &mut Fabric, outbox: &mut Outbox<K>)
+/// Carries out the events and hands their lines to the sink, up to the event in which a write
+/// failed.
+fn write_trace<K: Sink>(
+    alloc: Global,
+    script: &Script,
+    fabric: &mut Fabric,
+    outbox: &mut Outbox<K>,
+) -> Result<(), ReplayEnd>
     requires passes { Passes script.now.names.items script.now.lines.items }
     requires built { unbuilt_in script.now.lines.items ≡ None }
-    requires set_up { IsSetUpBy script.now.lines.items fabric.old }
-    requires shows { ShowsFabric fabric.old (start script.now.lines.items).network }
+    requires stands { Stands (set_up_all bare script.now.lines.items) [] fabric.old }
     requires fine { outbox.old.failed ≡ false }
     requires empty { outbox.old.buffer.now ≡ [] }
     ensures same { outbox.new.sink.ghost_name ≡ outbox.old.sink.ghost_name }
-    ensures done { outbox.new.failed ≡ false
-        → Replayed script.now.names.items script.now.lines.items
+    ensures done { OnOk result (ReplayedWhole script.now.names.items script.now.lines.items
+        (K.written outbox.old.sink.now) (K.written outbox.new.sink.now)) }
+    ensures undetected { (line : ℕ) (port : Port) (event : LinkEvent)
+        → IsErrOf result (ReplayEnd.Undetected line port event)
+        → ReplayedUnsent script.now.names.items script.now.lines.items line port event
         (K.written outbox.old.sink.now) (K.written outbox.new.sink.now) }
-    ensures write_fault { outbox.new.failed ≡ true
+    ensures write_fault { IsErrOf result ReplayEnd.WriteFault
         → Rose (K.faults outbox.old.sink.now) (K.faults outbox.new.sink.now)
         × ReplayedFront script.now.names.items script.now.lines.items
         (K.written outbox.old.sink.now) (K.written outbox.new.sink.now) }
-    ensures counts { outbox.new.failed ≡ false
+    ensures no_memory { IsErrOf result ReplayEnd.NoMemory
+        → ReplayedFront script.now.names.items script.now.lines.items
+        (K.written outbox.old.sink.now) (K.written outbox.new.sink.now) }
+    ensures counts { ¬ IsErrOf result ReplayEnd.WriteFault
         → K.faults outbox.new.sink.now ≡ K.faults outbox.old.sink.now }
     ensures never_falls { K.faults outbox.old.sink.now ≤ K.faults outbox.new.sink.now }
 {
+    let end = tell_trace(alloc, script, fabric, outbox);
+    outbox.flush();
+    if outbox.failed() {
+        return Err(ReplayEnd::WriteFault);
+    }
+    end
+}
+
+/// Carries out the events and tells their lines, up to the event in which a write failed.
+fn tell_trace<K: Sink>(
+    alloc: Global,
+    script: &Script,
+    fabric: &mut Fabric,
+    outbox: &mut Outbox<K>,
+) -> Result<(), ReplayEnd>
+    requires passes { Passes script.now.names.items script.now.lines.items }
+    requires built { unbuilt_in script.now.lines.items ≡ None }
+    requires stands { Stands (set_up_all bare script.now.lines.items) [] fabric.old }
+    requires fine { outbox.old.failed ≡ false }
+    ensures front { ToldFront K.written K.faults outbox.old outbox.new
+        script.now.names.items script.now.lines.items }
+    ensures done { OnOk result (ToldWhole K.written K.faults outbox.old outbox.new
+        script.now.names.items script.now.lines.items Ended None) }
+    ensures undetected { (line : ℕ) (port : Port) (event : LinkEvent)
+        → IsErrOf result (ReplayEnd.Undetected line port event)
+        → ToldWhole K.written K.faults outbox.old outbox.new
+        script.now.names.items script.now.lines.items (UnsentLine line port event)
+        (Some (record { port = port; event = event })) }
+    ensures write_fault { IsErrOf result ReplayEnd.WriteFault → outbox.new.failed ≡ true }
+{
     for numbered in &script.lines {
         if numbered.line.is_event() {
-            fabric.event(&script.names, &numbered.line, outbox);
+            if let Err(end) = fabric.event(alloc, &script.names, &numbered.line, outbox) {
+                return Err(tell_end(&script.names, numbered.number, end, outbox));
+            }
             if outbox.failed() {
-                return;
+                return Err(ReplayEnd::WriteFault);
             }
         }
     }
-    outbox.write(b"end\n");
-    outbox.flush();
+    write_end(outbox);
+    Ok(())
+}
+
+/// Tells the last line of a trace that ends early, if it has one, and answers why it ends.
+fn tell_end<K: Sink>(names: &[Name], line: u32, end: EventEnd, outbox: &mut Outbox<K>) -> ReplayEnd
+    requires { IsNamed names.now end }
+    ensures { EndsBy end line names.now K.written K.faults outbox.old outbox.new result }
+{
+    match end {
+        EventEnd::Undetected { port, event } => {
+            write_undetected(outbox, names, line, port, &event);
+            ReplayEnd::Undetected { line, port, event }
+        }
+        EventEnd::NoMemory => ReplayEnd::NoMemory,
+    }
 }

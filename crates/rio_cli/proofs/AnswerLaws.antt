@@ -8,7 +8,7 @@ use Rattle.rio_chars.specs.Takings.{ConsumesJust, ConsumesUpTo}
 use Rattle.fabric_script.proofs.ScriptLaws.{not_refused, refused_once, script_once}
 use Rattle.fabric_script.specs.Scripts.{IsScript}
 use Rattle.fabric_script.specs.declared.lines.Numbered.{Numbered}
-use Rattle.fabric_replay.specs.Unbuilt.{unbuilt_in}
+use Rattle.fabric_ports.specs.Built.{unbuilt_in}
 use Rattle.rio_cli.specs.declared.command.Command.{Command}
 use Rattle.rio_cli.specs.declared.command.Command.TheVariants.{Replay, Decode}
 use Rattle.rio_cli.specs.Words.{Asks, AreUnknown}
@@ -17,7 +17,7 @@ use Rattle.rio_cli.proofs.WordLaws.{no_bad_word, bad_word_once}
 use Rattle.rio_cli.specs.declared.status.Status.{Status}
 use Rattle.rio_cli.specs.declared.status.Status.TheVariants.{Done, Words, Script, ReadFault, WriteFault, NoMemory, Undetected, TooLong, Locked}
 use Rattle.rio_cli.specs.Inputs.{most_input}
-use Rattle.rio_cli.specs.Outputs.{SpellsBuilt, RefusesScript, IsAccepted, IsRefused, Completes, Declines, Gave, OfInput, refusal_text}
+use Rattle.rio_cli.specs.Outputs.{SpellsBuilt, RefusesScript, IsAccepted, IsRefused, Completes, Exposes, RunsOut, Declines, Gave, OfInput, refusal_text}
 use Rattle.rio_cli.specs.Answers.{Answers, SaysOfBytes, SaysOfInput, Refuses, RefusesInput, RefusesBytes}
 
 -- a source that told its bytes gave just these
@@ -61,7 +61,7 @@ module _ (command : Command) (l l2 : Option (List ℕ)) (r r' : ℕ) (w : Option
   pub accepts : (answer : Status) → SaysOfInput command answer l l2 r r' w f w' f2
       → (bytes : List ℕ) → l ≡ Some bytes → length bytes ≤ most_input
       → (Declines command bytes w w' → ⊥)
-      → ¬ Rose r r' → ¬ Rose f f2 → (answer ≡ Done) ⊎ (answer ≡ NoMemory)
+      → ¬ Rose r r' → ¬ Rose f f2 → (answer ≡ Done) ⊎ ((answer ≡ Undetected) ⊎ (answer ≡ NoMemory))
   accepts Done h bytes e fits never calm calm2 = inl refl
   accepts Words h bytes e fits never calm calm2 = absurd h
   accepts Script h bytes e fits never calm calm2 =
@@ -69,8 +69,8 @@ module _ (command : Command) (l l2 : Option (List ℕ)) (r r' : ℕ) (w : Option
       (never (subst (λ b. Declines command b w w') (gave_all bytes h.bytes l l2 e h.gave) h.holds))
   accepts ReadFault h bytes e fits never calm calm2 = absurd (calm h.0)
   accepts WriteFault h bytes e fits never calm calm2 = absurd (calm2 h.0)
-  accepts NoMemory h bytes e fits never calm calm2 = inr refl
-  accepts Undetected h bytes e fits never calm calm2 = absurd h
+  accepts NoMemory h bytes e fits never calm calm2 = inr (inr refl)
+  accepts Undetected h bytes e fits never calm calm2 = inr (inl refl)
   accepts TooLong h bytes e fits never calm calm2 =
       let more = took_more bytes l l2 e h.0 in absurd (omega arith)
   accepts Locked h bytes e fits never calm calm2 = absurd h
@@ -78,20 +78,22 @@ module _ (command : Command) (l l2 : Option (List ℕ)) (r r' : ℕ) (w : Option
   -- an input that is not to be carried out
   pub refuses : (answer : Status) → SaysOfInput command answer l l2 r r' w f w' f2
       → (bytes : List ℕ) → l ≡ Some bytes → length bytes ≤ most_input
-      → (Completes command bytes w w' → ⊥)
+      → (Completes command bytes w w' → ⊥) → (Exposes command bytes w w' → ⊥)
       → ¬ Rose r r' → ¬ Rose f f2 → (answer ≡ Script) ⊎ (answer ≡ NoMemory)
-  refuses Done h bytes e fits never calm calm2 =
+  refuses Done h bytes e fits never either calm calm2 =
       absurd
       (never (subst (λ b. Completes command b w w') (gave_all bytes h.bytes l l2 e h.gave) h.holds))
-  refuses Words h bytes e fits never calm calm2 = absurd h
-  refuses Script h bytes e fits never calm calm2 = inl refl
-  refuses ReadFault h bytes e fits never calm calm2 = absurd (calm h.0)
-  refuses WriteFault h bytes e fits never calm calm2 = absurd (calm2 h.0)
-  refuses NoMemory h bytes e fits never calm calm2 = inr refl
-  refuses Undetected h bytes e fits never calm calm2 = absurd h
-  refuses TooLong h bytes e fits never calm calm2 =
+  refuses Words h bytes e fits never either calm calm2 = absurd h
+  refuses Script h bytes e fits never either calm calm2 = inl refl
+  refuses ReadFault h bytes e fits never either calm calm2 = absurd (calm h.0)
+  refuses WriteFault h bytes e fits never either calm calm2 = absurd (calm2 h.0)
+  refuses NoMemory h bytes e fits never either calm calm2 = inr refl
+  refuses Undetected h bytes e fits never either calm calm2 =
+      absurd
+      (either (subst (λ b. Exposes command b w w') (gave_all bytes h.bytes l l2 e h.gave) h.holds))
+  refuses TooLong h bytes e fits never either calm calm2 =
       let more = took_more bytes l l2 e h.0 in absurd (omega arith)
-  refuses Locked h bytes e fits never calm calm2 = absurd h
+  refuses Locked h bytes e fits never either calm calm2 = absurd h
 
   is_too_long : (bytes given : List ℕ) → l ≡ Some bytes → most_input < length bytes
       → Gave l l2 given → ⊥
@@ -108,7 +110,7 @@ module _ (command : Command) (l l2 : Option (List ℕ)) (r r' : ℕ) (w : Option
   lengthy ReadFault h bytes e long calm calm2 = absurd (calm h.0)
   lengthy WriteFault h bytes e long calm calm2 = absurd (calm2 h.0)
   lengthy NoMemory h bytes e long calm calm2 = inr refl
-  lengthy Undetected h bytes e long calm calm2 = absurd h
+  lengthy Undetected h bytes e long calm calm2 = absurd (is_too_long bytes h.bytes e long h.gave)
   lengthy TooLong h bytes e long calm calm2 = inl refl
   lengthy Locked h bytes e long calm calm2 = absurd h
 
@@ -164,6 +166,12 @@ completed : (command : Command) (bytes : List ℕ) (w w' : Option (List ℕ))
 completed Replay bytes w w' h = (h.names, h.script, h.spells, h.built)
 completed Decode bytes w w' h = (h.decoded.chars, h.decoded.spells)
 
+-- what an input is of which all was written up to an event that was not sent
+exposed : (command : Command) (bytes : List ℕ) (w w' : Option (List ℕ))
+    → Exposes command bytes w w' → IsAccepted command bytes
+exposed Replay bytes w w' h = (h.names, h.script, h.spells, h.built)
+exposed Decode bytes w w' h = absurd h
+
 pub accepted_stays : (command : Command) (bytes : List ℕ) (w w' : Option (List ℕ))
     → IsAccepted command bytes → Declines command bytes w w' → ⊥
 accepted_stays command bytes w w' is h = not_refused_too command bytes h.line h.reason is h.refused
@@ -172,6 +180,11 @@ pub refused_stays : (command : Command) (bytes : List ℕ) (line reason : ℕ) (
     → IsRefused command bytes line reason → Completes command bytes w w' → ⊥
 refused_stays command bytes line reason w w' is h =
     not_refused_too command bytes line reason (completed command bytes w w' h) is
+
+pub refused_is_not_exposed : (command : Command) (bytes : List ℕ) (line reason : ℕ) (w w' : Option (List ℕ))
+    → IsRefused command bytes line reason → Exposes command bytes w w' → ⊥
+refused_is_not_exposed command bytes line reason w w' is h =
+    not_refused_too command bytes line reason (exposed command bytes w w' h) is
 
 -- no words ask for two commands
 apart : (words : List (List ℕ)) → Asks Replay words → Asks Decode words → ⊥
@@ -187,6 +200,13 @@ same_command Decode Decode words h k = refl
 pub unknown : (words : List (List ℕ)) → ¬ Asks Replay words → ¬ Asks Decode words → AreUnknown words
 unknown words replay decode Replay is = replay is
 unknown words replay decode Decode is = decode is
+
+-- memory ran out before anything was written, or while the input was carried out
+pub ran_out : (command : Command) (words : List (List ℕ)) (l l2 w w' : Option (List ℕ)) → Asks command words
+    → Keeps w w' ⊎ OfInput l l2 (λ bytes. RunsOut command bytes w w')
+    → Keeps w w' ⊎ ((k : Command) × Asks k words × OfInput l l2 (λ bytes. RunsOut k bytes w w'))
+ran_out command words l l2 w w' known (inl none) = inl none
+ran_out command words l l2 w w' known (inr some) = inr (command, known, some)
 
 -- ---- the line that is refused
 
@@ -259,7 +279,7 @@ says_line command bytes status line reason w f w' f2 is (inl (inr failed)) =
       }),
     )
 says_line command bytes status line reason w f w' f2 is (inr none) =
-    subst (λ s. SaysOfBytes command s bytes w f w' f2) (sym none.0) none.1
+    subst (λ s. SaysOfBytes command s bytes w f w' f2) (sym none.0) (inl none.1)
 
 -- ---- a refusal answers its own status or WriteFault
 

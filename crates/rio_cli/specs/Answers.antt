@@ -9,7 +9,7 @@ use Rattle.rio_cli.specs.declared.command.Command.{Command}
 use Rattle.rio_cli.specs.declared.status.Status.{Status}
 use Rattle.rio_cli.specs.declared.status.Status.TheVariants.{Done, Words, Script, ReadFault, WriteFault, NoMemory, Undetected, TooLong, Locked}
 use Rattle.rio_cli.specs.Inputs.{most_input, Offers, IsFaultless}
-use Rattle.rio_cli.specs.Outputs.{IsAccepted, IsRefused, Completes, Declines, Breaks, OfInput, refused_words, refused_length, refusal_text}
+use Rattle.rio_cli.specs.Outputs.{IsAccepted, IsRefused, Completes, Exposes, RunsOut, Declines, Breaks, OfInput, refused_words, refused_length, refusal_text}
 use Rattle.rio_cli.specs.Words.{Asks, AreUnknown}
 
 -- What a call of the program says that ends with this status: of the words after the program's
@@ -24,11 +24,14 @@ pub record Ended {S : Type 0} {K : Type 0} (asked : List (List ℕ)) (status : S
   pub other_words : AreUnknown asked → (source_after ≡ source)
       × ((status ≡ Words) ⊎ ((status ≡ WriteFault)
       × AppendsFront (written sink) (written sink_after) refused_words))
-  -- The input was read to its end and carried out, and all was written; or it is refused, and a
-  -- line says so.
+  -- The input was read to its end and carried out, and all was written: to the end, or to the first event that a port
+  -- acted on and that was not sent. Or it is refused, and a line says so.
   pub done : status ≡ Done → (command : Command) × Asks command asked
       × OfInput (left source) (left source_after)
       (λ bytes. Completes command bytes (written sink) (written sink_after))
+  pub undetected : status ≡ Undetected → (command : Command) × Asks command asked
+      × OfInput (left source) (left source_after)
+      (λ bytes. Exposes command bytes (written sink) (written sink_after))
   pub script : status ≡ Script → (command : Command) × Asks command asked
       × OfInput (left source) (left source_after)
       (λ bytes. Declines command bytes (written sink) (written sink_after))
@@ -53,13 +56,17 @@ pub record Ended {S : Type 0} {K : Type 0} (asked : List (List ℕ)) (status : S
   pub writes_counted : status ≢ WriteFault → write_faults sink_after ≡ write_faults sink
   pub never_falls : (read_faults source ≤ read_faults source_after)
       × (write_faults sink ≤ write_faults sink_after)
+  -- Memory ran out before anything was written, or while the input was carried out.
   pub no_memory : status ≡ NoMemory → Keeps (written sink) (written sink_after)
-  pub never : (status ≢ Undetected) × (status ≢ Locked)
+      ⊎ ((command : Command) × Asks command asked × OfInput (left source) (left source_after)
+      (λ bytes. RunsOut command bytes (written sink) (written sink_after)))
+  pub never : status ≢ Locked
   -- With words that ask for a command and no fault the input decides, unless memory runs out.
   pub accepted : (command : Command) (bytes : List ℕ) → Asks command asked
       → Offers (left source) bytes → IsAccepted command bytes
       → IsFaultless (read_faults source) (read_faults source_after) (write_faults sink)
-      (write_faults sink_after) → (status ≡ Done) ⊎ (status ≡ NoMemory)
+      (write_faults sink_after)
+      → (status ≡ Done) ⊎ ((status ≡ Undetected) ⊎ (status ≡ NoMemory))
   pub refused : (command : Command) (bytes : List ℕ) (line reason : ℕ) → Asks command asked
       → Offers (left source) bytes → IsRefused command bytes line reason
       → IsFaultless (read_faults source) (read_faults source_after) (write_faults sink)
@@ -100,8 +107,9 @@ SaysOfBytes command ReadFault bytes written faults written_after faults_after = 
 SaysOfBytes command WriteFault bytes written faults written_after faults_after =
     Rose faults faults_after × Breaks command bytes written written_after
 SaysOfBytes command NoMemory bytes written faults written_after faults_after =
-    Keeps written written_after
-SaysOfBytes command Undetected bytes written faults written_after faults_after = ⊥
+    Keeps written written_after ⊎ RunsOut command bytes written written_after
+SaysOfBytes command Undetected bytes written faults written_after faults_after =
+    Exposes command bytes written written_after
 SaysOfBytes command TooLong bytes written faults written_after faults_after = ⊥
 SaysOfBytes command Locked bytes written faults written_after faults_after = ⊥
 
@@ -133,8 +141,9 @@ SaysOfInput command WriteFault left left_after read read_after written faults wr
     ⊎ OfInput left left_after (λ bytes. Breaks command bytes written written_after))
 SaysOfInput command NoMemory left left_after read read_after written faults written_after
     faults_after = Keeps written written_after
+    ⊎ OfInput left left_after (λ bytes. RunsOut command bytes written written_after)
 SaysOfInput command Undetected left left_after read read_after written faults written_after
-    faults_after = ⊥
+    faults_after = OfInput left left_after (λ bytes. Exposes command bytes written written_after)
 SaysOfInput command TooLong left left_after read read_after written faults written_after
     faults_after = ConsumesJust left left_after (most_input + 1)
     × Appends written written_after refused_length

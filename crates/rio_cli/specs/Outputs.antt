@@ -1,12 +1,14 @@
 -- What the program writes.
 use Rattle.std.specs.Prelude.{◌≡◌, ◌≤◌, ℕ, ◌⊎◌, List, ◌++◌, Option, Some, None, codes, length}
 use Rattle.std.specs.Fmt.{decimal}
-use Rattle.std.specs.Io.KnownBytes.{Appends, Consumes, IsAtEnd}
+use Rattle.std.specs.Io.KnownBytes.{Appends, Consumes, IsAtEnd, Keeps}
 use Rattle.rio_chars.specs.Fronts.{AppendsFront}
+use Rattle.link_model.specs.declared.event.Event.{Event}
 use Rattle.fabric_script.specs.declared.lines.Numbered.{Numbered}
+use Rattle.fabric_script.specs.declared.ports.PortRef.{PortRef}
 use Rattle.fabric_script.specs.Scripts.{IsScript, RefusedAt}
-use Rattle.fabric_replay.specs.Unbuilt.{unbuilt_in}
-use Rattle.fabric_replay.specs.Replaying.{Replayed, ReplayedFront}
+use Rattle.fabric_ports.specs.Built.{unbuilt_in}
+use Rattle.fabric_replay.specs.Replaying.{ReplayedWhole, ReplayedUnsent, ReplayedFront}
 use Rattle.rio_chars.specs.declared.chars.Char.{Char}
 use Rattle.rio_cli.specs.Decoding.{SpellsChars, BadWordAt, Decodes, DecodesFront}
 use Rattle.rio_cli.specs.Inputs.{most_input}
@@ -25,13 +27,26 @@ refused_words = codes "refused words\n"
 abbrev pub refused_length : List ℕ
 refused_length = codes "refused length\n"
 
--- The bytes spell a script of which all is built, and the text of its trace was written.
+-- The bytes spell a script of which all is built. The text of its trace was written, and every event that a port acted
+-- on was sent.
 pub record Traces (bytes : List ℕ) (written written_after : Option (List ℕ)) : Type 0 where
   pub names : List (List ℕ)
   pub script : List Numbered
   pub spells : IsScript bytes names script
   pub built : unbuilt_in script ≡ None
-  pub replayed : Replayed names script written written_after
+  pub replayed : ReplayedWhole names script written written_after
+
+-- The bytes spell a script of which all is built. The text of its trace was written, up to the line that names the first
+-- event that a port acted on and that was not sent.
+pub record TracesUnsent (bytes : List ℕ) (written written_after : Option (List ℕ)) : Type 0 where
+  pub names : List (List ℕ)
+  pub script : List Numbered
+  pub spells : IsScript bytes names script
+  pub built : unbuilt_in script ≡ None
+  pub line : ℕ
+  pub port : PortRef
+  pub event : Event
+  pub replayed : ReplayedUnsent names script line port event written written_after
 
 -- The bytes spell a script of which all is built, and a front of its trace was written.
 pub record TracesFront (bytes : List ℕ) (written written_after : Option (List ℕ)) : Type 0 where
@@ -79,6 +94,17 @@ Completes Decode = Decodes
 abbrev pub CompletesFront : Command → List ℕ → Option (List ℕ) → Option (List ℕ) → Type 0
 CompletesFront Replay = TracesFront
 CompletesFront Decode = DecodesFront
+
+-- the input is carried out up to an event that a port acted on and that was not sent, and all was written that the
+-- command writes then
+abbrev pub Exposes : Command → List ℕ → Option (List ℕ) → Option (List ℕ) → Type 0
+Exposes Replay = TracesUnsent
+Exposes Decode = λ bytes written written_after. ⊥
+
+-- memory ran out while the input was carried out, and so much was written
+abbrev pub RunsOut : Command → List ℕ → Option (List ℕ) → Option (List ℕ) → Type 0
+RunsOut Replay = TracesFront
+RunsOut Decode = λ bytes written written_after. Keeps written written_after
 
 -- ---- what is the same for all commands
 

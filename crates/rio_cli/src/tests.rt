@@ -19,8 +19,66 @@ const SCRIPT: &[u8] =
 /// The events of the script, and what they tell.
 const EVENTS: &[u8] = b"send A 0 15 2 cafe0001\nsettle A.0\ncollect B\n";
 
-const EVENTS_TRACE: &[u8] =
-    b"> send A 0 15 2 cafe0001\ntake A 000f0201cafe0001a9bb0000\n> settle A.0\nhold B.0 000f0201cafe0001a9bb0000\nfree A.0 000f0201cafe0001a9bb0000\n> collect B\nleave B 000f0201cafe0001a9bb0000\n";
+const EVENTS_TRACE: &[u8] = b"> send A 0 15 2 cafe0001\n\
+take A 000f0201cafe0001a9bb0000\n\
+> settle A.0\n\
+sent A.0 k7c d80 df8 d1f d00 d0f d02 d01 dca dfe d00 d01 da9 dbb d00 d00 k7c d80 dfa \
+d18\n\
+got B.0 k7c d80 df8 d1f d00 d0f d02 d01 dca dfe d00 d01 da9 dbb d00 d00 k7c d80 dfa \
+d18\n\
+hold B.0 000f0201cafe0001a9bb0000\n\
+sent B.0 k1c d00 dff d16\n\
+got A.0 k1c d00 dff d16\n\
+free A.0 000f0201cafe0001a9bb0000\n\
+> collect B\n\
+leave B 000f0201cafe0001a9bb0000\n";
+
+/// A packet is corrupted on the wire, refused, and sent again.
+const CORRUPTED: &[u8] = b"send A 0 15 2 cafe0001\npump A.0 1\nalter A.0 8 dcb\nsettle A.0\n";
+
+const CORRUPTED_TRACE: &[u8] = b"> send A 0 15 2 cafe0001\n\
+take A 000f0201cafe0001a9bb0000\n\
+> pump A.0 1\n\
+sent A.0 k7c d80 df8 d1f d00 d0f d02 d01 dca dfe d00 d01 da9 dbb d00 d00 k7c d80 dfa \
+d18\n\
+> alter A.0 8 dcb\n\
+> settle A.0\n\
+got B.0 k7c d80 df8 d1f d00 d0f d02 d01 dcb dfe d00 d01 da9 dbb d00 d00 k7c d80 dfa \
+d18\n\
+sent B.0 k1c d40 d27 d12\n\
+got A.0 k1c d40 d27 d12\n\
+sent A.0 k1c d80 dfc d87\n\
+got B.0 k1c d80 dfc d87\n\
+sent B.0 k1c dc0 d2f d17\n\
+got A.0 k1c dc0 d2f d17\n\
+sent A.0 k7c d80 df8 d1f d00 d0f d02 d01 dca dfe d00 d01 da9 dbb d00 d00 k7c d80 dfa \
+d18\n\
+got B.0 k7c d80 df8 d1f d00 d0f d02 d01 dca dfe d00 d01 da9 dbb d00 d00 k7c d80 dfa \
+d18\n\
+hold B.0 000f0201cafe0001a9bb0000\n\
+sent B.0 k1c d00 dff d16\n\
+got A.0 k1c d00 dff d16\n\
+free A.0 000f0201cafe0001a9bb0000\n\
+end\n";
+
+/// A port acts on a symbol that nobody sent.
+const UNSENT: &[u8] =
+    b"send A 0 15 2 cafe0001\npump A.0 1\ndeliver A.0 20\nalter B.0 1 dd4\ndeliver B.0 4\n";
+
+const UNSENT_TRACE: &[u8] = b"> send A 0 15 2 cafe0001\n\
+take A 000f0201cafe0001a9bb0000\n\
+> pump A.0 1\n\
+sent A.0 k7c d80 df8 d1f d00 d0f d02 d01 dca dfe d00 d01 da9 dbb d00 d00 k7c d80 dfa \
+d18\n\
+> deliver A.0 20\n\
+got B.0 k7c d80 df8 d1f d00 d0f d02 d01 dca dfe d00 d01 da9 dbb d00 d00 k7c d80 dfa \
+d18\n\
+hold B.0 000f0201cafe0001a9bb0000\n\
+sent B.0 k1c d00 dff d16\n\
+> alter B.0 1 dd4\n\
+> deliver B.0 4\n\
+got A.0 k1c dd4 dff d16\n\
+undetected 8 A.0 symbol 6 20 31 7 0\n";
 
 /// A start-of-packet, the first four bytes of a packet, a status in the middle of it, the last
 /// four, and an end-of-packet.
@@ -59,6 +117,18 @@ fn packets(alloc: Global, count: u32) -> Result<Work, Fail> {
         input,
         status: Status::Done,
         wanted,
+    })
+}
+
+/// These events are carried out.
+fn events(alloc: Global, events: &[u8], status: Status, trace: &[u8]) -> Result<Work, Fail> {
+    let mut input = SETUP.to_vec(alloc)?;
+    input.extend_from_slice(events)?;
+    Ok(Work {
+        word: "replay",
+        input,
+        status,
+        wanted: trace.to_vec(alloc)?,
     })
 }
 
@@ -116,7 +186,7 @@ fn run(
     let words = vec![in alloc; work.word.to_string(alloc)?]?;
     let input = work.input.as_slice().to_vec(alloc)?;
     let mut source = MemSource::new(input, step, vec![in alloc; read]?);
-    let Ok(mut sink) = MemSink::new(alloc, 100_000, step, vec![in alloc; write]?) else {
+    let Ok(mut sink) = MemSink::new(alloc, 200_000, step, vec![in alloc; write]?) else {
         return Err(Fail::from("no memory"));
     };
     let status = rio(alloc, words.as_slice(), &mut source, &mut sink);
@@ -170,7 +240,7 @@ fn failing_writes(rt: &impl Abort, alloc: Global, work: &Work, step: usize) -> R
 #[test]
 fn scripts_go_to_traces_and_characters_to_lines(rt: HostRuntime) -> Result<(), Fail> {
     is_whole(&rt, rt.alloc(), &packets(rt.alloc(), 1)?, 16)?;
-    is_whole(&rt, rt.alloc(), &packets(rt.alloc(), 400)?, 4096)?;
+    is_whole(&rt, rt.alloc(), &packets(rt.alloc(), 170)?, 4096)?;
     is_whole(&rt, rt.alloc(), &symbols(rt.alloc(), 0)?, 16)?;
     is_whole(&rt, rt.alloc(), &symbols(rt.alloc(), 3150)?, 4096)
 }
@@ -206,10 +276,10 @@ fn each_failing_read_is_told_and_nothing_written(rt: HostRuntime) -> Result<(), 
 
 #[test]
 fn each_failing_write_is_told_after_a_front(rt: HostRuntime) -> Result<(), Fail> {
-    // 1,834 bytes are written, and 745.
+    // 4,094 bytes are written, and 745.
     assert_eq!(rt;
         failing_writes(&rt, rt.alloc(), &packets(rt.alloc(), 10)?, 64)?,
-        29
+        64
     );
     assert_eq!(rt;
         failing_writes(&rt, rt.alloc(), &symbols(rt.alloc(), 30)?, 64)?,
@@ -218,13 +288,33 @@ fn each_failing_write_is_told_after_a_front(rt: HostRuntime) -> Result<(), Fail>
     // More than 65,536 bytes do not wait for the end: the first 16 writes come before the last
     // event.
     assert_eq!(rt;
-        failing_writes(&rt, rt.alloc(), &packets(rt.alloc(), 400)?, 4096)?,
+        failing_writes(&rt, rt.alloc(), &packets(rt.alloc(), 170)?, 4096)?,
         18
     );
     assert_eq!(rt;
         failing_writes(&rt, rt.alloc(), &symbols(rt.alloc(), 3150)?, 4096)?,
         18
     );
+    Ok(())
+}
+
+#[test]
+fn a_corrupted_packet_is_sent_again_and_each_fault_told(rt: HostRuntime) -> Result<(), Fail> {
+    let again = events(rt.alloc(), CORRUPTED, Status::Done, CORRUPTED_TRACE)?;
+    is_whole(&rt, rt.alloc(), &again, 16)?;
+    // 723 bytes are written, and 100 read.
+    assert_eq!(rt; failing_writes(&rt, rt.alloc(), &again, 16)?, 46);
+    assert_eq!(rt; failing_reads(&rt, rt.alloc(), &again, 16)?, 8);
+    Ok(())
+}
+
+#[test]
+fn an_event_that_nobody_sent_is_told_and_each_fault(rt: HostRuntime) -> Result<(), Fail> {
+    let unsent = events(rt.alloc(), UNSENT, Status::Undetected, UNSENT_TRACE)?;
+    is_whole(&rt, rt.alloc(), &unsent, 16)?;
+    // 417 bytes are written, and 118 read.
+    assert_eq!(rt; failing_writes(&rt, rt.alloc(), &unsent, 16)?, 27);
+    assert_eq!(rt; failing_reads(&rt, rt.alloc(), &unsent, 16)?, 9);
     Ok(())
 }
 

@@ -137,6 +137,7 @@ fn replay_bytes<K: Sink>(alloc: Global, bytes: &[u8], sink: &mut K) -> Answer
     }
     match replay(alloc, &script, sink) {
         Ok(()) => Answer::ended(Status::Done),
+        Err(ReplayEnd::Undetected { .. }) => Answer::ended(Status::Undetected),
         Err(ReplayEnd::WriteFault) => Answer::ended(Status::WriteFault),
         Err(ReplayEnd::NoMemory) => Answer::ended(Status::NoMemory),
     }

@@ -3,7 +3,7 @@ use Rattle.std.specs.String.{string_bytes}
 use Rattle.rio_cli.specs.declared.command.Command.{Command}
 use Rattle.rio_cli.specs.declared.status.Status.TheVariants.{Done, Words, Script, ReadFault, WriteFault, NoMemory, Undetected, TooLong, Locked}
 use Rattle.rio_cli.specs.Answers.{Ended, SaysOfInput}
-use Rattle.rio_cli.proofs.AnswerLaws.{says_at, accepts, refuses, lengthy, no_other, refusal_told, refusal_failed, refusal_either, took_none, same_command, accepted_stays, refused_stays, Refuses-input}
+use Rattle.rio_cli.proofs.AnswerLaws.{says_at, accepts, refuses, lengthy, no_other, refusal_told, refusal_failed, refusal_either, took_none, same_command, accepted_stays, refused_stays, refused_is_not_exposed, ran_out, Refuses-input}
 use Rattle.rio_cli.proofs.top.answer.Goals as goal
 
 pub returns-in-Some : goal.returns-in-Some
@@ -26,6 +26,7 @@ returns-in-Some g c =
         words = λ e. absurd (says_at command _ _ _ _ _ _ _ _ answer Words h e);
         other_words = λ other. absurd (other command known);
         done = λ e. (command, known, says_at command _ _ _ _ _ _ _ _ answer Done h e);
+        undetected = λ e. (command, known, says_at command _ _ _ _ _ _ _ _ answer Undetected h e);
         script = λ e. (command, known, says_at command _ _ _ _ _ _ _ _ answer Script h e);
         too_long =
             λ e. let t = says_at command _ _ _ _ _ _ _ _ answer TooLong h e in
@@ -38,11 +39,9 @@ returns-in-Some g c =
         reads_counted = c.run_input.ensures.reads;
         writes_counted = c.run_input.ensures.writes;
         never_falls = (c.run_input.ensures.source, c.run_input.ensures.sink);
-        no_memory = λ e. says_at command _ _ _ _ _ _ _ _ answer NoMemory h e;
-        never = (
-          (λ e. says_at command _ _ _ _ _ _ _ _ answer Undetected h e),
-          (λ e. says_at command _ _ _ _ _ _ _ _ answer Locked h e),
-        );
+        no_memory = λ e. ran_out command words _ _ _ _ known
+            (says_at command _ _ _ _ _ _ _ _ answer NoMemory h e);
+        never = λ e. says_at command _ _ _ _ _ _ _ _ answer Locked h e;
         accepted =
             λ k bytes is has ok calm. accepts k _ _ _ _ _ _ _ _ answer
             (subst As (same_command command k words known is) h) bytes has.told has.within
@@ -50,7 +49,8 @@ returns-in-Some g c =
         refused =
             λ k bytes line reason is has not_ok calm. refuses k _ _ _ _ _ _ _ _ answer
             (subst As (same_command command k words known is) h) bytes has.told has.within
-            (refused_stays k bytes line reason w w' not_ok) calm.reads calm.writes;
+            (refused_stays k bytes line reason w w' not_ok)
+            (refused_is_not_exposed k bytes line reason w w' not_ok) calm.reads calm.writes;
         longer =
             λ k bytes is e long calm. lengthy command _ _ _ _ _ _ _ _ answer h bytes e long
             calm.reads calm.writes;
@@ -72,6 +72,7 @@ returns-in-None g c =
       words = λ e. (other, refusal_told _ _ _ _ _ _ _ (λ t. cc) h e);
       other_words = λ u. (refl, refusal_either _ _ _ _ _ _ _ h);
       done = λ e. absurd (no_other _ _ _ _ _ _ _ Done (λ t. cc) (λ t. cc) h e);
+      undetected = λ e. absurd (no_other _ _ _ _ _ _ _ Undetected (λ t. cc) (λ t. cc) h e);
       script = λ e. absurd (no_other _ _ _ _ _ _ _ Script (λ t. cc) (λ t. cc) h e);
       too_long = λ e. absurd (no_other _ _ _ _ _ _ _ TooLong (λ t. cc) (λ t. cc) h e);
       bounded = took_none (g.S.Source.left c.args.source.now);
@@ -82,10 +83,7 @@ returns-in-None g c =
       writes_counted = c.refuse.ensures.writes;
       never_falls = (omega arith, c.refuse.ensures.sink);
       no_memory = λ e. absurd (no_other _ _ _ _ _ _ _ NoMemory (λ t. cc) (λ t. cc) h e);
-      never = (
-        (λ e. no_other _ _ _ _ _ _ _ Undetected (λ t. cc) (λ t. cc) h e),
-        (λ e. no_other _ _ _ _ _ _ _ Locked (λ t. cc) (λ t. cc) h e),
-      );
+      never = λ e. no_other _ _ _ _ _ _ _ Locked (λ t. cc) (λ t. cc) h e;
       accepted = λ k bytes is. absurd (other k is);
       refused = λ k bytes line reason is. absurd (other k is);
       longer = λ k bytes is. absurd (other k is);

@@ -1,5 +1,5 @@
-use Rattle.std.proofs.Common.{◌≡◌, inr, refl, sym, Some}
-use Rattle.fabric_replay.specs.Unbuilt.{unbuilt_in}
+use Rattle.std.proofs.Common.{◌≡◌, Err, inr, refl, sym, ap, ◌∙◌, Some}
+use Rattle.fabric_ports.specs.Built.{unbuilt_in}
 use Rattle.rio_cli.specs.declared.command.Command.TheVariants.{Replay}
 use Rattle.rio_cli.proofs.AnswerLaws.{says_line}
 use Rattle.rio_cli.proofs.top.replay_bytes.Goals as goal
@@ -10,3 +10,18 @@ returns-in-Some-clause-says g c =
     sym c.in-Some.ensures in
     says_line Replay c.args.bytes.now c.refuse_line-in-Some.result.status c.in-Some.line 1 _ _ _ _
     (inr ((_, _, c.in-Ok.ensures.script, first), refl)) c.refuse_line-in-Some.ensures.refused
+
+pub returns-in-Err-Undetected-clause-says : goal.returns-in-Err-Undetected-clause-says
+returns-in-Err-Undetected-clause-says g c =
+    let e = c.in-Err-Undetected in
+    let replayed = c.replay.ensures.undetected e.field-0-0 e.field-0-1 e.field-0-2 (e.is ∙ ap Err e.field-0-is) in
+    rw c.ended-in-Err-Undetected.ensures (record {
+      names = c.in-Ok.script.names.items;
+      script = c.in-Ok.script.lines.items;
+      spells = c.in-Ok.ensures.script;
+      built = sym c.unbuilt.ensures ∙ c.in_default.is;
+      line = e.field-0-0;
+      port = e.field-0-1;
+      event = e.field-0-2;
+      replayed = replayed;
+    })

@@ -1,0 +1,77 @@
+-- The ports that a replay tells of are of nodes that have names.
+use Rattle.std.proofs.Common.{◌≡◌, ℕ, ◌<◌, ◌≤◌, suc, zero, Bool, true, false, List, [], ◌∷◌, All, map, Some, length, length-append, slice_get, refl, sym, ap, ◌∙◌, subst, arith, if◌then◌else◌}
+use Rattle.std.proofs.lemmas.List.Elements.{All-head, All-tail}
+use Rattle.maint_registers.specs.Devices.{Device, new_endpoint}
+use Rattle.fabric_script.specs.declared.ports.PortRef.{PortRef}
+use Rattle.fabric_script.specs.declared.lines.Line.{Line}
+use Rattle.fabric_script.specs.declared.lines.Line.TheVariants.{Endpoint, Switch, Link, Buffers}
+use Rattle.fabric_script.specs.declared.lines.Numbered.{Numbered}
+use Rattle.fabric_script.specs.Known.{Known, nothing, known_after}
+use Rattle.fabric_script.specs.Lines.{new_name}
+use Rattle.fabric_script.specs.Scripts.{PassesFrom, Passes}
+use Rattle.fabric_model.specs.Network.{Network, same_port, peer_in}
+use Rattle.fabric_model.proofs.Peers.{port_is}
+use Rattle.fabric_trace.specs.Fold.{seen}
+use Rattle.fabric_trace.specs.Known.{Found, Seen}
+use Rattle.fabric_trace.specs.Lines.{TraceLine}
+use Rattle.fabric_trace.specs.Runs.{bare, set_up, set_up_all, begins}
+use Rattle.fabric_trace.proofs.Boards.{seen_board, found_linked}
+use Rattle.fabric_ports.specs.Places.{HasPort}
+use Rattle.fabric_ports.specs.Showing.{ends_of, ShowsCable}
+use Rattle.fabric_ports.specs.Standing.{Stands}
+use Rattle.fabric_ports.specs.declared.fabric.Cable.{Cable}
+use Rattle.fabric_ports.specs.declared.fabric.Fabric.{Fabric}
+
+-- ---- each device has a name
+
+few_registers : (known : Known) (new : List ℕ) (net : Network) (line : Line) → length net.registers ≤ length known.names → length (set_up net line).registers ≤ length (known_after known new line).names
+few_registers known new net (Endpoint name id) few = omega (arith, few, length-append net.registers (new_endpoint id false ∷ []), length-append known.names (new ∷ []))
+few_registers known new net (Switch name ports) few = omega (arith, few, length-append known.names (new ∷ []))
+few_registers known new net (Link a b) few = few
+few_registers known new net (Buffers port n) few = few
+few_registers known new net _ few = few
+
+names_from : (known : Known) (names : List (List ℕ)) (net : Network) (lines : List Numbered) → length net.registers ≤ length known.names → PassesFrom known names lines → length (set_up_all net lines).registers ≤ length names
+names_from known names net [] few passes = subst (λ l. length net.registers ≤ length l) passes few
+names_from known names net (line ∷ lines) few passes =
+    names_from (known_after known (new_name names line.line) line.line) names (set_up net line.line) lines (few_registers known (new_name names line.line) net line.line few) passes.2
+
+-- ---- ports of cables
+
+within_get : (devices : List Device) (n port : ℕ) → HasPort (slice_get devices n) port → n < length devices
+within_get [] n port has = absurd has
+within_get (d ∷ devices) zero port has = omega arith
+within_get (d ∷ devices) (suc n) port has = let within = within_get devices n port has in omega arith
+
+cable_port : (devices : List Device) (s : Seen) (cables : List Cable) (port p : PortRef) → All (ShowsCable devices s) cables → peer_in (map ends_of cables) port ≡ Some p → port.node < length devices
+cable_port devices s [] port p shown linked = absurd cc
+cable_port devices s (cable ∷ cables) port p shown linked =
+    by_ends (same_port cable.a port) (same_port cable.b port) refl refl linked (λ at. cable_port devices s cables port p (All-tail (ShowsCable devices s) cable cables shown) at)
+  where
+    own : ShowsCable devices s cable
+    own = All-head (ShowsCable devices s) cable cables shown
+
+    by_ends : (a b : Bool) → same_port cable.a port ≡ a → same_port cable.b port ≡ b → (if a then Some cable.b else (if b then Some cable.a else peer_in (map ends_of cables) port)) ≡ Some p
+        → (peer_in (map ends_of cables) port ≡ Some p → port.node < length devices) → port.node < length devices
+    by_ends true b is_a is_b at later = subst (λ (x : PortRef). x.node < length devices) (port_is cable.a port is_a) (within_get devices cable.a.node cable.a.port own.port_a)
+    by_ends false true is_a is_b at later = subst (λ (x : PortRef). x.node < length devices) (port_is cable.b port is_b) (within_get devices cable.b.node cable.b.port own.port_b)
+    by_ends false false is_a is_b at later = later at
+
+-- ---- of a fabric that stands
+
+pub names_suffice : (names : List (List ℕ)) (script : List Numbered) (lines : List TraceLine) (fabric : Fabric) → Passes names script → Stands (set_up_all bare script) lines fabric → length fabric.devices.items ≤ length names
+names_suffice names script lines fabric passes stands =
+    let net = set_up_all bare script in
+    let few = names_from nothing names bare script (omega arith) passes in
+    let known = sym (seen_board lines (begins net)).count ∙ ap length stands.shows.registers in
+    omega (arith, few, known)
+
+pub found_named : (names : List (List ℕ)) (script : List Numbered) (lines all : List TraceLine) (fabric : Fabric) (found : Found) → Passes names script → Stands (set_up_all bare script) lines fabric
+    → (seen (begins (set_up_all bare script)) all).unfaithful ≡ Some found → found.port.node < length names
+found_named names script lines all fabric found passes stands finds =
+    let net = set_up_all bare script in
+    let linked = found_linked all net found finds in
+    let links = sym (seen_board lines (begins net)).links ∙ sym stands.shows.links in
+    let within = cable_port fabric.devices.items (seen (begins net) lines) fabric.cables.items found.port linked.0 stands.shows.cables (ap (λ (l : List (PortRef × PortRef)). peer_in l found.port) (sym links) ∙ linked.1) in
+    let few = names_suffice names script lines fabric passes stands in
+    omega arith

@@ -1,5 +1,0 @@
-use Rattle.fabric_replay.specs.Replaying.{Going}
-use Rattle.fabric_replay.proofs.replaying.write_trace.Given as goal
-
-abbrev pub invariant-loop-numbered : goal.invariant-loop-numbered
-invariant-loop-numbered g l = Going g.K.Sink.written g.K.Sink.faults l.initial.outbox l.outbox l.script.names.items l.script.lines.items l.numbered-index l.fabric

@@ -1,0 +1,39 @@
+-- How far a replay has come.
+use Rattle.std.specs.Prelude.{◌≡◌, ◌⊎◌, ℕ, false, List, ◌++◌, Option, take}
+use Rattle.rio_chars.specs.Written.{Writes}
+use Rattle.rio_chars.specs.declared.outbox.Outbox.{Outbox}
+use Rattle.fabric_script.specs.declared.lines.Numbered.{Numbered}
+use Rattle.fabric_trace.specs.Known.{Found}
+use Rattle.fabric_trace.specs.Lines.{TraceLine}
+use Rattle.fabric_trace.specs.Runs.{bare, set_up_all, start, Runs, BlocksFrom, Begins}
+use Rattle.fabric_trace.specs.Text.{trace_text}
+use Rattle.fabric_ports.specs.Standing.{Stands}
+use Rattle.fabric_ports.specs.declared.fabric.Fabric.{Fabric}
+use Rattle.fabric_replay.specs.Replaying.{EndsWith}
+
+-- The blocks of the first events were told, and the fabric stands for them.
+pub record Going {K : Type 0} (written : K → Option (List ℕ)) (faults : K → ℕ)
+    (begun out : Outbox K) (names : List (List ℕ)) (script : List Numbered) (count : ℕ)
+    (fabric : Fabric) : Type 0 where
+  pub lines : List TraceLine
+  pub told : Writes written faults begun out (trace_text names lines)
+  pub fine : out.failed ≡ false
+  pub blocks : BlocksFrom (start script) (take count script) lines
+  pub stands : Stands (set_up_all bare script) lines fabric
+
+-- Lines were told that begin a trace, or the blocks of its first events.
+pub record ToldFront {K : Type 0} (written : K → Option (List ℕ)) (faults : K → ℕ)
+    (begun out : Outbox K) (names : List (List ℕ)) (script : List Numbered) : Type 0 where
+  pub lines : List TraceLine
+  pub behind : List TraceLine
+  pub told : Writes written faults begun out (trace_text names lines)
+  pub begins : Begins script (lines ++ behind) ⊎ Runs script (lines ++ behind)
+
+-- A whole trace was told, which ends so.
+pub record ToldWhole {K : Type 0} (written : K → Option (List ℕ)) (faults : K → ℕ)
+    (begun out : Outbox K) (names : List (List ℕ)) (script : List Numbered) (last : TraceLine)
+    (found : Option Found) : Type 0 where
+  pub lines : List TraceLine
+  pub told : Writes written faults begun out (trace_text names lines)
+  pub runs : Runs script lines
+  pub ends : EndsWith script lines last found
