@@ -16,9 +16,7 @@ const SETUP: &[u8] = b"endpoint A 1\nendpoint B 2\nlink A.0 B.0\n";
 const SCRIPT: &[u8] =
     b"endpoint A 1\nendpoint B 2\nlink A.0 B.0\nsend A 0 15 2 cafe0001\nsettle A.0\ncollect B\n";
 
-/// The events of the script, and what they tell.
-const EVENTS: &[u8] = b"send A 0 15 2 cafe0001\nsettle A.0\ncollect B\n";
-
+/// What its events tell.
 const EVENTS_TRACE: &[u8] = b"> send A 0 15 2 cafe0001\n\
 take A 000f0201cafe0001a9bb0000\n\
 > settle A.0\n\
@@ -103,13 +101,13 @@ struct Work {
     wanted: Vec<u8>,
 }
 
-/// So many packets are carried.
-fn packets(alloc: Global, count: u32) -> Result<Work, Fail> {
-    let mut input = SETUP.to_vec(alloc)?;
-    let mut wanted = Vec::new(alloc);
+/// A packet is carried, and so many times none is left to collect.
+fn packet(alloc: Global, count: u32) -> Result<Work, Fail> {
+    let mut input = SCRIPT.to_vec(alloc)?;
+    let mut wanted = EVENTS_TRACE.to_vec(alloc)?;
     for _ in 0..count {
-        input.extend_from_slice(EVENTS)?;
-        wanted.extend_from_slice(EVENTS_TRACE)?;
+        input.extend_from_slice(b"collect B\n")?;
+        wanted.extend_from_slice(b"> collect B\nempty\n")?;
     }
     wanted.extend_from_slice(b"end\n")?;
     Ok(Work {
@@ -239,15 +237,15 @@ fn failing_writes(rt: &impl Abort, alloc: Global, work: &Work, step: usize) -> R
 
 #[test]
 fn scripts_go_to_traces_and_characters_to_lines(rt: HostRuntime) -> Result<(), Fail> {
-    is_whole(&rt, rt.alloc(), &packets(rt.alloc(), 1)?, 16)?;
-    is_whole(&rt, rt.alloc(), &packets(rt.alloc(), 170)?, 4096)?;
+    is_whole(&rt, rt.alloc(), &packet(rt.alloc(), 0)?, 16)?;
+    is_whole(&rt, rt.alloc(), &packet(rt.alloc(), 3700)?, 4096)?;
     is_whole(&rt, rt.alloc(), &symbols(rt.alloc(), 0)?, 16)?;
     is_whole(&rt, rt.alloc(), &symbols(rt.alloc(), 3150)?, 4096)
 }
 
 #[test]
 fn a_parsed_script_is_replayed(rt: HostRuntime) -> Result<(), Fail> {
-    let work = packets(rt.alloc(), 1)?;
+    let work = packet(rt.alloc(), 0)?;
     let Ok(script) = parse(rt.alloc(), SCRIPT) else {
         return Err(Fail::from("not parsed"));
     };
@@ -262,9 +260,9 @@ fn a_parsed_script_is_replayed(rt: HostRuntime) -> Result<(), Fail> {
 
 #[test]
 fn each_failing_read_is_told_and_nothing_written(rt: HostRuntime) -> Result<(), Fail> {
-    // Eight reads of 64 bytes take in 479 bytes, and nine 564, and one more finds the end.
+    // Eight reads of 64 bytes take in 483 bytes, and nine 564, and one more finds the end.
     assert_eq!(rt;
-        failing_reads(&rt, rt.alloc(), &packets(rt.alloc(), 10)?, 64)?,
+        failing_reads(&rt, rt.alloc(), &packet(rt.alloc(), 40)?, 64)?,
         9
     );
     assert_eq!(rt;
@@ -276,10 +274,10 @@ fn each_failing_read_is_told_and_nothing_written(rt: HostRuntime) -> Result<(), 
 
 #[test]
 fn each_failing_write_is_told_after_a_front(rt: HostRuntime) -> Result<(), Fail> {
-    // 4,094 bytes are written, and 745.
+    // 2,213 bytes are written, and 745.
     assert_eq!(rt;
-        failing_writes(&rt, rt.alloc(), &packets(rt.alloc(), 10)?, 64)?,
-        64
+        failing_writes(&rt, rt.alloc(), &packet(rt.alloc(), 100)?, 64)?,
+        35
     );
     assert_eq!(rt;
         failing_writes(&rt, rt.alloc(), &symbols(rt.alloc(), 30)?, 64)?,
@@ -288,8 +286,8 @@ fn each_failing_write_is_told_after_a_front(rt: HostRuntime) -> Result<(), Fail>
     // More than 65,536 bytes do not wait for the end: the first 16 writes come before the last
     // event.
     assert_eq!(rt;
-        failing_writes(&rt, rt.alloc(), &packets(rt.alloc(), 170)?, 4096)?,
-        18
+        failing_writes(&rt, rt.alloc(), &packet(rt.alloc(), 3700)?, 4096)?,
+        17
     );
     assert_eq!(rt;
         failing_writes(&rt, rt.alloc(), &symbols(rt.alloc(), 3150)?, 4096)?,
