@@ -4,15 +4,7 @@ use Rattle.rio_packets.specs.Fields.{prio_of}
 use Rattle.fabric_script.specs.declared.ports.PortRef.{PortRef}
 use Rattle.fabric_model.specs.Network.{Item, Network, peer_in}
 use Rattle.fabric_model.specs.Steps.{Hold, Free, Take, Leave, Move, Drop, Answer, Step, Linked, AtNode, ByDevice, Needs, after_hold, after, after_all, LegalFrom}
-use Rattle.fabric_model.specs.Lines.{TraceLine, Begun, Stepped, Lacked, Ended, steps_of}
 use Rattle.fabric_model.specs.Laws.History.{End, gathered, taken_by, ended_by, taken, ended}
-
-pub steps_of-append : (a b : List TraceLine) → steps_of (a ++ b) ≡ steps_of a ++ steps_of b
-steps_of-append [] b = refl
-steps_of-append (Begun line ∷ a) b = steps_of-append a b
-steps_of-append (Stepped step ∷ a) b = ap (λ steps. step ∷ steps) (steps_of-append a b)
-steps_of-append (Lacked lack ∷ a) b = steps_of-append a b
-steps_of-append (Ended ∷ a) b = steps_of-append a b
 
 -- a legal list of steps ends in one network
 pub end_is : (net : Network) (steps : List Step) (end : Network) → LegalFrom net steps end → end ≡ after_all net steps

@@ -1,6 +1,4 @@
-pub mod Unique
 pub mod Joining
-pub mod Beginning
 pub mod Peers
 pub mod Freeing
 pub mod Boards
@@ -15,7 +13,5 @@ pub mod Order
 pub mod Flows
 pub mod Lanes
 pub mod Room
-pub mod Settling
 pub mod Worked
 pub mod Around
-pub mod Lawfulness

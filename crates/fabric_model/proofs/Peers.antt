@@ -1,14 +1,9 @@
--- In proper links the peer of a port's peer is the port. Links that are set up one by one are proper.
+-- In proper links the peer of a port's peer is the port. Links that join free ports one by one are proper.
 use Rattle.std.proofs.Common.{◌≡◌, Bool, true, false, eqb, List, [], ◌∷◌, ◌++◌, Option, Some, None, ap, subst, refl, cond}
 use Rattle.std.proofs.lemmas.Bool.{and_parts, eqb-true, eq-eqb, and_from, false_from_ne_true}
 use Rattle.fabric_script.specs.declared.ports.PortRef.{PortRef}
-use Rattle.fabric_script.specs.declared.lines.Line.{Line}
-use Rattle.fabric_script.specs.declared.lines.Line.TheVariants.{Endpoint, Link}
-use Rattle.fabric_script.specs.declared.lines.Numbered.{Numbered}
-use Rattle.fabric_model.specs.Network.{Network, same_port, peer_in, link_in}
-use Rattle.fabric_model.specs.Runs.{bare, set_up, set_up_all}
-use Rattle.fabric_model.specs.Laws.History.{IsEmptyNetwork}
-use Rattle.fabric_model.specs.Laws.Proper.{AreProper, JoinsFreePorts, SetUpIsProper}
+use Rattle.fabric_model.specs.Network.{same_port, peer_in, link_in}
+use Rattle.fabric_model.specs.Laws.Proper.{AreProper}
 
 pub port_is : (p q : PortRef) → same_port p q ≡ true → p ≡ q
 port_is p q same =
@@ -87,7 +82,7 @@ unlinked-append (link ∷ links) a b p none not_a not_b =
     let parts = none_parts (same_port link.0 p) (same_port link.1 p) link.1 link.0 (peer_in links p) none in
     rw (parts.0, parts.1) (unlinked-append links a b p parts.2 not_a not_b)
 
-AreProper-append : (links : List (PortRef × PortRef)) (a b : PortRef) → AreProper links → same_port a b ≡ false → peer_in links a ≡ None → peer_in links b ≡ None → AreProper (links ++ (a, b) ∷ [])
+pub AreProper-append : (links : List (PortRef × PortRef)) (a b : PortRef) → AreProper links → same_port a b ≡ false → peer_in links a ≡ None → peer_in links b ≡ None → AreProper (links ++ (a, b) ∷ [])
 AreProper-append [] a b proper apart no_a no_b = (apart, refl, refl, tt)
 AreProper-append (link ∷ links) a b proper apart no_a no_b =
     let of_a = none_parts (same_port link.0 a) (same_port link.1 a) link.1 link.0 (peer_in links a) no_a in
@@ -97,25 +92,3 @@ AreProper-append (link ∷ links) a b proper apart no_a no_b =
       unlinked-append links a b link.1 proper.2 (apart_back link.1 a of_a.1) (apart_back link.1 b of_b.1),
       AreProper-append links a b proper.3 apart of_a.2 of_b.2,
     )
-
--- one line of set-up keeps the links proper
-pub set_up_proper : (net : Network) (line : Line) → AreProper net.links → JoinsFreePorts net line → AreProper (set_up net line).links
-set_up_proper net (Link a b) proper joins = AreProper-append net.links a b proper joins.0 joins.1 joins.2
-set_up_proper net _ proper joins = proper
-
-pub set_up_all_proper : (net : Network) (script : List Numbered) → AreProper net.links → SetUpIsProper net script → AreProper (set_up_all net script).links
-set_up_all_proper net [] proper joins = proper
-set_up_all_proper net (line ∷ script) proper joins = set_up_all_proper (set_up net line.line) script (set_up_proper net line.line proper joins.0) joins.1
-
-set_up_empty : (net : Network) (line : Line) → IsEmptyNetwork net → IsEmptyNetwork (set_up net line)
-set_up_empty net (Endpoint name id) empty = record { received = empty.received; waiting = empty.waiting; lent = empty.lent; given = empty.given }
-set_up_empty net (Link a b) empty = record { received = empty.received; waiting = empty.waiting; lent = empty.lent; given = empty.given }
-set_up_empty net _ empty = empty
-
-set_up_all_empty : (net : Network) (script : List Numbered) → IsEmptyNetwork net → IsEmptyNetwork (set_up_all net script)
-set_up_all_empty net [] empty = empty
-set_up_all_empty net (line ∷ script) empty = set_up_all_empty (set_up net line.line) script (set_up_empty net line.line empty)
-
--- the network that the lines of set-up give is empty
-pub set_up_is_empty : (script : List Numbered) → IsEmptyNetwork (set_up_all bare script)
-set_up_is_empty script = set_up_all_empty bare script (record { received = λ p r. refl; waiting = λ p r. refl; lent = λ p. refl; given = refl })

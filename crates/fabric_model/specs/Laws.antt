@@ -1,5 +1,5 @@
 -- The laws of legal steps: each speaks of every list of steps that is legal from an empty network,
--- and of the network definitions alone. `Settling` is what a link that has settled leaves.
+-- and of the network definitions alone.
 pub mod History
 pub mod Holding
 pub mod Leaving
@@ -9,7 +9,6 @@ pub mod Flows
 pub mod Proper
 pub mod Priorities
 pub mod Room
-pub mod Settling
 pub mod Examples
 pub mod Switches
 pub mod Lawful

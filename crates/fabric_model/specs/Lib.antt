@@ -1,10 +1,4 @@
-pub mod Schedule
 pub mod Network
 pub mod Serving
 pub mod Steps
-pub mod Lines
-pub mod Text
-pub mod Seen
-pub mod Blocks
-pub mod Runs
 pub mod Laws

@@ -31,6 +31,18 @@ pub record Network : Type 0 where
   pub links : List (PortRef × PortRef)
   pub given : ℕ
 
+-- the network before anything is set up: 8 receive buffers at each port
+abbrev pub bare : Network
+bare = record {
+  received = λ p r. [];
+  waiting = λ p r. [];
+  lent = λ p. [];
+  buffers = λ p. 8;
+  registers = [];
+  links = [];
+  given = 0;
+}
+
 abbrev pub same_port : PortRef → PortRef → Bool
 same_port p q = (p.node == q.node) && (p.port == q.port)
 

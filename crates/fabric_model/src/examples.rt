@@ -2,10 +2,7 @@
 //! law can fail.
 
 ghost use Rattle.std.specs.Prelude.{[], ◌∷◌, ◌≡◌, map};
-ghost use Rattle.fabric_model.specs.Network.{port_of};
 ghost use Rattle.fabric_model.specs.Steps.{LegalFrom, after_all};
-ghost use Rattle.fabric_model.specs.Lines.{steps_of};
-ghost use Rattle.fabric_model.specs.Runs.{Runs};
 ghost use Rattle.fabric_model.specs.Laws.History.{Dropped, ended, gone};
 ghost use Rattle.fabric_model.specs.Laws.Holding.{HoldingExactly};
 ghost use Rattle.fabric_model.specs.Laws.Leaving.{Once, Unchanged};
@@ -13,20 +10,18 @@ ghost use Rattle.fabric_model.specs.Laws.Freeing.{FreedAfterHeld};
 ghost use Rattle.fabric_model.specs.Laws.Flows.{EarlierFirst, InOrder};
 ghost use Rattle.fabric_model.specs.Laws.Tables.{ByTables};
 ghost use Rattle.fabric_model.specs.Laws.Proper.{AreProper};
-ghost use Rattle.fabric_model.specs.Laws.Settling.{IsSettled};
-ghost use Rattle.fabric_model.specs.Laws.Examples.{pair_script, pair_lines, pair, first, held_once, kept_too, left_twice, left_as_other, freed_too_early, not_passed, fork, overtaking};
+ghost use Rattle.fabric_model.specs.Laws.Examples.{pair, pair_steps, first, held_once, kept_too, left_twice, left_as_other, freed_too_early, fork, overtaking};
 ghost use Rattle.fabric_model.specs.Laws.Switches.{port_at, around, through, circle, parting, SamePriority, moved_elsewhere, dropped_on_its_way, for_7, later_for_7, changing, with_hop_0, with_hop_5, with_hop_3, hopping, taken_as};
 
-/// A packet is sent over the one link of two endpoints and collected. The lines are the trace of
-/// the script, and their steps are legal.
-pub fn worked_run()
-    ensures runs { Runs pair_script pair_lines }
-    ensures legal { LegalFrom pair (steps_of pair_lines) (after_all pair (steps_of pair_lines)) }
-    ensures gone { gone pair (steps_of pair_lines) ≡ first ∷ [] }
+/// A packet is sent over the one link of two endpoints and collected: the steps are legal, and the
+/// one item has left.
+pub fn over_a_link()
+    ensures legal { LegalFrom pair pair_steps (after_all pair pair_steps) }
+    ensures gone { gone pair pair_steps ≡ first ∷ [] }
 {}
 
 /// These laws do not hold of everything. Each fails of steps that are not legal, or of a network
-/// where they do not end; settling is not done while a packet waits that has room, and order fails
+/// where they do not end; order fails
 /// of legal steps where a port stands in two links. Through switches, a packet moves to another port than
 /// the table names, and overtakes there; and one is dropped although a port is named.
 pub fn laws_can_fail()
@@ -34,7 +29,6 @@ pub fn laws_can_fail()
     ensures once { Once pair left_twice → ⊥ }
     ensures unchanged { Unchanged pair left_as_other → ⊥ }
     ensures freed_after_held { FreedAfterHeld pair freed_too_early → ⊥ }
-    ensures settled { IsSettled (after_all pair not_passed) (port_of 0) (port_of 1) → ⊥ }
     ensures fork_is_legal { LegalFrom fork overtaking (after_all fork overtaking) }
     ensures in_order { InOrder fork overtaking → ⊥ }
     ensures moved { ByTables around moved_elsewhere → ⊥ }

@@ -4,38 +4,18 @@
 //! every block that settles a link: of any number of nodes, ports and priorities, and of any
 //! buffers.
 
-ghost use Rattle.std.specs.Prelude.{List, Some, ◌≡◌, ◌++◌};
-ghost use Rattle.fabric_script.specs.declared.lines.Numbered.{Numbered};
-ghost use Rattle.fabric_script.specs.declared.ports.PortRef.{PortRef as Port};
-ghost use Rattle.fabric_model.specs.Network.{Network, link_in};
+ghost use Rattle.std.specs.Prelude.{List, ◌≡◌, ◌++◌};
+ghost use Rattle.fabric_model.specs.Network.{Network};
 ghost use Rattle.fabric_model.specs.Steps.{Step, LegalFrom, after_all};
-ghost use Rattle.fabric_model.specs.Lines.{TraceLine, steps_of};
-ghost use Rattle.fabric_model.specs.Seen.{Seen, seen};
-ghost use Rattle.fabric_model.specs.Blocks.Settle.{IsSettle};
-ghost use Rattle.fabric_model.specs.Runs.{Runs, Begins, bare, set_up_all};
 ghost use Rattle.fabric_model.specs.Laws.History.{IsEmptyNetwork};
 ghost use Rattle.fabric_model.specs.Laws.Holding.{HoldingExactly};
 ghost use Rattle.fabric_model.specs.Laws.Leaving.{Once, Unchanged};
-ghost use Rattle.fabric_model.specs.Laws.Freeing.{IsFront, FreedAfterHeld};
+ghost use Rattle.fabric_model.specs.Laws.Freeing.{FreedAfterHeld};
 ghost use Rattle.fabric_model.specs.Laws.Tables.{ByTables};
 ghost use Rattle.fabric_model.specs.Laws.Flows.{SameCourse, EarlierFirst, InOrder};
-ghost use Rattle.fabric_model.specs.Laws.Proper.{AreProper, SetUpIsProper};
+ghost use Rattle.fabric_model.specs.Laws.Proper.{AreProper};
 ghost use Rattle.fabric_model.specs.Laws.Priorities.{ByPriority};
 ghost use Rattle.fabric_model.specs.Laws.Room.{HasPlaces};
-ghost use Rattle.fabric_model.specs.Laws.Settling.{IsSettled};
-
-/// A script has at most one trace.
-#[tactic(auto, using(crate::proofs::Unique::runs_one))]
-pub fn one_trace()
-    ensures { (script : List Numbered) (a b : List TraceLine) → Runs script a → Runs script b
-        → a ≡ b }
-{}
-
-/// The blocks of a script's first events are a front of any trace of it.
-pub fn first_blocks_are_a_front()
-    ensures { (script : List Numbered) (lines all : List TraceLine) → Begins script lines
-        → Runs script all → IsFront lines all }
-{}
 
 /// The network holds exactly the packets taken: each number that was given out stands in exactly
 /// one place, in one list of a port and a priority or among those that have left, were dropped or
@@ -98,37 +78,18 @@ pub fn places_suffice()
         → IsEmptyNetwork start → LegalFrom start steps end → HasPlaces end }
 {}
 
-/// Settling a link leaves nothing that could pass over it: at each end nothing waits, or the packet
-/// whose turn it is has no room at the other.
-pub fn settled()
-    ensures { (s : Seen) (port : Port) (link : Port × Port) (block : List TraceLine)
-        → AreProper s.network.links → link_in s.network.links port ≡ Some link
-        → IsSettle s port block
-        → IsSettled (seen s block).network link.0 link.1
-        × IsSettled (seen s block).network link.1 link.0 }
-{}
-
 /// Legal steps from one network end in one network.
 pub fn one_end()
     ensures { (start : Network) (steps : List Step) (a b : Network) → LegalFrom start steps a
         → LegalFrom start steps b → a ≡ b }
 {}
 
-/// The steps of joined lines are the steps joined. The parts of a legal list of steps are legal,
+/// The parts of a legal list of steps are legal,
 /// each front among them, and two legal lists are legal together.
 pub fn joined()
-    ensures lines { (a b : List TraceLine) → steps_of (a ++ b) ≡ steps_of a ++ steps_of b }
     ensures parts { (start : Network) (a b : List Step) (end : Network)
         → LegalFrom start (a ++ b) end
         → LegalFrom start a (after_all start a) × LegalFrom (after_all start a) b end }
     ensures whole { (start : Network) (a b : List Step) (mid end : Network) → LegalFrom start a mid
         → LegalFrom mid b end → LegalFrom start (a ++ b) end }
-{}
-
-/// The network that the lines of set-up give is empty. Its links are proper where each line that
-/// links joins two ports that no line before it links.
-pub fn set_up()
-    ensures empty { (script : List Numbered) → IsEmptyNetwork (set_up_all bare script) }
-    ensures proper { (net : Network) (script : List Numbered) → AreProper net.links
-        → SetUpIsProper net script → AreProper (set_up_all net script).links }
 {}

@@ -21,7 +21,7 @@ use Rattle.fabric_model.proofs.Holding.{holding_exactly}
 use Rattle.fabric_model.proofs.Leaving.{once, unchanged}
 use Rattle.fabric_model.proofs.Tables.{by_tables}
 use Rattle.fabric_model.proofs.Flows.{in_order}
-use Rattle.fabric_model.proofs.Peers.{ArePeers, set_up_proper}
+use Rattle.fabric_model.proofs.Peers.{ArePeers, AreProper-append}
 use Rattle.fabric_trace.specs.Lines.{TraceLine, steps_of}
 use Rattle.fabric_trace.specs.Views.{packets_in}
 use Rattle.fabric_trace.specs.Known.{Seen, peer_of, port_at, link_at}
@@ -64,7 +64,7 @@ set_up_one net (Endpoint name id) is may = record {
 }
 set_up_one net (Link a b) is may = record {
   empty = record { received = is.empty.received; waiting = is.empty.waiting; lent = is.empty.lent; given = is.empty.given };
-  proper = set_up_proper net (Link a b) is.proper may;
+  proper = AreProper-append net.links a b is.proper may.0 may.1 may.2;
   buffers = is.buffers;
 }
 set_up_one net (Buffers port n) is may = record {

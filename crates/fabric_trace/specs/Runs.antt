@@ -6,6 +6,7 @@ use Rattle.fabric_script.specs.declared.lines.Line.{Line}
 use Rattle.fabric_script.specs.declared.lines.Line.TheVariants.{Endpoint, Link, Buffers}
 use Rattle.fabric_script.specs.declared.lines.Numbered.{Numbered}
 use Rattle.fabric_model.specs.Network.{Network, same_port}
+pub use Rattle.fabric_model.specs.Network.{bare}
 use Rattle.fabric_trace.specs.Lines.{TraceLine, Begun, Ended, Undetected}
 use Rattle.fabric_trace.specs.Views.{new_half}
 use Rattle.fabric_trace.specs.Known.{Found, Seen, new_wire}
@@ -13,18 +14,6 @@ use Rattle.fabric_trace.specs.Fold.{seen}
 use Rattle.fabric_trace.specs.Blocks.{IsBlock}
 
 -- ---- before the first event
-
--- the network before any line of a script: 8 receive buffers at each port
-abbrev pub bare : Network
-bare = record {
-  received = λ p r. [];
-  waiting = λ p r. [];
-  lent = λ p. [];
-  buffers = λ p. 8;
-  registers = [];
-  links = [];
-  given = 0;
-}
 
 abbrev pub with_buffers : (PortRef → ℕ) → PortRef → ℕ → PortRef → ℕ
 with_buffers buffers p n q = if same_port q p then n else buffers q

@@ -4,9 +4,8 @@ use Rattle.std.specs.Prelude.{◌≡◌, ℕ, true, List, [], ◌∷◌}
 use Rattle.rio_packets.specs.Fields.{prio_of}
 use Rattle.maint_registers.specs.Devices.{Device, new_endpoint, new_switch}
 use Rattle.fabric_script.specs.declared.ports.PortRef.{PortRef}
-use Rattle.fabric_model.specs.Network.{Item, Network, port_of}
+use Rattle.fabric_model.specs.Network.{Item, Network, port_of, bare}
 use Rattle.fabric_model.specs.Steps.{Hold, Take, Leave, Move, Drop, Answer, Step, Linked, AtNode, ByDevice}
-use Rattle.fabric_model.specs.Runs.{bare}
 use Rattle.fabric_model.specs.Laws.Examples.{packet, other}
 
 -- a port of a switch

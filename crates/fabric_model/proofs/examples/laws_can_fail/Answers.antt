@@ -1,4 +1,4 @@
-use Rattle.fabric_model.proofs.Worked.{kept_too_breaks, left_twice_breaks, left_as_other_breaks, freed_too_early_breaks, not_passed_breaks, overtaking_legal, overtaking_breaks}
+use Rattle.fabric_model.proofs.Worked.{kept_too_breaks, left_twice_breaks, left_as_other_breaks, freed_too_early_breaks, overtaking_legal, overtaking_breaks}
 use Rattle.fabric_model.proofs.Around.{elsewhere_breaks, elsewhere_overtakes, dropped_breaks}
 use Rattle.fabric_model.proofs.examples.laws_can_fail.Goals as goal
 
@@ -8,7 +8,6 @@ returns c = record {
   once = left_twice_breaks;
   unchanged = left_as_other_breaks;
   freed_after_held = freed_too_early_breaks;
-  settled = not_passed_breaks;
   fork_is_legal = overtaking_legal;
   in_order = overtaking_breaks;
   moved = elsewhere_breaks;
