@@ -1,5 +1,5 @@
 -- A small run is one, and the laws fail of lines that they must not allow.
-use Rattle.std.proofs.Common.{◌≡◌, ◌≢◌, List, [], None, ◌∷◌, ◌++◌, Some, refl, sym, subst, if◌then◌else◌, inl, inr, drop, arith, ap, ◌∙◌}
+use Rattle.std.proofs.Common.{◌≡◌, ◌≢◌, ℕ, List, [], None, ◌∷◌, ◌++◌, Some, refl, sym, subst, if◌then◌else◌, inl, inr, drop, arith, ap, ◌∙◌, append-nil}
 use Rattle.rio_chars.specs.declared.chars.Char.{Char}
 use Rattle.link_model.specs.declared.event.Event.{Event}
 use Rattle.link_rest.specs.Rest.{IsSettled}
@@ -13,7 +13,7 @@ use Rattle.fabric_model.specs.Network.{Network, same_port}
 use Rattle.fabric_model.specs.Steps.{LegalFrom}
 use Rattle.fabric_trace.specs.Lines.{Empty, Short, Early, Fired, Signed, Lacked, steps_of}
 use Rattle.fabric_trace.specs.Known.{link_at}
-use Rattle.fabric_trace.specs.Fold.{seen}
+use Rattle.fabric_trace.specs.Fold.{says, seen}
 use Rattle.fabric_trace.specs.Runs.{bare, begins, Runs}
 use Rattle.fabric_trace.specs.Faithful.{IsFaithful}
 use Rattle.fabric_trace.specs.Firsts.{FindsFirst}
@@ -26,7 +26,7 @@ use Rattle.fabric_trace.specs.Frees.{Acknowledges, Gotten, nothing_got, complete
 use Rattle.fabric_trace.specs.Holds.{HoldsCame}
 use Rattle.fabric_trace.specs.SetUps.{MaySetUpAll}
 use Rattle.fabric_trace.specs.Wires.{WireFold}
-use Rattle.fabric_trace.specs.Examples.{near, far, pair, idle_script, idle_trace, joined_with_itself, held_from_nowhere, freed, freed_twice, got_from_nowhere, got_another, still_under_way, acted_from_nowhere, not_settled, near_failed, found_before}
+use Rattle.fabric_trace.specs.Examples.{near, far, pair, idle_script, idle_trace, joined_with_itself, held_from_nowhere, held_in_wrong_order, freed, freed_twice, got_from_nowhere, got_another, still_under_way, acted_from_nowhere, not_settled, near_failed, found_before}
 use Rattle.fabric_trace.proofs.Folding.{says_none}
 
 pub idle_runs : Runs idle_script idle_trace
@@ -89,6 +89,30 @@ no_more (Skips x rest) is nothing = absurd cc
 
 pub came_breaks : HoldsCame far held_from_nowhere → ⊥
 came_breaks came = no_more came refl says_none
+
+wrong_order : (chars : List Char) (first second : List ℕ) {xs ys : List Event} → first ≢ second
+    → IsSubsequence xs ys → xs ≡ Pkt 0 second ∷ Pkt 1 first ∷ []
+    → ys ≡ Pkt 0 first ∷ Pkt 1 second ∷ [] → ⊥
+wrong_order chars first second apart Ends is said = absurd cc
+wrong_order chars first second apart (Takes e rest) is said =
+    let same : Pkt 0 second ≡ Pkt 0 first = cc in
+    apart (cc same)
+wrong_order chars first second apart (Skips x rest) is said =
+    later rest is (ap (drop 1) said)
+  where
+    later : {xs ys : List Event} → IsSubsequence xs ys → xs ≡ Pkt 0 second ∷ Pkt 1 first ∷ []
+        → ys ≡ Pkt 1 second ∷ [] → ⊥
+    later Ends is said = absurd cc
+    later (Takes e rest) is said =
+        let same : Pkt 0 second ≡ Pkt 1 second = cc in
+        absurd (cc same)
+    later (Skips x rest) is said = no_more rest is (ap (drop 1) said)
+
+pub order_breaks : (chars : List Char) (first second : List ℕ) → first ≢ second
+    → says chars ≡ Pkt 0 first ∷ Pkt 1 second ∷ []
+    → HoldsCame far (held_in_wrong_order chars first second) → ⊥
+order_breaks chars first second apart said came =
+    wrong_order chars first second apart came refl (ap says (append-nil chars) ∙ said)
 
 pub got_breaks : WireFold pair.links (λ p. []) got_from_nowhere → ⊥
 got_breaks fold = absurd (cc fold.0.stands)

@@ -1,5 +1,5 @@
 -- A small run, and lines of which the laws do not hold.
-use Rattle.std.specs.Prelude.{List, [], ◌∷◌, Some}
+use Rattle.std.specs.Prelude.{ℕ, List, [], ◌∷◌, Some}
 use Rattle.rio_chars.specs.declared.chars.Char.{Char}
 use Rattle.rio_chars.specs.declared.chars.Char.TheVariants.{Invalid}
 use Rattle.link_model.specs.declared.event.Event.TheVariants.{Pkt}
@@ -67,6 +67,11 @@ joined_with_itself = record { number = 1; line = Link near near } ∷ []
 -- a packet is held that nobody sent
 abbrev pub held_from_nowhere : List TraceLine
 held_from_nowhere = Stepped (Linked (Hold far [])) ∷ []
+
+-- of what a port got it holds the second packet first
+abbrev pub held_in_wrong_order : List Char → List ℕ → List ℕ → List TraceLine
+held_in_wrong_order chars first second =
+    Signed (Got far chars) ∷ Stepped (Linked (Hold far second)) ∷ Stepped (Linked (Hold far first)) ∷ []
 
 -- a port frees a packet, and frees two
 abbrev pub freed : List TraceLine

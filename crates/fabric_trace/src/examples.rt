@@ -1,16 +1,16 @@
 //! A small run, and lines of which the laws do not hold.
 
-ghost use Rattle.std.specs.Prelude.{◌≡◌, ◌≢◌, [], ◌∷◌, None};
+ghost use Rattle.std.specs.Prelude.{◌≡◌, ◌≢◌, ℕ, List, [], ◌∷◌, None};
 ghost use Rattle.rio_chars.specs.declared.chars.Char.{Char};
 ghost use Rattle.link_rest.specs.Rest.{IsSettled};
 ghost use Rattle.fabric_model.specs.Network.{Network};
 ghost use Rattle.fabric_model.specs.Steps.{LegalFrom};
-ghost use Rattle.fabric_trace.specs.Examples.{near, far, pair, idle_script, idle_trace, joined_with_itself, held_from_nowhere, freed, freed_twice, got_from_nowhere, got_another, still_under_way, acted_from_nowhere, not_settled, near_failed, found_before};
+ghost use Rattle.fabric_trace.specs.Examples.{near, far, pair, idle_script, idle_trace, joined_with_itself, held_from_nowhere, held_in_wrong_order, freed, freed_twice, got_from_nowhere, got_another, still_under_way, acted_from_nowhere, not_settled, near_failed, found_before};
 ghost use Rattle.fabric_trace.specs.Faithful.{IsFaithful};
 ghost use Rattle.fabric_trace.specs.Firsts.{FindsFirst};
-ghost use Rattle.fabric_trace.specs.Fold.{seen};
+ghost use Rattle.fabric_trace.specs.Fold.{says, seen};
 ghost use Rattle.link_model.specs.Symbols.{packet_accepted};
-ghost use Rattle.link_model.specs.declared.event.Event.TheVariants.{Ctl};
+ghost use Rattle.link_model.specs.declared.event.Event.TheVariants.{Ctl, Pkt};
 ghost use Rattle.fabric_trace.specs.Frees.{Gotten, nothing_got, completed, FreesSaid};
 ghost use Rattle.fabric_trace.specs.Holds.{HoldsCame};
 ghost use Rattle.fabric_trace.specs.Known.{link_at};
@@ -35,6 +35,9 @@ pub fn laws_can_fail()
     ensures joined { MaySetUpAll bare joined_with_itself → ⊥ }
     ensures held { (end : Network) → LegalFrom pair (steps_of held_from_nowhere) end → ⊥ }
     ensures came { HoldsCame far held_from_nowhere → ⊥ }
+    ensures order { (chars : List Char) (first second : List ℕ) → first ≢ second
+        → says chars ≡ Pkt 0 first ∷ Pkt 1 second ∷ []
+        → HoldsCame far (held_in_wrong_order chars first second) → ⊥ }
     ensures freed { FreesSaid near nothing_got 0 freed → ⊥ }
     ensures twice { (known : Gotten) → completed known ≡ Ctl (packet_accepted 0) ∷ []
         → FreesSaid near known 0 freed_twice → ⊥ }
