@@ -37,8 +37,8 @@ fn out_of_place(line: u32) -> End {
     })
 }
 
-/// What refuses a script of which a line is refused where events are accepted: the first event before
-/// that line, or the line itself.
+/// What refuses a script of which a line is refused where events are accepted: the first event
+/// before that line, or the line itself.
 fn refused(alloc: Global, bytes: &[u8], refusal: Refusal) -> End
     requires { length bytes.now ≤ 16777216 }
 {
@@ -69,7 +69,8 @@ fn split_before(bytes: &[u8], line: u32) -> (&[u8], &[u8])
     (bytes, &[])
 }
 
-/// What refuses a line behind set-up lines: its reason, or that it is an event, if that is the lesser.
+/// What refuses a line behind set-up lines: its reason, or that it is an event, if that is the
+/// lesser.
 fn refused_line(text: &[u8], refusal: Refusal) -> End {
     let makes_node = text.starts_with(b"endpoint ") || text.starts_with(b"switch ");
     if refusal.reason > Reason::OutOfPlace.number() && !makes_node {

@@ -1,9 +1,9 @@
-//! A test program: `enumerate NODE` reads a script of set-up lines from standard input, lets its endpoint
-//! NODE number the fabric over plain registers, and writes the map to standard output. The exit status
-//! is the number of what `answer` answers. No port, link or packet takes part.
+//! A test program: `enumerate NODE` reads a script of set-up lines from standard input, lets its
+//! endpoint NODE number the fabric over plain registers, and writes the map to standard output.
+//! The exit status is the number of what `answer` answers. No port, link or packet takes part.
 //!
-//! - `run`: the whole program, over any source and sink; `main` gives it the arguments and the standard
-//!   streams.
+//! - `run`: the whole program, over any source and sink; `main` gives it the arguments and the
+//!   standard streams.
 //! - `answer` and `Status`: what the words ask for is done, and how that ended.
 //! - `number_fabric`: plain registers and links are checked and then numbered.
 //! - `accepting` says which scripts are taken, `setting_up` makes their registers and links, and

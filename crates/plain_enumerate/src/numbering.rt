@@ -8,8 +8,8 @@ use fabric_map::Map;
 use host_enumerate::{PlainMaint, enumerate};
 use std::alloc::Global;
 
-/// Numbers a fabric of plain registers, if it is a new one. A map is answered only of a fabric that is
-/// numbered then.
+/// Numbers a fabric of plain registers, if it is a new one. A map is answered only of a fabric
+/// that is numbered then.
 pub fn number_fabric(alloc: Global, maint: &mut PlainMaint) -> Result<Map, End>
     ensures { IfOk result (λ map. IsNumbered
         (topology_of maint.old.devices.items maint.old.links.items maint.old.host)

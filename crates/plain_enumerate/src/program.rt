@@ -14,7 +14,8 @@ use std::alloc::Global;
 /// The most bytes of input.
 const MOST_INPUT: usize = 4_194_304;
 
-/// Does what the arguments ask, of which the first is the program's name, and answers the exit status.
+/// Does what the arguments ask, of which the first is the program's name, and answers the exit
+/// status.
 pub fn run<S: Source, K: Sink>(
     alloc: Global,
     arguments: &[String],
@@ -28,12 +29,13 @@ pub fn run<S: Source, K: Sink>(
     status_number(answer(alloc, words, source, sink))
 }
 
-/// Reads a script from the source, lets the node that the words name number its fabric, and writes the
-/// map to the sink: `device TAG endpoint ID PATH` or `device TAG switch PORTS PATH` for each device,
-/// `entry TAG ID PORT` for each entry, and `end`. If another host holds a device it writes `locked PATH
-/// ID`. A refusal is one line: `refused words`, `refused length`, or `refused LINE REASON`, where an
-/// event is refused with reason 12, and the node as a line behind the last: with 5 if there is none of
-/// this name, with 11 if it is a switch or has no ID, and with 13 if its port has no link.
+/// Reads a script from the source, lets the node that the words name number its fabric, and
+/// writes the map to the sink: `device TAG endpoint ID PATH` or `device TAG switch PORTS PATH`
+/// for each device, `entry TAG ID PORT` for each entry, and `end`. If another host holds a device
+/// it writes `locked PATH ID`. A refusal is one line: `refused words`, `refused length`, or
+/// `refused LINE REASON`, where an event is refused with reason 12, and the node as a line behind
+/// the last: with 5 if there is none of this name, with 11 if it is a switch or has no ID, and
+/// with 13 if its port has no link.
 pub fn answer<S: Source, K: Sink>(
     alloc: Global,
     words: &[String],

@@ -8,8 +8,8 @@ use std::alloc::{AllocError, Global};
 /// A link between two ports.
 type Link = (PortRef, PortRef);
 
-/// The offset of the status of port 0 (RapidIO Interconnect Specification 1.3, Part 6, in a block that
-/// begins at 000100), and its value if the port has no link (this project's profile).
+/// The offset of the status of port 0 (RapidIO Interconnect Specification 1.3, Part 6, in a block
+/// that begins at 000100), and its value if the port has no link (this project's profile).
 const FIRST_STATUS: u32 = 0x00_0158;
 
 const NOT_LINKED: u32 = 1;
@@ -51,7 +51,8 @@ fn devices_of(
     Ok(devices)
 }
 
-/// The registers of the node that a line makes. A script has no switch with any other number of ports.
+/// The registers of the node that a line makes. A script has no switch with any other number of
+/// ports.
 fn new_device(line: &Line, links: &[Link]) -> Option<Registers> {
     match line {
         Line::Endpoint { name, id } => {
@@ -120,8 +121,8 @@ pub(crate) fn find_node(names: &[Name], word: &[u8]) -> Option<u8> {
     u8::try_from(place).ok()
 }
 
-/// Whether a node can be the host of this fabric, or why not: it is a switch, it has no ID, or its port
-/// has no link.
+/// Whether a node can be the host of this fabric, or why not: it is a switch, it has no ID, or
+/// its port has no link.
 pub(crate) fn judge_host(maint: &PlainMaint, node: u8) -> Result<(), Reason> {
     let Some(device) = maint.devices().get(node as usize) else {
         return Err(Reason::UnknownNode);
