@@ -1,47 +1,36 @@
 -- What an event of a script needs of a fabric, and what it did.
-use Rattle.std.specs.Prelude.{◌≡◌, ◌≤◌, ℕ, Bool, true, false, not, ◌==◌, List, ◌∷◌, ◌++◌, length, Option, Some, None, Result, Ok, Err}
+use Rattle.std.specs.Prelude.{◌≡◌, ◌≢◌, ◌≤◌, ℕ, Bool, true, false, List, [], ◌∷◌, ◌++◌, length, Option, Some, None, Result, Ok, Err}
 use Rattle.rio_chars.specs.Written.{Writes}
 use Rattle.rio_chars.specs.declared.outbox.Outbox.{Outbox}
 use Rattle.link_model.specs.declared.event.Event.{Event}
 use Rattle.fabric_script.specs.Lines.{is_event}
 use Rattle.fabric_script.specs.declared.ports.PortRef.{PortRef}
 use Rattle.fabric_script.specs.declared.lines.Line.{Line}
-use Rattle.fabric_script.specs.declared.lines.Line.TheVariants.{Endpoint, Link, Buffers, Send, Pump, Deliver, Alter, Erase, Insert, Timeout, Settle, Collect}
+use Rattle.fabric_script.specs.declared.lines.Line.TheVariants.{Send, Read, Write, Pump, Deliver, Alter, Erase, Insert, Timeout, Settle, Collect, Run}
 use Rattle.fabric_model.specs.Network.{Network}
-use Rattle.fabric_model.specs.Steps.{Leave, AtNode}
+use Rattle.fabric_model.specs.Steps.{Leave, Answer, AtNode, ByDevice}
 use Rattle.fabric_trace.specs.Blocks.{IsBlock}
 use Rattle.fabric_trace.specs.Events.{MayHappen}
 use Rattle.fabric_trace.specs.Fold.{seen}
 use Rattle.fabric_trace.specs.Known.{Seen}
-use Rattle.fabric_trace.specs.Lines.{Full as NoRoom, TraceLine, Begun, Stepped, Lacked}
+use Rattle.fabric_trace.specs.Lines.{Full as NoRoom, NoStep, TraceLine, Begun, Stepped, Lacked}
 use Rattle.fabric_trace.specs.Runs.{begins}
+use Rattle.fabric_trace.specs.Served.{IsMove}
 use Rattle.fabric_trace.specs.Text.{trace_text}
 use Rattle.fabric_ports.specs.declared.answers.EventEnd.{EventEnd}
 use Rattle.fabric_ports.specs.declared.answers.EventEnd.TheVariants.{Undetected, NoMemory}
 use Rattle.fabric_ports.specs.declared.answers.Happened.{Happened}
-use Rattle.fabric_ports.specs.declared.answers.Happened.TheVariants.{Took, Full, Left, Empty, Other}
+use Rattle.fabric_ports.specs.declared.answers.Happened.TheVariants.{Took, Full, Left, Answered, Empty, Other}
 use Rattle.fabric_ports.specs.declared.fabric.Fabric.{Fabric}
 use Rattle.fabric_ports.specs.Showing.{ShowsFabric}
-use Rattle.fabric_ports.specs.Standing.{IsPlain, Stands}
+use Rattle.fabric_ports.specs.Standing.{Stands}
 
 -- ---- before
 
--- Whether a line is built: a switch is not yet, nor are its routes, its moves and `run`; nor is
--- what asks registers, as a packet of format type 8.
+-- whether a line is built: `run` is not yet
 abbrev pub is_built : Line → Bool
-is_built (Endpoint name id) = true
-is_built (Link a b) = true
-is_built (Buffers port n) = true
-is_built (Send node prio ftype dest hex) = not (ftype == 8)
-is_built (Pump port n) = true
-is_built (Deliver port n) = true
-is_built (Alter port place ch) = true
-is_built (Erase port place n) = true
-is_built (Insert port place ch) = true
-is_built (Timeout port) = true
-is_built (Settle port) = true
-is_built (Collect node) = true
-is_built _ = false
+is_built (Run n) = false
+is_built _ = true
 
 -- The fabric stands for some lines, and the event may follow them. Each device of the fabric has a
 -- name.
@@ -67,7 +56,7 @@ IsAtLink _ = ⊥
 
 -- ---- afterwards
 
--- what a `send` answers, by the lines of its block
+-- what a line answers that has a packet taken, by the lines of its block
 abbrev pub taken : List TraceLine → Happened
 taken (Lacked NoRoom ∷ block) = Full
 taken _ = Took
@@ -75,11 +64,15 @@ taken _ = Took
 -- what a `collect` answers
 abbrev pub collected : List TraceLine → Happened
 collected (Stepped (AtNode (Leave n packet)) ∷ block) = Left packet
+collected (Stepped (ByDevice (Answer port packet response)) ∷ block) = Answered
+collected (Lacked NoRoom ∷ block) = Full
 collected _ = Empty
 
 -- what an event answers, by the lines of its block
 abbrev pub happened : Line → List TraceLine → Happened
 happened (Send node prio ftype dest hex) block = taken block
+happened (Read node prio dest hop tid offset) block = taken block
+happened (Write node prio dest hop tid offset value) block = taken block
 happened (Collect node) block = collected block
 happened _ block = Other
 
@@ -98,7 +91,11 @@ pub record Did (Is : List TraceLine → Type 0) (names : List (List ℕ)) {K : T
   pub is : Is block
   pub sent : (seen s block).unfaithful ≡ None
   pub shows : ShowsFabric fabric (seen s block)
-  pub plain : IsPlain (seen s block).network
+
+-- A switch made a step, which is this block; or it can make none, and nothing was written.
+abbrev pub IsStep : Network → ℕ → Bool → List TraceLine → Type 0
+IsStep net node true block = IsMove net node block × (block ≢ Lacked NoStep ∷ [])
+IsStep net node false block = IsMove net node (Lacked NoStep ∷ []) × (block ≡ [])
 
 -- An event was carried out behind these lines: its block was written, and the fabric stands for the
 -- lines with it.

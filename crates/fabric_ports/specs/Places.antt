@@ -1,5 +1,5 @@
 -- Where the ports of a fabric stand in its list.
-use Rattle.std.specs.Prelude.{◌≡◌, ℕ, ◌+◌, ◌<◌, false, List, [], ◌∷◌, Option, Some, None, slice_get, slice_index_or}
+use Rattle.std.specs.Prelude.{◌≡◌, ℕ, ◌+◌, ◌<◌, false, true, List, [], ◌∷◌, Option, Some, None, slice_get, slice_index_or}
 use Rattle.fabric_script.specs.declared.ports.PortRef.{PortRef}
 use Rattle.maint_registers.specs.Devices.{Device, is_switch}
 
@@ -31,6 +31,12 @@ pub record IsEndpointAt (devices : List Device) (node : ℕ) : Type 0 where
   pub stands : slice_get devices node ≡ Some device
   pub kind : is_switch device ≡ false
   pub has_port : 0 < device.ports
+
+-- the device is a switch
+pub record IsSwitchAt (devices : List Device) (node : ℕ) : Type 0 where
+  pub device : Device
+  pub stands : slice_get devices node ≡ Some device
+  pub kind : is_switch device ≡ true
 
 -- where it stands
 abbrev pub place_of : List ℕ → PortRef → ℕ

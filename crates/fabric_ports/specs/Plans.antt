@@ -1,10 +1,12 @@
 -- What lines of set-up have made, before there are ports.
-use Rattle.std.specs.Prelude.{◌≡◌, ℕ, ◌<◌, false, List, All, map, length, Some, slice_get}
+use Rattle.std.specs.Prelude.{◌≡◌, ℕ, ◌<◌, List, All, map, length, Some, slice_get}
 use Rattle.link_machine.specs.States.{empty_wires}
 use Rattle.link_sound.specs.Histories.{AreBuffers}
 use Rattle.fabric_script.specs.declared.ports.PortRef.{PortRef}
+use Rattle.fabric_script.specs.declared.lines.Line.{Line}
 use Rattle.fabric_model.specs.Network.{Network}
-use Rattle.maint_registers.specs.Devices.{Device, is_switch}
+use Rattle.maint_registers.specs.Devices.{Device}
+use Rattle.fabric_trace.specs.SetUps.{MaySetUp}
 use Rattle.fabric_ports.specs.Places.{AreFirsts, port_count, IsPortOf, place_of}
 use Rattle.fabric_ports.specs.Showing.{ends_of, AreRegisters}
 use Rattle.fabric_ports.specs.declared.fabric.Cable.{Cable}
@@ -14,14 +16,13 @@ use Rattle.fabric_ports.specs.declared.plans.Plan.{Plan}
 abbrev pub counts_of : List Device → List ℕ
 counts_of devices = map (λ (device : Device). device.ports) devices
 
--- an endpoint, which has a port
-abbrev pub IsEndpointDevice : Device → Type 0
-IsEndpointDevice device = (is_switch device ≡ false) × (0 < device.ports)
+abbrev pub HasPorts : Device → Type 0
+HasPorts device = 0 < device.ports
 
--- The devices of a plan are endpoints, their ports stand in rows, and the plan has a number of
--- buffers for each.
+-- Each device of a plan has a port, their ports stand in rows, and the plan has a number of buffers
+-- for each.
 pub record IsPlan (plan : Plan) : Type 0 where
-  pub endpoints : All IsEndpointDevice plan.devices.items
+  pub have_ports : All HasPorts plan.devices.items
   pub firsts : AreFirsts 0 plan.devices.items plan.firsts.items
   pub count : length plan.buffers.items ≡ port_count plan.devices.items
   pub few : All AreBuffers plan.buffers.items
@@ -42,3 +43,9 @@ pub record PlansFor (plan : Plan) (net : Network) : Type 0 where
   pub cables : All (IsNewCable plan.devices.items) plan.cables.items
   pub links : map ends_of plan.cables.items ≡ net.links
   pub registers : AreRegisters net plan.devices.items
+
+-- the plan is one for a network in which the line may be set up
+pub record MayAdd (plan : Plan) (line : Line) : Type 0 where
+  pub net : Network
+  pub plans : PlansFor plan net
+  pub may : MaySetUp net line

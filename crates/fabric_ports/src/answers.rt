@@ -8,10 +8,12 @@ use rio_packets::Packet;
 pub enum Happened {
     /// A packet was taken to be sent.
     Took,
-    /// There was no room for the packet to be sent.
+    /// There was no room for the packet to be sent, or for the response to the request that is next.
     Full,
     /// This packet left the fabric.
     Left(Packet),
+    /// The registers of an endpoint answered a request.
+    Answered,
     /// Nothing was held that could leave.
     Empty,
     /// The line is of another kind.

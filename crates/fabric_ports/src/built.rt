@@ -5,9 +5,7 @@ ghost use Rattle.fabric_ports.specs.Events.{is_built};
 
 use fabric_script::{Line, Script};
 
-/// The number of the first line that is not built yet: of a switch, its routes and moves, a host
-/// lock, a read or write of registers, a `send` of format type 8, and `run`. None if there is no
-/// such line.
+/// The number of the first line that is not built yet: of `run`. None if there is no such line.
 pub fn unbuilt(script: &Script) -> Option<u32>
     ensures { result ≡ unbuilt_in script.now.lines.items }
 {
@@ -23,26 +21,5 @@ pub fn unbuilt(script: &Script) -> Option<u32>
 pub(crate) fn is_built(line: &Line) -> bool
     ensures { result ≡ is_built line.now }
 {
-    match line {
-        Line::Endpoint { .. }
-        | Line::Link { .. }
-        | Line::Buffers { .. }
-        | Line::Pump { .. }
-        | Line::Deliver { .. }
-        | Line::Alter { .. }
-        | Line::Insert { .. }
-        | Line::Erase { .. }
-        | Line::Timeout { .. }
-        | Line::Settle { .. }
-        | Line::Collect { .. } => true,
-        Line::Send { ftype, .. } => *ftype != 8,
-        Line::Switch { .. }
-        | Line::Route { .. }
-        | Line::Default { .. }
-        | Line::Lock { .. }
-        | Line::Read { .. }
-        | Line::Write { .. }
-        | Line::Move { .. }
-        | Line::Run { .. } => false,
-    }
+    !matches!(line, Line::Run { .. })
 }

@@ -9,9 +9,10 @@ use crate::answers::{EventEnd, Happened};
 use crate::fabric::Fabric;
 use fabric_script::{Line, Name};
 use rio_chars::{Outbox, Sink};
-use rio_packets::{Header, build};
+use maint_packets::{Op, Request, write_request};
+use rio_packets::{Header, Packet, build};
 use std::alloc::Global;
-use trace_lines::write_begun;
+use trace_lines::{write_begun, write_none};
 
 impl Fabric {
     /// Carries out an event, and writes its block of the trace: the line with which it begins, and
@@ -39,24 +40,15 @@ impl Fabric {
     {
         write_begun(outbox, names, line);
         match line {
-            Line::Send {
-                node,
-                prio,
-                ftype,
-                dest,
-                hex,
-            } => {
-                let header = Header {
-                    prio: *prio,
-                    ftype: *ftype,
-                    dest: *dest,
-                    source: self.devices[usize::from(*node)].base_id(),
-                };
-                match build(&header, hex.as_slice()) {
-                    Ok(packet) => Ok(self.send(names, *node, packet, outbox)),
-                    // A line of a script has data of a length that a packet may have.
-                    Err(_) => unreachable!(),
+            Line::Send { node, .. } | Line::Read { node, .. } | Line::Write { node, .. } => {
+                let packet = packet_of(line, self.devices[usize::from(*node)].base_id());
+                Ok(self.send(names, *node, packet, outbox))
+            }
+            Line::Move { node } => {
+                if !self.step(names, *node, outbox) {
+                    write_none(outbox);
                 }
+                Ok(Happened::Other)
             }
             Line::Collect { node } => Ok(self.collect(names, *node, outbox)),
             // Any other event that is built is one at a link.
@@ -65,7 +57,67 @@ impl Fabric {
     }
 }
 
-/// What an event answers that is neither a `send` nor a `collect`.
+/// The packet of a line that has one taken, with this source ID.
+fn packet_of(line: &Line, source: u8) -> Packet
+{
+    match line {
+        Line::Send {
+            prio,
+            ftype,
+            dest,
+            hex,
+            ..
+        } => {
+            let header = Header {
+                prio: *prio,
+                ftype: *ftype,
+                dest: *dest,
+                source,
+            };
+            match build(&header, hex.as_slice()) {
+                Ok(packet) => packet,
+                // A line of a script has data of a length that a packet may have.
+                Err(_) => unreachable!(),
+            }
+        }
+        Line::Read {
+            prio,
+            dest,
+            hop,
+            tid,
+            offset,
+            ..
+        } => write_request(&Request {
+            prio: *prio,
+            dest: *dest,
+            source,
+            op: Op::Read,
+            tid: *tid,
+            hop: *hop,
+            offset: *offset,
+        }),
+        Line::Write {
+            prio,
+            dest,
+            hop,
+            tid,
+            offset,
+            value,
+            ..
+        } => write_request(&Request {
+            prio: *prio,
+            dest: *dest,
+            source,
+            op: Op::Write { value: *value },
+            tid: *tid,
+            hop: *hop,
+            offset: *offset,
+        }),
+        _ => unreachable!(),
+    }
+}
+
+/// What an event at a link answers.
 fn other(acted: Result<(), EventEnd>) -> Result<Happened, EventEnd>
     ensures { result ≡ other_of acted }
 {

@@ -23,6 +23,7 @@ mod nodes;
 #[cfg(test)]
 mod plan_tests;
 mod plans;
+mod switches;
 
 pub use answers::{EventEnd, Happened};
 pub use built::unbuilt;

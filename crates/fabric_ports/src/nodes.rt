@@ -1,15 +1,11 @@
 //! What is sent and collected at an endpoint.
-ghost use Rattle.std.specs.Prelude.{◌≡◌, ◌<◌, false, length, None};
-ghost use Rattle.rio_packets.specs.Fields.{is_request};
-ghost use Rattle.rio_packets.specs.LinkForm.{Passes};
+ghost use Rattle.std.specs.Prelude.{◌≡◌, ◌<◌, length, None};
 ghost use Rattle.fabric_model.specs.Laws.Priorities.{ByPriority};
-ghost use Rattle.fabric_model.specs.Network.{port_of, next_packet};
-ghost use Rattle.fabric_trace.specs.Blocks.{takes, Leaves};
 ghost use Rattle.fabric_trace.specs.Known.{Seen};
 ghost use Rattle.fabric_ports.specs.Events.{Did, taken, collected};
 ghost use Rattle.fabric_ports.specs.Places.{IsEndpointAt};
 ghost use Rattle.fabric_ports.specs.Showing.{ShowsFabric};
-ghost use Rattle.fabric_ports.specs.Standing.{IsPlain};
+ghost use Rattle.fabric_trace.specs.Served.{IsCollect};
 
 use crate::answers::Happened;
 use crate::fabric::Fabric;
@@ -18,7 +14,7 @@ use link_port::PortFace;
 use rio_chars::{Outbox, Sink};
 use rio_packets::Packet;
 use switch_core::{Collected, endpoint_collect};
-use trace_lines::{write_empty, write_full, write_leave, write_take};
+use trace_lines::{write_answer, write_empty, write_full, write_leave, write_take};
 
 impl Fabric {
     /// An endpoint takes a packet to be sent, if there is room.
@@ -32,9 +28,7 @@ impl Fabric {
         requires named { node < length names.now }
         requires shown { (s : Seen) × ShowsFabric self.old s }
         requires endpoint { IsEndpointAt self.old.devices.items node }
-        requires plain { is_request packet ≡ false }
-        ensures { (s : Seen) → ShowsFabric self.old s → s.unfaithful ≡ None → IsPlain s.network
-            → Did (λ block. (block ≡ takes s node packet) × (result ≡ taken block)) names.now
+        ensures { (s : Seen) → ShowsFabric self.old s → s.unfaithful ≡ None → Did (λ block. (block ≡ takes s node packet) × (result ≡ taken block)) names.now
             K.written K.faults outbox.old outbox.new s self.new }
     {
         let place = self.place(PortRef { node, port: 0 });
@@ -47,7 +41,7 @@ impl Fabric {
         Happened::Took
     }
 
-    /// The packet whose turn it is leaves at an endpoint, if one is held.
+    /// The packet whose turn it is leaves at an endpoint, or its registers answer it.
     pub(crate) fn collect<K: Sink>(
         &mut self,
         names: &[Name],
@@ -55,27 +49,33 @@ impl Fabric {
         outbox: &mut Outbox<K>,
     ) -> Happened
         requires named { node < length names.now }
-        requires shown { (s : Seen) × ShowsFabric self.old s × IsPlain s.network }
+        requires shown { (s : Seen) × ShowsFabric self.old s }
         requires endpoint { IsEndpointAt self.old.devices.items node }
-        ensures { (s : Seen) → ShowsFabric self.old s → s.unfaithful ≡ None → IsPlain s.network
-            → ByPriority s.network → Did (λ block.
-            Leaves node (next_packet (s.network.received (port_of node))) block
+        ensures { (s : Seen) → ShowsFabric self.old s → s.unfaithful ≡ None
+            → ByPriority s.network → Did (λ block. IsCollect s.network node block
             × (result ≡ collected block)) names.now
             K.written K.faults outbox.old outbox.new s self.new }
     {
-        let place = self.place(PortRef { node, port: 0 });
+        let port = PortRef { node, port: 0 };
+        let place = self.place(port);
         let registers = &mut self.devices[usize::from(node)];
         match endpoint_collect(&mut self.ports[place], registers) {
             Collected::Left(packet) => {
                 write_leave(outbox, names, node, &packet);
                 Happened::Left(packet)
             }
+            Collected::Answered { request, response } => {
+                write_answer(outbox, names, port, &request, &response);
+                Happened::Answered
+            }
             Collected::Empty => {
                 write_empty(outbox);
                 Happened::Empty
             }
-            // No request is held.
-            Collected::Answered { .. } | Collected::Full => unreachable!(),
+            Collected::Full => {
+                write_full(outbox);
+                Happened::Full
+            }
         }
     }
 }

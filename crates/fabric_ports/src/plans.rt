@@ -76,50 +76,72 @@ impl Plan {
 
     /// Takes a line in. An event makes nothing.
     fn add(&mut self, alloc: Global, line: &Line) -> Result<(), AllocError>
-        requires plan { IsPlan self.old }
+        requires may { MayAdd self.old line.now }
         requires ports { ArePorts (counts_of self.old.devices.items) line.now }
-        requires endpoint { MakesNoSwitch line.now }
         ensures plans { IfOk result (λ _. (net : Network) → PlansFor self.old net
             → MaySetUp net line.now → PlansFor self.new (set_up net line.now)) }
         ensures counts { IfOk result (λ _. counts_of self.new.devices.items
             ≡ counts_after (counts_of self.old.devices.items) line.now) }
     {
         match line {
-            Line::Endpoint { id, .. } => self.add_endpoint(*id),
+            Line::Endpoint { id, .. } => self.add_device(Registers::endpoint(*id, false)),
+            Line::Switch { ports, .. } => self.add_device(Registers::switch(*ports, 0)),
             Line::Link { a, b } => self.add_cable(alloc, *a, *b),
-            Line::Buffers { port, n } => {
-                self.set_buffers(*port, *n);
+            _ => {
+                self.set(line);
                 Ok(())
             }
-            _ => Ok(()),
         }
     }
 
-    /// Adds an endpoint and its port.
-    fn add_endpoint(&mut self, id: u8) -> Result<(), AllocError>
+    /// Adds a device and its ports.
+    fn add_device(&mut self, device: Registers) -> Result<(), AllocError>
         ensures devices { IfOk result (λ _. self.new.devices.items
-            ≡ self.old.devices.items ++ new_endpoint id false ∷ []) }
+            ≡ self.old.devices.items ++ device ∷ []) }
         ensures firsts { IfOk result (λ _. self.new.firsts.items
             ≡ self.old.firsts.items ++ length self.old.buffers.items ∷ []) }
         ensures buffers { IfOk result (λ _. self.new.buffers.items
-            ≡ self.old.buffers.items ++ 8 ∷ []) }
+            ≡ self.old.buffers.items ++ replicate device.ports 8) }
         ensures cables { self.new.cables ≡ self.old.cables }
     {
-        self.devices.push(Registers::endpoint(id, false))?;
         self.firsts.push(self.buffers.len())?;
-        self.buffers.push(BUFFERS)?;
+        for _ in 0..device.ports() {
+            self.buffers.push(BUFFERS)?;
+        }
+        self.devices.push(device)?;
         Ok(())
     }
 
-    /// Adds a link between two ports.
+    /// Adds a link between two ports, and tells their devices.
     fn add_cable(&mut self, alloc: Global, a: PortRef, b: PortRef) -> Result<(), AllocError>
+        requires first { IsPortOf self.old.devices.items a }
+        requires second { IsPortOf self.old.devices.items b }
         ensures cables { IfOk result (λ _. self.new.cables.items
             ≡ self.old.cables.items ++ record { a = a; b = b; link = empty_wires } ∷ []) }
-        ensures rest { self.new ≡ record self.old { cables = self.new.cables } }
+        ensures devices { IfOk result (λ _. self.new.devices.items
+            ≡ with_end_at (with_end_at self.old.devices.items a) b) }
+        ensures rest { self.new ≡ record self.old {
+            devices = self.new.devices;
+            cables = self.new.cables;
+        } }
     {
         let link = Link::new(alloc);
         self.cables.push(Cable { a, b, link })?;
+        self.devices[usize::from(a.node)].set_linked(a.port);
+        self.devices[usize::from(b.node)].set_linked(b.port);
         Ok(())
+    }
+
+    /// Takes a line in that makes nothing new.
+    fn set(&mut self, line: &Line)
+    {
+        match line {
+            Line::Buffers { port, n } => self.set_buffers(*port, *n),
+            Line::Route { node, id, p } => self.devices[usize::from(*node)].set_route(*id, *p),
+            Line::Default { node, p } => self.devices[usize::from(*node)].set_default(*p),
+            Line::Lock { node, id } => self.devices[usize::from(*node)].set_lock(*id),
+            _ => {}
+        }
     }
 
     /// Says how many receive buffers a port gets.

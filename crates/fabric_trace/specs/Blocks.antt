@@ -1,7 +1,11 @@
 -- Which lines each event makes, from what is known before it.
-use Rattle.std.specs.Prelude.{◌≡◌, ℕ, false, List, [], ◌∷◌, map, Option, Some, None, if◌then◌else◌}
-use Rattle.rio_packets.specs.Fields.{prio_of, body_of, is_request}
+use Rattle.std.specs.Prelude.{◌≡◌, ℕ, List, [], ◌∷◌, map, Option, Some, None, if◌then◌else◌}
+use Rattle.rio_packets.specs.Fields.{prio_of, body_of}
 use Rattle.rio_packets.specs.LinkForm.{LinkForm}
+use Rattle.maint_packets.specs.Requests.{request_body}
+use Rattle.maint_packets.specs.declared.request.Op.{Op}
+use Rattle.maint_packets.specs.declared.request.Op.TheVariants as Ops
+use Rattle.maint_packets.specs.declared.request.Request.{Request}
 use Rattle.link_watch.specs.declared.note.Note.{Note}
 use Rattle.link_watch.specs.declared.note.Note.TheVariants as Notes
 use Rattle.link_watch.specs.declared.side.Side.{Side}
@@ -13,12 +17,13 @@ use Rattle.link_rest.specs.Acts.{Act, At, acts_notes}
 use Rattle.link_rest.specs.Settling.{Settles}
 use Rattle.fabric_script.specs.declared.ports.PortRef.{PortRef}
 use Rattle.fabric_script.specs.declared.lines.Line.{Line}
-use Rattle.fabric_script.specs.declared.lines.Line.TheVariants.{Send, Pump, Deliver, Alter, Erase, Insert, Timeout, Settle, Collect}
-use Rattle.fabric_model.specs.Network.{IsEndpoint, port_of, room_out, base_of, next_packet, link_in}
-use Rattle.fabric_model.specs.Steps.{Hold, Free, Take, Leave, Linked, AtNode}
-use Rattle.fabric_trace.specs.Lines.{Full, Empty, Short, Early, Sent, Got, Fired, TraceLine, Stepped, Signed, Lacked}
+use Rattle.fabric_script.specs.declared.lines.Line.TheVariants.{Send, Read, Write, Pump, Deliver, Alter, Erase, Insert, Timeout, Settle, Move, Collect}
+use Rattle.fabric_model.specs.Network.{Network, IsEndpoint, port_of, room_out, base_of, link_in}
+use Rattle.fabric_model.specs.Steps.{Hold, Free, Take, Linked, AtNode}
+use Rattle.fabric_trace.specs.Lines.{Full, Short, Early, Sent, Got, Fired, TraceLine, Stepped, Signed, Lacked}
 use Rattle.fabric_trace.specs.Known.{Seen, peer_of, link_at}
 use Rattle.fabric_trace.specs.Fold.{edit_of}
+use Rattle.fabric_trace.specs.Served.{IsMove, IsCollect}
 
 -- ---- at a node
 
@@ -29,26 +34,33 @@ takes s node packet =
     then Stepped (AtNode (Take node packet)) ∷ []
     else Lacked Full ∷ []
 
--- The packet is the link form of the body that the line spells, with the endpoint's base device ID as
--- source. One for registers has no block yet.
-pub record IsSend (s : Seen) (node prio ftype dest : ℕ) (rest : List ℕ) (block : List TraceLine) :
-    Type 0 where
+-- The packet is the link form of this body.
+pub record Sends (s : Seen) (node : ℕ) (body : List ℕ) (block : List TraceLine) : Type 0 where
   pub packet : List ℕ
   pub endpoint : IsEndpoint s.network node
-  pub form : LinkForm (body_of prio ftype dest (base_of s.network node) rest) packet
-  pub for_no_registers : is_request packet ≡ false
+  pub form : LinkForm body packet
   pub lines : block ≡ takes s node packet
 
--- a packet leaves, or nothing is held; one for registers has no block yet
-abbrev pub Leaves : ℕ → Option (List ℕ) → List TraceLine → Type 0
-Leaves node None block = block ≡ Lacked Empty ∷ []
-Leaves node (Some packet) block =
-    (is_request packet ≡ false) × (block ≡ Stepped (AtNode (Leave node packet)) ∷ [])
+-- a packet with the bytes that the line spells, and the endpoint's base device ID as source
+abbrev pub IsSend : Seen → ℕ → ℕ → ℕ → ℕ → List ℕ → List TraceLine → Type 0
+IsSend s node prio ftype dest rest block =
+    Sends s node (body_of prio ftype dest (base_of s.network node) rest) block
 
--- the packet whose turn it is leaves the fabric at an endpoint
-abbrev pub IsCollect : Seen → ℕ → List TraceLine → Type 0
-IsCollect s node block =
-    IsEndpoint s.network node × Leaves node (next_packet (s.network.received (port_of node))) block
+-- the request of a line, with the endpoint's base device ID as source
+abbrev pub request_from : Network → ℕ → ℕ → ℕ → ℕ → ℕ → ℕ → Op → Request
+request_from net node prio dest hop tid offset op = record {
+  prio = prio;
+  dest = dest;
+  source = base_of net node;
+  op = op;
+  tid = tid;
+  hop = hop;
+  offset = offset;
+}
+
+-- a packet that carries a request
+abbrev pub Asks : Seen → ℕ → Request → List TraceLine → Type 0
+Asks s node request block = Sends s node (request_body request) block
 
 -- ---- at a link
 
@@ -108,11 +120,16 @@ abbrev pub WithLink : Option (PortRef × PortRef) → (PortRef → PortRef → L
 WithLink None Block block = ⊥
 WithLink (Some link) Block block = Block link.0 link.1 block
 
--- These are the lines of the event, behind the line with which it begins. What the lines of a script that
--- are not named here do is not said yet: they have no block.
+-- These are the lines of the event, behind the line with which it begins. What `run` does is not said yet: it
+-- has no block.
 abbrev pub IsBlock : Seen → Line → List TraceLine → Type 0
 IsBlock s (Send node prio ftype dest hex) block = IsSend s node prio ftype dest hex block
-IsBlock s (Collect node) block = IsCollect s node block
+IsBlock s (Read node prio dest hop tid offset) block =
+    Asks s node (request_from s.network node prio dest hop tid offset Ops.Read) block
+IsBlock s (Write node prio dest hop tid offset value) block =
+    Asks s node (request_from s.network node prio dest hop tid offset (Ops.Write value)) block
+IsBlock s (Move node) block = IsMove s.network node block
+IsBlock s (Collect node) block = IsCollect s.network node block
 IsBlock s (Pump port n) block = WithPeer (peer_of s port) (pumps s port n) block
 IsBlock s (Deliver port n) block = WithPeer (peer_of s port) (delivers s port n) block
 IsBlock s (Alter port place ch) block = block ≡ edits s (edit_of (Alter port place ch))

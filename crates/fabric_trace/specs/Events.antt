@@ -3,10 +3,10 @@ use Rattle.std.specs.Prelude.{◌≡◌, ℕ, ◌%◌, ◌^◌, ◌<◌, ◌≤�
 use Rattle.rio_packets.specs.Making.{most_rest}
 use Rattle.fabric_script.specs.declared.ports.PortRef.{PortRef}
 use Rattle.fabric_script.specs.declared.lines.Line.{Line}
-use Rattle.fabric_script.specs.declared.lines.Line.TheVariants.{Endpoint, Switch, Link, Buffers, Send, Read, Write, Pump, Deliver, Alter, Insert, Erase, Timeout, Settle, Collect, Run}
+use Rattle.fabric_script.specs.declared.lines.Line.TheVariants.{Endpoint, Switch, Link, Buffers, Send, Read, Write, Pump, Deliver, Alter, Insert, Erase, Timeout, Settle, Move, Collect, Run}
 use Rattle.fabric_script.specs.declared.lines.Numbered.{Numbered}
 use Rattle.fabric_script.specs.LineTexts.{AreNamed}
-use Rattle.fabric_model.specs.Network.{Network, IsEndpoint, peer_in}
+use Rattle.fabric_model.specs.Network.{Network, IsEndpoint, IsSwitch, peer_in}
 
 -- ---- nodes and their ports
 
@@ -41,11 +41,6 @@ ArePorts counts (Timeout port) = IsPort counts port
 ArePorts counts (Settle port) = IsPort counts port
 ArePorts counts _ = ⊤
 
--- a line makes no switch
-abbrev pub MakesNoSwitch : Line → Type 0
-MakesNoSwitch (Switch name ports) = ⊥
-MakesNoSwitch _ = ⊤
-
 -- ---- events
 
 -- so many bytes may follow the source ID of a packet of this format type
@@ -73,11 +68,12 @@ IsInRange _ = ⊤
 abbrev pub HasLink : Network → PortRef → Type 0
 HasLink net port = IsSome (peer_in net.links port)
 
--- what an event names is there: its node is an endpoint, or its port has a link
+-- what an event names is there: its node is an endpoint, or a switch, or its port has a link
 abbrev pub IsThere : Network → Line → Type 0
 IsThere net (Send node prio ftype dest hex) = IsEndpoint net node
 IsThere net (Read node prio dest hop tid offset) = IsEndpoint net node
 IsThere net (Write node prio dest hop tid offset value) = IsEndpoint net node
+IsThere net (Move node) = IsSwitch net node
 IsThere net (Collect node) = IsEndpoint net node
 IsThere net (Pump port n) = HasLink net port
 IsThere net (Deliver port n) = HasLink net port

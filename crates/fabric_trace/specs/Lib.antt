@@ -3,7 +3,9 @@ pub mod Text
 pub mod Views
 pub mod Known
 pub mod Fold
+pub mod Served
 pub mod Blocks
+pub mod Settings
 pub mod Runs
 pub mod Links
 pub mod Parts

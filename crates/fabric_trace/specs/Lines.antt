@@ -7,12 +7,13 @@ use Rattle.fabric_script.specs.declared.lines.Line.{Line}
 use Rattle.fabric_model.specs.Steps.{Step}
 
 -- Why nothing could be done: no room for a packet to be sent; nothing is held; a wire has too few
--- characters; a wire of the link is not empty.
+-- characters; a wire of the link is not empty; no packet of a switch can go.
 pub data Lack : Type 0 where
   Full : Lack
   Empty : Lack
   Short : Lack
   Early : Lack
+  NoStep : Lack
 
 -- What a port does with its link: it put characters on its wire; it took characters from its peer's
 -- wire; its time-out fired.

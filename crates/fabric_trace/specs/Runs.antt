@@ -1,12 +1,11 @@
 -- What a trace of a script is.
-use Rattle.std.specs.Prelude.{◌≡◌, ℕ, Bool, true, false, List, [], ◌∷◌, ◌++◌, Option, Some, None, MatchBool, if◌then◌else◌}
-use Rattle.maint_registers.specs.Devices.{new_endpoint}
-use Rattle.fabric_script.specs.declared.ports.PortRef.{PortRef}
+use Rattle.std.specs.Prelude.{◌≡◌, ℕ, List, [], ◌∷◌, ◌++◌, Option, Some, None, MatchBool}
+use Rattle.fabric_script.specs.Lines.{is_event}
 use Rattle.fabric_script.specs.declared.lines.Line.{Line}
-use Rattle.fabric_script.specs.declared.lines.Line.TheVariants.{Endpoint, Link, Buffers}
 use Rattle.fabric_script.specs.declared.lines.Numbered.{Numbered}
-use Rattle.fabric_model.specs.Network.{Network, same_port}
+use Rattle.fabric_model.specs.Network.{Network}
 pub use Rattle.fabric_model.specs.Network.{bare}
+pub use Rattle.fabric_trace.specs.Settings.{set_up, set_up_all}
 use Rattle.fabric_trace.specs.Lines.{TraceLine, Begun, Ended, Undetected}
 use Rattle.fabric_trace.specs.Views.{new_half}
 use Rattle.fabric_trace.specs.Known.{Found, Seen, new_wire}
@@ -14,22 +13,6 @@ use Rattle.fabric_trace.specs.Fold.{seen}
 use Rattle.fabric_trace.specs.Blocks.{IsBlock}
 
 -- ---- before the first event
-
-abbrev pub with_buffers : (PortRef → ℕ) → PortRef → ℕ → PortRef → ℕ
-with_buffers buffers p n q = if same_port q p then n else buffers q
-
--- The network with one more line of set-up. Nothing reads yet whether the registers say that a port has a link, and
--- they do not.
-abbrev pub set_up : Network → Line → Network
-set_up net (Endpoint name id) =
-    record net { registers = net.registers ++ new_endpoint id false ∷ [] }
-set_up net (Link a b) = record net { links = net.links ++ (a, b) ∷ [] }
-set_up net (Buffers port n) = record net { buffers = with_buffers net.buffers port n }
-set_up net _ = net
-
-abbrev pub set_up_all : Network → List Numbered → Network
-set_up_all net [] = net
-set_up_all net (line ∷ lines) = set_up_all (set_up net line.line) lines
 
 -- nothing was sent in this network
 abbrev pub begins : Network → Seen
@@ -45,13 +28,6 @@ abbrev pub start : List Numbered → Seen
 start script = begins (set_up_all bare script)
 
 -- ---- one event after another
-
--- Whether a line needs a block. The others set the network up.
-abbrev pub has_block : Line → Bool
-has_block (Endpoint name id) = false
-has_block (Link a b) = false
-has_block (Buffers port n) = false
-has_block _ = true
 
 -- More follows while every event that was acted on was sent; else the last part.
 abbrev pub Follows : Option Found → (List TraceLine → Type 0) → (Found → List TraceLine → Type 0)
@@ -74,7 +50,7 @@ Names number found lines = lines ≡ Undetected number found.port found.event �
 -- For each event in turn, the line that it begins with and its block; then the last line.
 abbrev pub RunsFrom : Seen → List Numbered → List TraceLine → Type 0
 RunsFrom s [] lines = lines ≡ Ended ∷ []
-RunsFrom s (line ∷ script) lines = MatchBool (has_block line.line)
+RunsFrom s (line ∷ script) lines = MatchBool (is_event line.line)
     (BlockThen (λ t rest. RunsFrom t script rest) (Names line.number) s line.line lines)
     (RunsFrom s script lines)
 
@@ -90,7 +66,7 @@ NamesNothing found lines = lines ≡ []
 -- The same with no last line: what a trace begins with.
 abbrev pub BlocksFrom : Seen → List Numbered → List TraceLine → Type 0
 BlocksFrom s [] lines = lines ≡ []
-BlocksFrom s (line ∷ script) lines = MatchBool (has_block line.line)
+BlocksFrom s (line ∷ script) lines = MatchBool (is_event line.line)
     (BlockThen (λ t rest. BlocksFrom t script rest) NamesNothing s line.line lines)
     (BlocksFrom s script lines)
 

@@ -11,7 +11,7 @@ use Rattle.fabric_script.specs.Names.{name_of}
 use Rattle.fabric_script.specs.Texts.{port_text}
 use Rattle.fabric_script.specs.Lines.{line_text}
 use Rattle.fabric_model.specs.Steps.{Hold, Free, Take, Leave, Move, Drop, Answer, Step, Linked, AtNode, ByDevice}
-use Rattle.fabric_trace.specs.Lines.{Lack, Full, Empty, Short, Early, Sign, Sent, Got, Fired, TraceLine, Begun, Stepped, Signed, Lacked, Ended, Undetected}
+use Rattle.fabric_trace.specs.Lines.{Lack, Full, Empty, Short, Early, NoStep, Sign, Sent, Got, Fired, TraceLine, Begun, Stepped, Signed, Lacked, Ended, Undetected}
 
 abbrev pub step_text : List (List ℕ) → Step → List ℕ
 step_text names (Linked (Hold q packet)) =
@@ -41,6 +41,7 @@ lack_text Full = codes "full"
 lack_text Empty = codes "empty"
 lack_text Short = codes "short"
 lack_text Early = codes "early"
+lack_text NoStep = codes "none"
 
 -- A symbol is told by stype0, its two parameters, stype1 and cmd; a packet by its ackID and its bytes.
 -- What is neither is never acted on, and has no text.

@@ -26,6 +26,6 @@ pub use undetected::write_undetected;
 pub use watching::LinkLines;
 pub use writing::{
     write_answer, write_drop, write_early, write_empty, write_end, write_fire, write_free,
-    write_full, write_got, write_hold, write_leave, write_move, write_sent, write_short,
-    write_take,
+    write_full, write_got, write_hold, write_leave, write_move, write_none, write_sent,
+    write_short, write_take,
 };

@@ -6,7 +6,7 @@ ghost use Rattle.rio_chars.specs.Written.{Writes};
 ghost use Rattle.fabric_model.specs.Steps.{Hold, Free, Linked, Take, Leave, AtNode, Move, Drop, Answer, ByDevice};
 ghost use Rattle.fabric_script.specs.Names.{name_of};
 ghost use Rattle.fabric_script.specs.Texts.{port_text};
-ghost use Rattle.fabric_trace.specs.Lines.{Sent, Got, Fired, Full, Empty, Short, Early, Stepped, Signed, Lacked, Ended};
+ghost use Rattle.fabric_trace.specs.Lines.{Sent, Got, Fired, Full, Empty, Short, Early, NoStep, Stepped, Signed, Lacked, Ended};
 ghost use Rattle.fabric_trace.specs.Text.{trace_line_text};
 
 use fabric_script::{Name, PortRef};
@@ -172,6 +172,14 @@ pub fn write_early<K: Sink>(outbox: &mut Outbox<K>)
         (trace_line_text [] (Lacked Early) ++ codes "\n") }
 {
     outbox.write(b"early\n");
+}
+
+/// Writes that no packet of a switch can go.
+pub fn write_none<K: Sink>(outbox: &mut Outbox<K>)
+    ensures { Writes K.written K.faults outbox.old outbox.new
+        (trace_line_text [] (Lacked NoStep) ++ codes "\n") }
+{
+    outbox.write(b"none\n");
 }
 
 /// Writes that the trace ends.

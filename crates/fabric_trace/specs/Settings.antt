@@ -1,0 +1,52 @@
+-- What the lines of set-up make of a network.
+use Rattle.std.specs.Prelude.{ℕ, false, List, [], ◌∷◌, ◌++◌, slice_set, if◌then◌else◌}
+use Rattle.maint_registers.specs.Devices.{Device, new_endpoint, new_switch, with_link}
+use Rattle.fabric_script.specs.declared.ports.PortRef.{PortRef}
+use Rattle.fabric_script.specs.declared.lines.Line.{Line}
+use Rattle.fabric_script.specs.declared.lines.Line.TheVariants.{Endpoint, Switch, Link, Buffers, Route, Default, Lock}
+use Rattle.fabric_script.specs.declared.lines.Numbered.{Numbered}
+use Rattle.fabric_model.specs.Network.{Network, same_port, with_device}
+
+-- so many receive buffers at a port
+abbrev pub with_buffers : (PortRef → ℕ) → PortRef → ℕ → PortRef → ℕ
+with_buffers buffers p n q = if same_port q p then n else buffers q
+
+-- one more device
+abbrev pub with_node : Network → Device → Network
+with_node net device = record net { registers = net.registers ++ device ∷ [] }
+
+-- the registers of one node are changed
+abbrev pub with_change : Network → ℕ → (Device → Device) → Network
+with_change net node change = record net { registers = with_device net.registers node change }
+
+-- the device of a port knows that the port has a link
+abbrev pub with_end : Network → PortRef → Network
+with_end net p =
+    with_change net p.node (λ device. record device { linked = with_link device.linked p.port })
+
+-- a switch sends what is for a destination to this port
+abbrev pub routed : ℕ → ℕ → Device → Device
+routed dest port device = record device { routes = slice_set device.routes dest port }
+
+-- a switch sends what its table does not name to this port
+abbrev pub defaulted : ℕ → Device → Device
+defaulted port device = record device { default_port = port }
+
+-- a host with this ID holds a device
+abbrev pub held_by : ℕ → Device → Device
+held_by id device = record device { lock = id }
+
+-- The network with one more line. An event sets nothing up.
+abbrev pub set_up : Network → Line → Network
+set_up net (Endpoint name id) = with_node net (new_endpoint id false)
+set_up net (Switch name ports) = with_node net (new_switch ports 0)
+set_up net (Link a b) = record (with_end (with_end net a) b) { links = net.links ++ (a, b) ∷ [] }
+set_up net (Buffers port n) = record net { buffers = with_buffers net.buffers port n }
+set_up net (Route node id p) = with_change net node (routed id p)
+set_up net (Default node p) = with_change net node (defaulted p)
+set_up net (Lock node id) = with_change net node (held_by id)
+set_up net _ = net
+
+abbrev pub set_up_all : Network → List Numbered → Network
+set_up_all net [] = net
+set_up_all net (line ∷ lines) = set_up_all (set_up net line.line) lines
