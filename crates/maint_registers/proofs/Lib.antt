@@ -3,3 +3,4 @@ pub mod WriteLaws
 pub mod AccessLaws
 pub mod RouteLaws
 pub mod SameLaws
+pub mod LinkLaws

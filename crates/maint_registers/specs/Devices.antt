@@ -1,5 +1,5 @@
 -- What the registers of a device hold, as contracts see them.
-use Rattle.std.specs.Prelude.{◌≡◌, ℕ, ◌<◌, ◌≤◌, Bool, true, false, List, length, replicate, if◌then◌else◌}
+use Rattle.std.specs.Prelude.{◌≡◌, ℕ, ◌+◌, ◌/◌, ◌%◌, ◌^◌, ◌==◌, ◌<◌, ◌≤◌, Bool, true, false, List, length, replicate, if◌then◌else◌}
 use Rattle.maint_registers.specs.declared.registers.Kind.{Kind}
 use Rattle.maint_registers.specs.declared.registers.Kind.TheVariants.{Endpoint, Switch}
 
@@ -36,6 +36,10 @@ is_switch device = is_kind device.kind
     is_kind : Kind → Bool
     is_kind Endpoint = false
     is_kind Switch = true
+
+-- the links of a device, with that of this port among them: its bit is set
+abbrev pub with_link : ℕ → ℕ → ℕ
+with_link linked port = if linked / 2 ^ port % 2 == 1 then linked else linked + 2 ^ port
 
 -- no destination has an entry
 unfoldable pub no_routes : List ℕ

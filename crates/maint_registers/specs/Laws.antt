@@ -1,9 +1,10 @@
--- What writes do, in the words of the table: which bits they change, and who holds a device.
+-- What writes do, in the words of the table: which bits they change, and who holds a device; and which port
+-- shows a link that is set.
 use Rattle.std.specs.Prelude.{◌≡◌, ◌≢◌, ℕ, ◌*◌, ◌/◌, ◌%◌, ◌^◌, ◌<◌, ◌↔◌, Option, Some, None}
 use Rattle.maint_registers.specs.declared.table.Register.{Register}
 use Rattle.maint_registers.specs.declared.table.Register.TheVariants.{Fixed, PortInformation, BaseId, HostLock, ComponentTag, RouteSelect, RouteEntry, DefaultPort}
-use Rattle.maint_registers.specs.Devices.{Device, IsDevice}
-use Rattle.maint_registers.specs.Table.{register_at}
+use Rattle.maint_registers.specs.Devices.{Device, IsDevice, with_link}
+use Rattle.maint_registers.specs.Table.{status_of, register_at}
 use Rattle.maint_registers.specs.Access.{value_at, written_at, locked}
 
 -- some bits of a register: the lowest of them, and how many they are
@@ -43,3 +44,14 @@ IsTakenIfFree = (lock id : ℕ) → id ≢ 0xffff → (locked lock id ≡ id) �
 -- Nobody but its holder frees a lock or takes it.
 abbrev pub StaysForOthers : Type 0
 StaysForOthers = (lock id : ℕ) → lock ≢ 0xffff → lock ≢ id → locked lock id ≡ lock
+
+-- A port whose link is set shows it.
+abbrev pub ShowsLink : Type 0
+ShowsLink = (device : Device) (port : ℕ)
+    → status_of (record device { linked = with_link device.linked port }) port ≡ 2
+
+-- And every other port shows what it showed.
+abbrev pub OthersStay : Type 0
+OthersStay = (device : Device) (port other : ℕ) → other ≢ port
+    → status_of (record device { linked = with_link device.linked port }) other
+    ≡ status_of device other

@@ -1,5 +1,5 @@
 //! Laws of registers, for whoever states something of devices.
-ghost use Rattle.maint_registers.specs.Laws.{ShowsWritten, IsTakenIfFree, StaysForOthers};
+ghost use Rattle.maint_registers.specs.Laws.{ShowsWritten, IsTakenIfFree, StaysForOthers, ShowsLink, OthersStay};
 
 /// A write changes the bits that the register has, and no others.
 pub fn write_changes_its_bits()
@@ -10,4 +10,11 @@ pub fn write_changes_its_bits()
 pub fn lock_is_taken_if_free()
     ensures taken { IsTakenIfFree }
     ensures stays { StaysForOthers }
+{}
+
+/// A link that is set shows at its port, and at no other.
+#[tactic(auto, using(crate::proofs::LinkLaws::link_shown, crate::proofs::LinkLaws::link_others))]
+pub fn link_shows_at_its_port()
+    ensures set { ShowsLink }
+    ensures others { OthersStay }
 {}

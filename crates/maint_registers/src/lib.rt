@@ -19,5 +19,5 @@ mod table;
 #[cfg(test)]
 mod tests;
 
-pub use laws::{lock_is_taken_if_free, write_changes_its_bits};
+pub use laws::{link_shows_at_its_port, lock_is_taken_if_free, write_changes_its_bits};
 pub use registers::Registers;

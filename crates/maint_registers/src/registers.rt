@@ -1,6 +1,6 @@
 //! `Registers`: what a device holds, and where a switch sends packets.
 ghost use Rattle.std.specs.Prelude.{◌≡◌, ◌≤◌, ◌<◌, Bool, slice_set, IsTrue, IfSome};
-ghost use Rattle.maint_registers.specs.Devices.{IsDevice, is_switch, no_routes, new_endpoint, new_switch};
+ghost use Rattle.maint_registers.specs.Devices.{IsDevice, is_switch, with_link, no_routes, new_endpoint, new_switch};
 ghost use Rattle.maint_registers.specs.Routes.{next_port, port_named};
 
 use std::marker::Model;
@@ -147,6 +147,15 @@ impl Registers {
         };
         let is_port = self.kind == Kind::Switch && port < self.ports;
         is_port.then_some(port)
+    }
+
+    /// Says that a port below 16 has a link.
+    #[tactic(auto, using(crate::proofs::LinkLaws::or_link))]
+    pub fn set_linked(&mut self, port: u8)
+        requires { port < 16 }
+        ensures { self.new ≡ record self.old { linked = with_link self.old.linked port } }
+    {
+        self.linked |= 1 << port;
     }
 
     /// Sets the entry of a destination in the route table of a switch.

@@ -101,6 +101,17 @@ fn a_switch_has_its_column(rt: HostRuntime) {
 }
 
 #[test]
+fn a_link_shows_at_its_port(rt: HostRuntime) {
+    let mut registers = Registers::switch(4, 0);
+    for _ in 0..2 {
+        registers.set_linked(2);
+        for (offset, status) in [(0x158, 1), (0x178, 1), (0x198, 2), (0x1b8, 1)] {
+            assert_eq!(rt; registers.read(offset, 0), Some(status), "{offset:x}");
+        }
+    }
+}
+
+#[test]
 fn a_lock_is_taken_freed_or_left(rt: HostRuntime) {
     for (lock, written, after) in [
         (0xffff, 0xabcd_0009, 9),
