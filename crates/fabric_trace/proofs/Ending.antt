@@ -1,12 +1,13 @@
 -- How traces end.
 use Rattle.std.proofs.Common.{◌≡◌, ℕ, Bool, true, false, List, [], ◌∷◌, ◌++◌, Option, Some, None, MatchBool, refl, sym, ap, ◌∙◌, append_assoc}
+use Rattle.fabric_script.specs.Lines.{is_event}
 use Rattle.fabric_script.specs.declared.lines.Line.{Line}
 use Rattle.fabric_script.specs.declared.lines.Numbered.{Numbered}
 use Rattle.fabric_trace.specs.Lines.{TraceLine, Begun, Ended, Undetected}
 use Rattle.fabric_trace.specs.Known.{Found, Seen}
 use Rattle.fabric_trace.specs.Fold.{seen}
 use Rattle.fabric_trace.specs.Ends.{EndsAs, Whole, Named}
-use Rattle.fabric_trace.specs.Runs.{has_block, Follows, BlockThen, Names, RunsFrom}
+use Rattle.fabric_trace.specs.Runs.{Follows, BlockThen, Names, RunsFrom}
 use Rattle.fabric_trace.proofs.Folding.{seen-append}
 
 -- lines before those that end
@@ -35,6 +36,6 @@ event_ends s line number More lines more run =
 pub runs_end : (script : List Numbered) (s : Seen) (lines : List TraceLine) → s.unfaithful ≡ None → RunsFrom s script lines → EndsAs s lines
 runs_end [] s lines none run = Whole [] run none
 runs_end (line ∷ script) s lines none run =
-    by_test (has_block line.line)
+    by_test (is_event line.line)
     (event_ends s line.line line.number (λ t rest. RunsFrom t script rest) lines (λ t rest still more. runs_end script t rest still more))
     (λ more. runs_end script s lines none more) run

@@ -9,6 +9,7 @@ use Rattle.link_wires.specs.Wires.{fits}
 use Rattle.link_wires.specs.declared.edits.Edit.{Edit}
 use Rattle.link_machine.specs.Calls.{has_chars, pump_notes, delivery_notes, is_silent, time_out_notes}
 use Rattle.rio_packets.specs.Fields.{prio_of}
+use Rattle.fabric_script.specs.Lines.{is_event}
 use Rattle.fabric_script.specs.declared.ports.PortRef.{PortRef}
 use Rattle.fabric_script.specs.declared.lines.Line.{Line}
 use Rattle.fabric_script.specs.declared.lines.Line.TheVariants.{Endpoint, Switch, Link, Buffers, Route, Default, Lock, Send, Read, Write, Pump, Deliver, Alter, Insert, Erase, Timeout, Settle, Move, Collect, Run}
@@ -20,7 +21,7 @@ use Rattle.fabric_trace.specs.Lines.{TraceLine, Begun, Stepped, Signed, Lacked, 
 use Rattle.fabric_trace.specs.Known.{Found, Seen, peer_of, link_at}
 use Rattle.fabric_trace.specs.Fold.{edit_of, seen_line, seen}
 use Rattle.fabric_trace.specs.Blocks.{takes, Leaves, lines_of, pumps, delivers, times_out, edits, IsSettle, WithPeer, WithLink, IsBlock}
-use Rattle.fabric_trace.specs.Runs.{has_block, Follows, BlockThen, Names, NamesNothing, RunsFrom, BlocksFrom}
+use Rattle.fabric_trace.specs.Runs.{Follows, BlockThen, Names, NamesNothing, RunsFrom, BlocksFrom}
 use Rattle.fabric_trace.specs.Parts.{Begins as BeginsPart, Ends, Names as NamesPart, Made, Done, Then}
 use Rattle.fabric_trace.specs.Settled.{settled_by, under_way, RestsAt, Settled}
 use Rattle.fabric_trace.proofs.Keeping.{IsGood, made_keeps}
@@ -179,7 +180,7 @@ named_rests number t p e rest found named = rests_by named (record { made = one_
 pub runs_rest : (script : List Numbered) (s : Seen) (port : Option PortRef) (lines : List TraceLine) → IsGood s → s.unfaithful ≡ None → RestsAt s port → RunsFrom s script lines → Rests s port lines
 runs_rest [] s port lines good none rests run = rests_by run (record { made = one_part (Ends refl); settled = (rests, tt) })
 runs_rest (line ∷ script) s port lines good none rests run =
-    by_test (has_block line.line)
+    by_test (is_event line.line)
     (event_then s port line.line (λ t rest. RunsFrom t script rest) (Names line.number) lines good none rests (λ t p rest g still at more. runs_rest script t p rest g still at more) (named_rests line.number))
     (λ more. runs_rest script s port lines good none rests more) run
 
@@ -189,7 +190,7 @@ nothing_rests t p rest none = rests_by none (record { made = Done refl; settled 
 pub blocks_rest : (script : List Numbered) (s : Seen) (port : Option PortRef) (lines : List TraceLine) → IsGood s → s.unfaithful ≡ None → RestsAt s port → BlocksFrom s script lines → Rests s port lines
 blocks_rest [] s port lines good none rests run = nothing_rests s port lines run
 blocks_rest (line ∷ script) s port lines good none rests run =
-    by_test (has_block line.line)
+    by_test (is_event line.line)
     (event_then s port line.line (λ t rest. BlocksFrom t script rest) NamesNothing lines good none rests (λ t p rest g still at more. blocks_rest script t p rest g still at more) (λ t p e rest found named. nothing_rests t p rest named))
     (λ more. blocks_rest script s port lines good none rests more) run
 

@@ -17,6 +17,7 @@ use Rattle.link_machine.specs.States.{LinkState, turned_round}
 use Rattle.link_machine.specs.Calls.{first_takes, has_chars, delivery_from, delivery_notes, has_none, is_silent, first_fires, time_out_notes}
 use Rattle.link_rest.specs.Acts.{Act, Pump as PumpAct, Deliver as DeliverAct, Fire, Reached, At, Found as FoundAt, reached_by, after, goes, act_notes, acts_notes}
 use Rattle.link_watch.specs.Sides.{other_side}
+use Rattle.fabric_script.specs.Lines.{is_event}
 use Rattle.fabric_script.specs.declared.ports.PortRef.{PortRef}
 use Rattle.fabric_script.specs.declared.lines.Line.{Line}
 use Rattle.fabric_script.specs.declared.lines.Line.TheVariants.{Endpoint, Switch, Link, Buffers, Route, Default, Lock, Send, Read, Write, Pump, Deliver, Alter, Insert, Erase, Timeout, Settle, Move, Collect, Run}
@@ -29,7 +30,7 @@ use Rattle.fabric_trace.specs.Lines.{TraceLine, Begun, Stepped, Lacked, Full, Em
 use Rattle.fabric_trace.specs.Known.{Seen, Found, peer_of, link_at}
 use Rattle.fabric_trace.specs.Fold.{edit_of, edited_by, seen}
 use Rattle.fabric_trace.specs.Blocks.{takes, Leaves, port_at_side, lines_of, pumps, delivers, times_out, edits, IsSettle, WithPeer, WithLink, IsBlock}
-use Rattle.fabric_trace.specs.Runs.{has_block, Follows, BlockThen, Names as NamesLast, RunsFrom}
+use Rattle.fabric_trace.specs.Runs.{Follows, BlockThen, Names as NamesLast, RunsFrom}
 use Rattle.fabric_trace.specs.Parts.{Begins, Lacks, Ends, Names, Steps, Turns, Delivers, Fires, Made, Done, Then}
 use Rattle.fabric_trace.proofs.Folding.{seen-append, lines-append}
 use Rattle.fabric_trace.proofs.Keeping.{few_prio, IsGood, good_by_priority, made_keeps}
@@ -321,6 +322,6 @@ event_made s line number More lines good none more run =
 pub runs_made : (script : List Numbered) (s : Seen) (lines : List TraceLine) → IsGood s → s.unfaithful ≡ None → RunsFrom s script lines → Made s lines
 runs_made [] s lines good none run = one_part (Ends run)
 runs_made (line ∷ script) s lines good none run =
-    by_test (has_block line.line)
+    by_test (is_event line.line)
     (event_made s line.line line.number (λ t rest. RunsFrom t script rest) lines good none (λ t rest g still more. runs_made script t rest g still more))
     (λ more. runs_made script s lines good none more) run

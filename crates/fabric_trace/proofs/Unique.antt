@@ -7,6 +7,7 @@ use Rattle.link_watch.specs.declared.side.Side.TheVariants.{A, B}
 use Rattle.link_rest.specs.Schedules.{NextOf, WhereOf, Is, LoopOf, Rests, GoesOn, Leaves as LeavesLoop}
 use Rattle.link_rest.specs.Acts.{Pump as PumpAct, Fire, Reached, At, goes, holds, acts_notes}
 use Rattle.link_rest.specs.Settling.{of_end, first_has_chars, first_rests, is_retry_stopped, has_failed, may_fire, waits, all_chars, Empties, is_busy, Drains, TakesTurn, Restarts, TimesOut, Requests, Recovers, SendsAll, Settles}
+use Rattle.fabric_script.specs.Lines.{is_event}
 use Rattle.fabric_script.specs.declared.ports.PortRef.{PortRef}
 use Rattle.fabric_script.specs.declared.lines.Line.{Line}
 use Rattle.fabric_script.specs.declared.lines.Line.TheVariants.{Endpoint, Switch, Link, Buffers, Route, Default, Lock, Send, Read, Write, Pump, Deliver, Alter, Insert, Erase, Timeout, Settle, Move, Collect, Run}
@@ -17,7 +18,7 @@ use Rattle.fabric_trace.specs.Lines.{TraceLine, Begun}
 use Rattle.fabric_trace.specs.Known.{Found, Seen, peer_of, link_at}
 use Rattle.fabric_trace.specs.Fold.{seen}
 use Rattle.fabric_trace.specs.Blocks.{takes, IsSend, Leaves, pumps, delivers, times_out, lines_of, IsSettle, WithPeer, WithLink, IsBlock}
-use Rattle.fabric_trace.specs.Runs.{start, has_block, Follows, BlockThen, Names, NamesNothing, RunsFrom, Runs, BlocksFrom, Begins}
+use Rattle.fabric_trace.specs.Runs.{start, Follows, BlockThen, Names, NamesNothing, RunsFrom, Runs, BlocksFrom, Begins}
 
 -- no two lists are of this kind
 abbrev pub AtMostOne : {L : Type 0} → (List L → Type 0) → Type 0
@@ -173,7 +174,7 @@ event_one s line More Last one two x y p q =
 pub runs_from_one : (script : List Numbered) (s : Seen) → AtMostOne (RunsFrom s script)
 runs_from_one [] s x y f g = f ∙ sym g
 runs_from_one (line ∷ script) s x y f g =
-    match_one (has_block line.line)
+    match_one (is_event line.line)
     (BlockThen (λ t rest. RunsFrom t script rest) (Names line.number) s line.line) (RunsFrom s script)
     (event_one s line.line (λ t rest. RunsFrom t script rest) (Names line.number) (runs_from_one script) (λ e a b h k. h ∙ sym k))
     (runs_from_one script s) x y f g
@@ -208,7 +209,7 @@ event_front s line number Near Far x y front p q =
 blocks_front : (done rest : List Numbered) (s : Seen) (x y : List TraceLine) → BlocksFrom s done x → RunsFrom s (done ++ rest) y → IsFront x y
 blocks_front [] rest s x y p q = nothing_is_front x y p
 blocks_front (line ∷ done) rest s x y p q =
-    by_test (has_block line.line)
+    by_test (is_event line.line)
     (event_front s line.line line.number (λ t a. BlocksFrom t done a) (λ t b. RunsFrom t (done ++ rest) b) x y (blocks_front done rest))
     (blocks_front done rest s x y) p q
 
