@@ -4,3 +4,4 @@ pub mod AccessLaws
 pub mod RouteLaws
 pub mod SameLaws
 pub mod LinkLaws
+pub mod WithinLaws

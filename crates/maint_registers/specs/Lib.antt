@@ -4,3 +4,4 @@ pub mod Access
 pub mod Routes
 pub mod Laws
 pub mod Inside
+pub mod Within

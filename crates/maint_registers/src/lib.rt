@@ -19,5 +19,8 @@ mod table;
 #[cfg(test)]
 mod tests;
 
-pub use laws::{link_shows_at_its_port, lock_is_taken_if_free, write_changes_its_bits};
+pub use laws::{
+    devices_stay_within, link_shows_at_its_port, lock_is_taken_if_free, new_devices_are_within,
+    reads_are_words, write_changes_its_bits,
+};
 pub use registers::Registers;

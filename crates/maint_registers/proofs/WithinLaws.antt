@@ -1,0 +1,242 @@
+-- The numbers of a device fit their registers.
+use Rattle.std.proofs.Common.{◌≡◌, ℕ, ◌/◌, ◌%◌, ◌^◌, ◌<◌, ◌≤◌, ◌==◌, ◌&&◌, nat_lt, Bool, true, false, List, [], ◌∷◌, length, All, Option, Some, None, option_map, slice_set, arith, refl, subst, if◌then◌else◌, ltb-true, length-set}
+use Rattle.std.specs.Option.{option_and_then, option_or}
+use Rattle.std.proofs.lemmas.Bool.{and_parts}
+use Rattle.std.proofs.lemmas.List.Elements.{All-set, All-replicate, All-get_or}
+use Rattle.maint_registers.specs.declared.registers.Kind.{Kind}
+use Rattle.maint_registers.specs.declared.registers.Kind.TheVariants.{Endpoint, Switch}
+use Rattle.maint_registers.specs.declared.table.Register.{Register}
+use Rattle.maint_registers.specs.declared.table.Register.TheVariants.{Fixed, PortInformation, BaseId, HostLock, ComponentTag, RouteSelect, RouteEntry, DefaultPort}
+use Rattle.maint_registers.specs.Devices.{Device, no_routes, new_endpoint, new_switch}
+use Rattle.maint_registers.specs.Table.{Row, table, column, in_rows, status_port, status_of, register_at}
+use Rattle.maint_registers.specs.Access.{value_of, value_at, written_to, written_at, locked}
+use Rattle.maint_registers.specs.Within.{IsWithin}
+
+no_routes_fit : All (λ entry. entry < 0x100) no_routes
+unfolding no_routes
+no_routes_fit = All-replicate (λ entry. entry < 0x100) 256 255 (omega arith)
+
+no_routes_long : length no_routes ≡ 256
+unfolding no_routes
+no_routes_long = refl
+
+pub new_endpoint_within : (id : ℕ) (linked : Bool) → id < 0x100 → IsWithin (new_endpoint id linked)
+new_endpoint_within id linked range = record {
+  ports = omega arith;
+  base_id = range;
+  lock = omega arith;
+  tag = omega arith;
+  select = omega arith;
+  destinations = no_routes_long;
+  routes = no_routes_fit;
+  default_port = omega arith;
+}
+
+pub new_switch_within : (ports linked : ℕ) → ports ≤ 16 → IsWithin (new_switch ports linked)
+new_switch_within ports linked most = record {
+  ports = most;
+  base_id = omega arith;
+  lock = omega arith;
+  tag = omega arith;
+  select = omega arith;
+  destinations = no_routes_long;
+  routes = no_routes_fit;
+  default_port = omega arith;
+}
+
+pub base_id_within : (device : Device) (id : ℕ) → IsWithin device → id < 0x100
+    → IsWithin (record device { base_id = id })
+base_id_within device id within range = record {
+  ports = within.ports;
+  base_id = range;
+  lock = within.lock;
+  tag = within.tag;
+  select = within.select;
+  destinations = within.destinations;
+  routes = within.routes;
+  default_port = within.default_port;
+}
+
+pub lock_within : (device : Device) (id : ℕ) → IsWithin device → id < 0x10000
+    → IsWithin (record device { lock = id })
+lock_within device id within range = record {
+  ports = within.ports;
+  base_id = within.base_id;
+  lock = range;
+  tag = within.tag;
+  select = within.select;
+  destinations = within.destinations;
+  routes = within.routes;
+  default_port = within.default_port;
+}
+
+pub tag_within : (device : Device) (tag : ℕ) → IsWithin device → tag < 0x100000000
+    → IsWithin (record device { tag = tag })
+tag_within device tag within range = record {
+  ports = within.ports;
+  base_id = within.base_id;
+  lock = within.lock;
+  tag = range;
+  select = within.select;
+  destinations = within.destinations;
+  routes = within.routes;
+  default_port = within.default_port;
+}
+
+pub select_within : (device : Device) (dest : ℕ) → IsWithin device → dest < 0x100
+    → IsWithin (record device { select = dest })
+select_within device dest within range = record {
+  ports = within.ports;
+  base_id = within.base_id;
+  lock = within.lock;
+  tag = within.tag;
+  select = range;
+  destinations = within.destinations;
+  routes = within.routes;
+  default_port = within.default_port;
+}
+
+pub route_within : (device : Device) (dest port : ℕ) → IsWithin device → port < 0x100
+    → IsWithin (record device { routes = slice_set device.routes dest port })
+route_within device dest port within range =
+    let long = length-set device.routes dest port in
+    let before = within.destinations in
+    record {
+      ports = within.ports;
+      base_id = within.base_id;
+      lock = within.lock;
+      tag = within.tag;
+      select = within.select;
+      destinations = omega (arith, long, before);
+      routes = All-set (λ entry. entry < 0x100) device.routes dest port range within.routes;
+      default_port = within.default_port;
+    }
+
+pub default_within : (device : Device) (port : ℕ) → IsWithin device → port < 0x100
+    → IsWithin (record device { default_port = port })
+default_within device port within range = record {
+  ports = within.ports;
+  base_id = within.base_id;
+  lock = within.lock;
+  tag = within.tag;
+  select = within.select;
+  destinations = within.destinations;
+  routes = within.routes;
+  default_port = range;
+}
+
+pub links_within : (device : Device) (linked : ℕ) → IsWithin device
+    → IsWithin (record device { linked = linked })
+links_within device linked within = record {
+  ports = within.ports;
+  base_id = within.base_id;
+  lock = within.lock;
+  tag = within.tag;
+  select = within.select;
+  destinations = within.destinations;
+  routes = within.routes;
+  default_port = within.default_port;
+}
+
+-- a lock that a host writes to
+locked_within : (lock id : ℕ) → lock < 0x10000 → id < 0x10000 → locked lock id < 0x10000
+locked_within lock id below range = go (lock == 0xffff) (lock == id)
+  where
+    go : (free own : Bool) → (if free then id else (if own then 0xffff else lock)) < 0x10000
+    go true own = range
+    go false true = omega arith
+    go false false = below
+
+module _ (device next : Device) (value : ℕ) (within : IsWithin device) (range : value < 0x100000000) where
+  -- a device that is within is the next one
+  this : (written : Device) → IsWithin written → Some written ≡ Some next → IsWithin next
+  this written fits is = let same : written ≡ next = cc in subst IsWithin same fits
+
+  register_within : (register : Register) → written_to device value register ≡ Some next → IsWithin next
+  register_within (Fixed shown) is = absurd (cc)
+  register_within PortInformation is = absurd (cc)
+  register_within BaseId is = this _ (base_id_within device _ within (omega arith)) is
+  register_within HostLock is = this _ (lock_within device _ within (locked_within device.lock (value % 0x10000) within.lock (omega arith))) is
+  register_within ComponentTag is = this _ (tag_within device value within range) is
+  register_within RouteSelect is = this _ (select_within device _ within (omega arith)) is
+  register_within RouteEntry is = this _ (route_within device device.select _ within (omega arith)) is
+  register_within DefaultPort is = this _ (default_within device _ within (omega arith)) is
+
+-- whatever is written, the device stays within
+pub written_within : (device next : Device) (offset value : ℕ) → IsWithin device
+    → value < 0x100000000 → written_at device offset value ≡ Some next → IsWithin next
+written_within device next offset value within range = go (register_at device offset)
+  where
+    go : (o : Option Register) → option_and_then (written_to device value) o ≡ Some next → IsWithin next
+    go None is = absurd (cc)
+    go (Some register) is = register_within device next value within range register is
+
+-- a fixed value fits a word
+abbrev fits : Register → Bool
+fits (Fixed value) = nat_lt value 0x100000000
+fits _ = true
+
+abbrev fit : Option Register → Bool
+fit None = true
+fit (Some register) = fits register
+
+abbrev all_fit : List Row → Bool
+all_fit [] = true
+all_fit (row ∷ rows) = fit row.1 && (fit row.2 && all_fit rows)
+
+rows_fit : (kind : Kind) (rows : List Row) (offset : ℕ) → all_fit rows ≡ true → fit (in_rows kind rows offset) ≡ true
+rows_fit kind [] offset all = refl
+rows_fit kind (row ∷ rows) offset all =
+    let first = and_parts (fit row.1) (fit row.2 && all_fit rows) all in
+    let second = and_parts (fit row.2) (all_fit rows) first.1 in
+    go kind (row.0 == offset) first.0 second.0 (rows_fit kind rows offset second.1)
+  where
+    go : (k : Kind) (here : Bool) → fit row.1 ≡ true → fit row.2 ≡ true
+        → fit (in_rows kind rows offset) ≡ true
+        → fit (if here then column k row else in_rows kind rows offset) ≡ true
+    go Endpoint true endpoint switch rest = endpoint
+    go Switch true endpoint switch rest = switch
+    go k false endpoint switch rest = rest
+
+status_fits : (device : Device) (o : Option ℕ) → fit (option_map (λ n. Fixed (status_of device n)) o) ≡ true
+status_fits device None = refl
+status_fits device (Some n) = go (device.linked / 2 ^ n % 2 == 1)
+  where
+    go : (linked : Bool) → fits (Fixed (if linked then 2 else 1)) ≡ true
+    go true = refl
+    go false = refl
+
+registers_fit : (device : Device) (offset : ℕ) → fit (register_at device offset) ≡ true
+registers_fit device offset =
+    go (in_rows device.kind table offset) (rows_fit device.kind table offset refl)
+  where
+    go : (o : Option Register) → fit o ≡ true
+        → fit (option_or o (option_map (λ n. Fixed (status_of device n)) (status_port device.ports offset))) ≡ true
+    go None all = status_fits device (status_port device.ports offset)
+    go (Some register) all = all
+
+value_fits : (device : Device) (port : ℕ) (register : Register) → IsWithin device → port < 0x100
+    → fits register ≡ true → value_of device port register < 0x100000000
+value_fits device port (Fixed value) within range fit = ltb-true value 0x100000000 fit
+value_fits device port PortInformation within range fit = let most = within.ports in omega arith
+value_fits device port BaseId within range fit = let most = within.base_id in omega arith
+value_fits device port HostLock within range fit = let most = within.lock in omega arith
+value_fits device port ComponentTag within range fit = within.tag
+value_fits device port RouteSelect within range fit = let most = within.select in omega arith
+value_fits device port RouteEntry within range fit =
+    let long = within.destinations in
+    let selected = within.select in
+    let entry = All-get_or (λ e. e < 0x100) device.routes device.select 0 (omega arith) within.routes in
+    omega arith
+value_fits device port DefaultPort within range fit = let most = within.default_port in omega arith
+
+-- what is read is a word
+pub read_fits : (device : Device) (offset port value : ℕ) → IsWithin device → port < 0x100
+    → value_at device offset port ≡ Some value → value < 0x100000000
+read_fits device offset port value within range = go (register_at device offset) (registers_fit device offset)
+  where
+    go : (o : Option Register) → fit o ≡ true → option_map (value_of device port) o ≡ Some value → value < 0x100000000
+    go None fit is = absurd (cc)
+    go (Some register) fit is =
+        let same : value_of device port register ≡ value = cc in
+        subst (λ n. n < 0x100000000) same (value_fits device port register within range fit)
