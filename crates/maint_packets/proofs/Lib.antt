@@ -2,3 +2,4 @@ pub mod FormLaws
 pub mod LayoutLaws
 pub mod RequestLaws
 pub mod ResponseLaws
+pub mod AnswerLaws

@@ -3,3 +3,4 @@ pub mod Requests
 pub mod Responses
 pub mod Answers
 pub mod NextHops
+pub mod Laws

@@ -1,0 +1,198 @@
+-- What registers answer is in its link form, and their numbers go on to fit.
+use Rattle.std.proofs.Common.{◌≡◌, ℕ, ◌+◌, ◌<◌, ◌==◌, Bool, true, false, min, List, length, get_or, Option, Some, None, arith, refl, subst, inl, inr, if◌then◌else◌}
+use Rattle.std.specs.List.{AllByRecursion}
+use Rattle.std.proofs.lemmas.Bool.{cases_lt}
+use Rattle.std.proofs.lemmas.List.{get_or_past}
+use Rattle.std.proofs.lemmas.List.Elements.{All-from_recursion}
+use Rattle.rio_packets.specs.LinkForm.{AreBytes, Passes}
+use Rattle.rio_packets.specs.Fields.{prio_of, ttype_of, is_request, body_of}
+use Rattle.rio_packets.specs.Hops.{closed}
+use Rattle.maint_registers.specs.Devices.{Device}
+use Rattle.maint_registers.specs.Within.{IsWithin}
+use Rattle.maint_registers.specs.Access.{value_at, written_at}
+use Rattle.maint_registers.proofs.WithinLaws.{written_within, read_fits}
+use Rattle.maint_packets.specs.declared.request.Op.{Op}
+use Rattle.maint_packets.specs.declared.request.Op.TheVariants.{Read, Write, BadRead, BadWrite}
+use Rattle.maint_packets.specs.declared.request.Request.{Request}
+use Rattle.maint_packets.specs.Layout.{word_at, offset_of, data_bytes, behind_ids}
+use Rattle.maint_packets.specs.Requests.{names_second, in_half, value_in, has_form, op_of, request_of}
+use Rattle.maint_packets.specs.Responses.{response_bytes}
+use Rattle.maint_packets.specs.Answers.{back, after_read, after_write, answered_to, answered}
+use Rattle.maint_packets.proofs.FormLaws.{Passes-closed}
+
+-- ---- bytes
+
+-- a missing byte is 0
+byte_at : (bytes : List ℕ) (i : ℕ) → AreBytes bytes → get_or bytes i 0 < 256
+byte_at bytes i range =
+    elim (cases_lt i (length bytes)) [
+      | inl inside ↦ range i 0 inside
+      | inr beyond ↦ let none = get_or_past bytes i 0 beyond in omega (arith, none)
+    ]
+
+word_fits : (bytes : List ℕ) (at : ℕ) → AreBytes bytes → word_at bytes at < 0x100000000
+word_fits bytes at range =
+    let a = byte_at bytes at range in
+    let b = byte_at bytes (at + 1) range in
+    let c = byte_at bytes (at + 2) range in
+    let d = byte_at bytes (at + 3) range in
+    omega (arith, a, b, c, d)
+
+-- ---- requests
+
+-- each number of a request fits its field
+record Fits (request : Request) : Type 0 where
+  dest : request.dest < 256
+  source : request.source < 256
+  tid : request.tid < 256
+  value : (value : ℕ) → request.op ≡ Write value → value < 0x100000000
+
+op_fits : (bytes : List ℕ) (value : ℕ) → AreBytes bytes → op_of bytes ≡ Write value → value < 0x100000000
+op_fits bytes value range = go (ttype_of bytes == 0) (has_form bytes 12) (has_form bytes 20)
+  where
+    go : (read short long : Bool)
+        → (if read then (if short then Read else BadRead) else (if long then Write (value_in bytes) else BadWrite)) ≡ Write value
+        → value < 0x100000000
+    go true true long is = absurd (cc)
+    go true false long is = absurd (cc)
+    go false short false is = absurd (cc)
+    go false short true is =
+        let same : value_in bytes ≡ value = cc in
+        subst (λ n. n < 0x100000000) same (word_fits bytes (if names_second (offset_of bytes) then 14 else 10) range)
+
+request_fits : (packet : List ℕ) (request : Request) → AreBytes packet → request_of packet ≡ Some request → Fits request
+request_fits packet request range is = go (is_request packet) is
+  where
+    read : Request
+    read = record {
+      prio = prio_of packet;
+      dest = get_or packet 2 0;
+      source = get_or packet 3 0;
+      op = op_of packet;
+      tid = get_or packet 5 0;
+      hop = get_or packet 6 0;
+      offset = offset_of packet;
+    }
+
+    go : (b : Bool) → (if b then Some read else None) ≡ Some request → Fits request
+    go false none = absurd (cc)
+    go true some =
+        let same : read ≡ request = cc in
+        subst Fits same record {
+          dest = byte_at packet 2 range;
+          source = byte_at packet 3 range;
+          tid = byte_at packet 5 range;
+          value = λ value is. op_fits packet value range is;
+        }
+
+-- ---- responses
+
+-- two words, or none
+abbrev AreWords : Option (ℕ × ℕ) → Type 0
+AreWords None = Unit {0}
+AreWords (Some words) = (words.0 < 0x100000000) × (words.1 < 0x100000000)
+
+data_fits : (words : Option (ℕ × ℕ)) → AreWords words → AllByRecursion (λ b. b < 256) (data_bytes words)
+data_fits None fit = tt
+data_fits (Some words) fit =
+    let first = fit.0 in let second = fit.1 in
+    (omega arith, (omega arith, (omega arith, (omega arith, (omega arith, (omega arith, (omega arith, (omega arith, tt))))))))
+
+-- the body of a response
+module _ (prio dest source ttype status tid : ℕ) (p : prio < 4) (d : dest < 256) (s : source < 256)
+    (t : ttype < 16) (l : status < 16) (n : tid < 256) where
+  abbrev body : Option (ℕ × ℕ) → List ℕ
+  body words = body_of prio 8 dest source (behind_ids ttype status tid 255 0 words)
+
+  body_range : (words : Option (ℕ × ℕ)) → AreWords words → AreBytes (body words)
+  body_range words fit =
+      All-from_recursion (λ b. b < 256) (body words)
+      (omega arith, (omega arith, (d, (s, (omega arith, (n, (omega arith, (omega arith, (omega arith, (omega arith, data_fits words fit))))))))))
+
+  body_passes : (words : Option (ℕ × ℕ)) → AreWords words → Passes (closed (body words))
+  body_passes None fit =
+      Passes-closed (body None)
+      record { even = refl; least = omega arith; most = omega arith; range = body_range None fit; origin = omega arith }
+      (omega arith) refl
+  body_passes (Some words) fit =
+      Passes-closed (body (Some words))
+      record { even = refl; least = omega arith; most = omega arith; range = body_range (Some words) fit; origin = omega arith }
+      (omega arith) refl
+
+-- the response goes back in its link form
+back_passes : (request : Request) (write : Bool) (status : ℕ) (words : Option (ℕ × ℕ)) → Fits request
+    → status < 16 → AreWords words → Passes (response_bytes (back request write status words))
+back_passes request write status words fits small fit =
+    body_passes (min (request.prio + 1) 3) request.source request.dest (if write then 3 else 2) status request.tid
+    (omega arith) fits.source fits.dest (type_fits write) small fits.tid words fit
+  where
+    type_fits : (write : Bool) → (if write then 3 else 2) < 16
+    type_fits true = omega arith
+    type_fits false = omega arith
+
+half_fits : (offset value : ℕ) → value < 0x100000000 → AreWords (Some (in_half offset value))
+half_fits offset value fits = go (names_second offset)
+  where
+    go : (second : Bool) → AreWords (Some (if second then (0, value) else (value, 0)))
+    go true = (omega arith, fits)
+    go false = (fits, omega arith)
+
+read_passes : (device : Device) (request : Request) (o : Option ℕ) → Fits request
+    → ((value : ℕ) → o ≡ Some value → value < 0x100000000)
+    → Passes (response_bytes (after_read device request o).response)
+read_passes device request None fits words = back_passes request false 7 None fits (omega arith) tt
+read_passes device request (Some value) fits words =
+    back_passes request false 0 (Some (in_half request.offset value)) fits (omega arith)
+    (half_fits request.offset value (words value refl))
+
+write_passes : (device : Device) (request : Request) (o : Option Device) → Fits request
+    → Passes (response_bytes (after_write device request o).response)
+write_passes device request None fits = back_passes request true 7 None fits (omega arith) tt
+write_passes device request (Some next) fits = back_passes request true 0 None fits (omega arith) tt
+
+op_passes : (device : Device) (request : Request) (port : ℕ) (op : Op) → IsWithin device → port < 0x100
+    → Fits request → Passes (response_bytes (answered_to device request port op).response)
+op_passes device request port Read within low fits =
+    read_passes device request (value_at device request.offset port) fits
+    (λ value is. read_fits device request.offset port value within low is)
+op_passes device request port (Write value) within low fits =
+    write_passes device request (written_at device request.offset value) fits
+op_passes device request port BadRead within low fits = read_passes device request None fits (λ value is. absurd (cc))
+op_passes device request port BadWrite within low fits = write_passes device request None fits
+
+-- what the registers answer is in its link form
+pub responses_pass : (device : Device) (packet : List ℕ) (request : Request) (port : ℕ)
+    → IsWithin device → port < 0x100 → Passes packet → request_of packet ≡ Some request
+    → Passes (response_bytes (answered device request port).response)
+responses_pass device packet request port within low form is =
+    op_passes device request port request.op within low (request_fits packet request form.range is)
+
+-- ---- devices
+
+written_stays : (device : Device) (request : Request) (o : Option Device) → IsWithin device
+    → ((next : Device) → o ≡ Some next → IsWithin next) → IsWithin (after_write device request o).device
+written_stays device request None within nexts = within
+written_stays device request (Some next) within nexts = nexts next refl
+
+read_stays : (device : Device) (request : Request) (o : Option ℕ) → IsWithin device
+    → IsWithin (after_read device request o).device
+read_stays device request None within = within
+read_stays device request (Some value) within = within
+
+op_stays : (device : Device) (request : Request) (port : ℕ) (op : Op) → IsWithin device
+    → ((value : ℕ) → op ≡ Write value → value < 0x100000000)
+    → IsWithin (answered_to device request port op).device
+op_stays device request port Read within fits = read_stays device request (value_at device request.offset port) within
+op_stays device request port (Write value) within fits =
+    written_stays device request (written_at device request.offset value) within
+    (λ next is. written_within device next request.offset value within (fits value refl) is)
+op_stays device request port BadRead within fits = within
+op_stays device request port BadWrite within fits = within
+
+-- and leaves the device within its bounds
+pub answered_within : (device : Device) (packet : List ℕ) (request : Request) (port : ℕ)
+    → IsWithin device → Passes packet → request_of packet ≡ Some request
+    → IsWithin (answered device request port).device
+answered_within device packet request port within form is =
+    let fits = request_fits packet request form.range is in
+    op_stays device request port request.op within fits.value

@@ -1,0 +1,21 @@
+-- What registers answer is a packet in its link form.
+use Rattle.std.specs.Prelude.{◌≡◌, ℕ, ◌<◌, List, Some}
+use Rattle.rio_packets.specs.LinkForm.{Passes}
+use Rattle.maint_registers.specs.Devices.{Device}
+use Rattle.maint_registers.specs.Within.{IsWithin}
+use Rattle.maint_packets.specs.declared.request.Request.{Request}
+use Rattle.maint_packets.specs.Requests.{request_of}
+use Rattle.maint_packets.specs.Responses.{response_bytes}
+use Rattle.maint_packets.specs.Answers.{answered}
+
+-- the response to a request that came to a port
+abbrev pub ResponsesPass : Type 0
+ResponsesPass = (device : Device) (packet : List ℕ) (request : Request) (port : ℕ)
+    → IsWithin device → port < 0x100 → Passes packet → request_of packet ≡ Some request
+    → Passes (response_bytes (answered device request port).response)
+
+-- a device after it
+abbrev pub AnsweredStaysWithin : Type 0
+AnsweredStaysWithin = (device : Device) (packet : List ℕ) (request : Request) (port : ℕ)
+    → IsWithin device → Passes packet → request_of packet ≡ Some request
+    → IsWithin (answered device request port).device
