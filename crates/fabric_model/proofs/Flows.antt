@@ -1,5 +1,5 @@
 -- In order per flow, over any list of legal steps.
-use Rattle.std.proofs.Common.{◌≡◌, ◌⊎◌, inl, inr, ℕ, zero, suc, ◌+◌, ◌-◌, ◌≤◌, ◌<◌, Bool, true, false, eqb, leb, List, [], ◌∷◌, ◌++◌, Option, Some, None, option_map, slice_get, sym, ap, ◌∙◌, subst, refl, cond, arith, append_assoc, append-nil}
+use Rattle.std.proofs.Common.{◌≡◌, ◌⊎◌, inl, inr, ℕ, suc, ◌+◌, ◌-◌, ◌≤◌, ◌<◌, Bool, true, false, eqb, leb, List, [], ◌∷◌, ◌++◌, Option, Some, None, option_map, slice_get, sym, ap, ◌∙◌, subst, refl, cond, arith, append_assoc, append-nil}
 use Rattle.std.specs.List.{AllByRecursion}
 use Rattle.std.proofs.lemmas.Bool.{eq-eqb}
 use Rattle.rio_packets.specs.Fields.{prio_of, dest_of}
@@ -12,13 +12,14 @@ use Rattle.maint_packets.specs.declared.request.Request.{Request}
 use Rattle.maint_packets.specs.Requests.{request_of}
 use Rattle.maint_packets.specs.Answers.{after_read, after_write, answered_to, answered}
 use Rattle.fabric_script.specs.declared.ports.PortRef.{PortRef}
-use Rattle.fabric_model.specs.Network.{Item, Network, port_of, switch_at, route_at, with_device}
+use Rattle.fabric_model.specs.Network.{Item, Network, port_of, switch_at, route_at}
 use Rattle.fabric_model.specs.Serving.{device_after}
 use Rattle.fabric_model.specs.Steps.{Hold, Free, Take, Leave, Move, Drop, Answer, Step, Linked, AtNode, ByDevice, Needs, only_first, behind_first, item_of, after, after_all, LegalFrom}
 use Rattle.fabric_model.specs.Laws.History.{IsEmptyNetwork, End, Left, Dropped, Answered, same_end, taken_by, ended_by, taken, ended}
 use Rattle.fabric_model.specs.Laws.Holding.{Place, Received, Waiting, Over, same_place, items_at, how_often}
 use Rattle.fabric_model.specs.Laws.Flows.{SameCourse, RoutesStand, EarlierFirst, InOrder}
 use Rattle.fabric_model.specs.Laws.Proper.{AreProper}
+use Rattle.fabric_model.proofs.Devices.{kinds_stay}
 use Rattle.fabric_model.proofs.Joining.{legal_parts, links_stay}
 use Rattle.fabric_model.proofs.Boards.{place_is, step_on, AllOn, all_weaker}
 use Rattle.fabric_model.proofs.Tables.{registers_stay}
@@ -55,13 +56,6 @@ answer_kind device request port = by_op request.op
 device_kind : (port : ℕ) (request : Option Request) (device : Device) → is_switch (device_after port request device) ≡ is_switch device
 device_kind port None device = refl
 device_kind port (Some request) device = answer_kind device request port
-
-kinds_stay : (devices : List Device) (p n : ℕ) (change : Device → Device) → ((device : Device) → is_switch (change device) ≡ is_switch device) → option_map is_switch (slice_get (with_device devices p change) n) ≡ option_map is_switch (slice_get devices n)
-kinds_stay [] p n change same = refl
-kinds_stay (device ∷ devices) zero zero change same = ap Some (same device)
-kinds_stay (device ∷ devices) zero (suc n) change same = refl
-kinds_stay (device ∷ devices) (suc p) zero change same = refl
-kinds_stay (device ∷ devices) (suc p) (suc n) change same = kinds_stay devices p n change same
 
 pub switches_stay : (net : Network) (step : Step) (n : ℕ) → switch_at (after net step) n ≡ switch_at net n
 switches_stay net (ByDevice (Answer p packet response)) n = kinds_stay net.registers p.node n (device_after p.port (request_of packet)) (device_kind p.port (request_of packet))

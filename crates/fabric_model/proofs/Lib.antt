@@ -1,3 +1,4 @@
+pub mod Devices
 pub mod Joining
 pub mod Peers
 pub mod Freeing

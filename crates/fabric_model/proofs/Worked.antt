@@ -1,12 +1,10 @@
 -- A packet's way over a link, and lists of steps of which the laws do not hold.
-use Rattle.std.proofs.Common.{true, nat_lt, ◌≡◌, inl, inr, ℕ, ◌<◌, zero, suc, false, List, [], ◌∷◌, ◌++◌, Some, refl, sym, subst, arith}
-use Rattle.std.proofs.lemmas.Bool.{false≢true}
-use Rattle.std.proofs.lemmas.Option.{none-some}
+use Rattle.std.proofs.Common.{true, ◌≡◌, [], ◌∷◌, refl, arith}
 use Rattle.rio_packets.specs.LinkForm.{Passes}
 use Rattle.rio_packets.specs.Carries.{passes}
 use Rattle.rio_packets.specs.Register.{fed, shifted, shifted_times}
 use Rattle.rio_packets.proofs.CarriesLaws.{decides_passes}
-use Rattle.fabric_model.specs.Network.{Item, port_of, first_packet, room_in}
+use Rattle.fabric_model.specs.Network.{Item, port_of}
 use Rattle.fabric_model.specs.Steps.{Hold, Free, Take, Leave, Linked, AtNode, after_all, LegalFrom}
 use Rattle.fabric_model.specs.Laws.History.{gone, ended}
 use Rattle.fabric_model.specs.Laws.Holding.{Place, Received, Waiting, Over, HoldingExactly, StandsAt, items_at}

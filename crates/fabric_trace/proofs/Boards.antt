@@ -1,19 +1,19 @@
 -- What no line of a trace changes of a network; that what is found is at a port with a link; and that an event that may
 -- happen at first may happen behind any lines.
-use Rattle.std.proofs.Common.{◌≡◌, ℕ, zero, suc, Bool, true, false, List, [], ◌∷◌, Option, Some, None, IsSome, length, refl, sym, ap, ◌∙◌, subst}
+use Rattle.std.proofs.Common.{◌≡◌, ℕ, Bool, true, false, List, [], ◌∷◌, Option, Some, None, IsSome, length, refl, sym, ap, ◌∙◌, subst}
 use Rattle.rio_chars.specs.declared.chars.Char.{Char}
 use Rattle.rio_packets.specs.Fields.{prio_of}
 use Rattle.link_model.specs.declared.event.Event.{Event}
 use Rattle.link_wires.specs.Deliveries.{undetected}
 use Rattle.link_wires.specs.declared.edits.Edit.{Edit}
 use Rattle.maint_packets.specs.Requests.{request_of}
-use Rattle.maint_registers.specs.Devices.{Device}
 use Rattle.fabric_script.specs.declared.lines.Line.{Line}
-use Rattle.fabric_script.specs.declared.lines.Line.TheVariants.{Send, Read, Write, Pump, Deliver, Alter, Insert, Erase, Timeout, Settle, Collect}
+use Rattle.fabric_script.specs.declared.lines.Line.TheVariants.{Send, Read, Write, Pump, Deliver, Alter, Insert, Erase, Timeout, Settle, Move, Collect}
 use Rattle.fabric_script.specs.declared.ports.PortRef.{PortRef}
-use Rattle.fabric_model.specs.Network.{Network, IsEndpoint, peer_in, switch_at, with_device}
+use Rattle.fabric_model.specs.Network.{Network, peer_in, switch_at}
 use Rattle.fabric_model.specs.Serving.{device_after}
-use Rattle.fabric_model.specs.Steps.{Hold, Free, Take, Leave, Move, Drop, Answer, Linked, AtNode, ByDevice, Step, after, after_hold}
+use Rattle.fabric_model.specs.Steps.{Hold, Free, Take, Leave, Move as MoveStep, Drop, Answer, Linked, AtNode, ByDevice, Step, after, after_hold}
+use Rattle.fabric_model.proofs.Devices.{length-with_device}
 use Rattle.fabric_model.proofs.Flows.{switches_stay}
 use Rattle.fabric_model.proofs.Joining.{links_stay}
 use Rattle.fabric_trace.specs.Events.{HasLink, IsThere, MayHappen}
@@ -25,11 +25,6 @@ use Rattle.fabric_trace.proofs.Folding.{edited_net, got_net, fired_net}
 
 -- ---- how many registers there are, of which kinds, and links stay
 
-with_count : (devices : List Device) (n : ℕ) (change : Device → Device) → length (with_device devices n change) ≡ length devices
-with_count [] n change = refl
-with_count (device ∷ devices) zero change = refl
-with_count (device ∷ devices) (suc n) change = ap suc (with_count devices n change)
-
 count_stays : (net : Network) (step : Step) → length (after net step).registers ≡ length net.registers
 count_stays net (Linked (Hold q packet)) = held (peer_in net.links q)
   where
@@ -39,9 +34,9 @@ count_stays net (Linked (Hold q packet)) = held (peer_in net.links q)
 count_stays net (Linked (Free p packet)) = refl
 count_stays net (AtNode (Take n packet)) = refl
 count_stays net (AtNode (Leave n packet)) = refl
-count_stays net (ByDevice (Move p q packet)) = refl
+count_stays net (ByDevice (MoveStep p q packet)) = refl
 count_stays net (ByDevice (Drop p packet)) = refl
-count_stays net (ByDevice (Answer p packet response)) = with_count net.registers p.node (device_after p.port (request_of packet))
+count_stays net (ByDevice (Answer p packet response)) = length-with_device net.registers p.node (device_after p.port (request_of packet))
 
 -- what no line changes of a network
 pub record IsSameBoard (net next : Network) : Type 0 where
@@ -124,14 +119,15 @@ found_linked lines net found finds =
 linked_still : (net next : Network) (port : PortRef) → IsSameBoard net next → HasLink net port → HasLink next port
 linked_still net next port same linked = subst (λ (l : List (PortRef × PortRef)). IsSome (peer_in l port)) (sym same.links) linked
 
-endpoint_still : (net next : Network) (node : ℕ) → IsSameBoard net next → IsEndpoint net node → IsEndpoint next node
-endpoint_still net next node same is = same.kinds node ∙ is
+kind_still : (net next : Network) (node : ℕ) (own : Bool) → IsSameBoard net next → switch_at net node ≡ Some own → switch_at next node ≡ Some own
+kind_still net next node own same is = same.kinds node ∙ is
 
 there_still : (net next : Network) (line : Line) → IsSameBoard net next → IsThere net line → IsThere next line
-there_still net next (Send node prio ftype dest hex) same there = endpoint_still net next node same there
-there_still net next (Read node prio dest hop tid offset) same there = endpoint_still net next node same there
-there_still net next (Write node prio dest hop tid offset value) same there = endpoint_still net next node same there
-there_still net next (Collect node) same there = endpoint_still net next node same there
+there_still net next (Send node prio ftype dest hex) same there = kind_still net next node false same there
+there_still net next (Read node prio dest hop tid offset) same there = kind_still net next node false same there
+there_still net next (Write node prio dest hop tid offset value) same there = kind_still net next node false same there
+there_still net next (Move node) same there = kind_still net next node true same there
+there_still net next (Collect node) same there = kind_still net next node false same there
 there_still net next (Pump port n) same there = linked_still net next port same there
 there_still net next (Deliver port n) same there = linked_still net next port same there
 there_still net next (Alter port place ch) same there = linked_still net next port same there

@@ -1,28 +1,33 @@
 -- What a script that passes gives: its lines of set-up may stand behind each other, and its events may happen.
-use Rattle.std.proofs.Common.{◌≡◌, ℕ, ◌%◌, ◌<◌, ◌≤◌, zero, suc, nat_lt, nat_le, ◌==◌, Bool, true, false, not, ◌&&◌, ◌||◌, List, [], ◌∷◌, ◌++◌, Option, Some, None, map, get_or, length, length-append, All, is_some, option_map, refl, sym, ap, ◌∙◌, subst, arith}
+use Rattle.std.proofs.Common.{◌≡◌, ℕ, ◌%◌, ◌<◌, ◌≤◌, zero, suc, nat_lt, nat_le, ◌==◌, Bool, true, false, not, ◌&&◌, ◌||◌, List, [], ◌∷◌, ◌++◌, Option, Some, None, map, get_or, length, length-append, All, is_some, refl, sym, ap, ◌∙◌, subst, arith, append-nil}
 use Rattle.std.proofs.lemmas.Bool.{and_parts, or_parts, eqb-true, true≢false, false≢true}
 use Rattle.std.proofs.lemmas.Bool.Decides.{nat_tests}
-use Rattle.std.proofs.lemmas.List.Elements.{All-nil, All-cons, All-head, All-tail}
-use Rattle.std.proofs.lemmas.List.{map-append}
-use Rattle.std.specs.List.{AllByRecursion, slice_get}
+use Rattle.std.proofs.lemmas.List.Elements.{All-nil, All-cons}
+use Rattle.std.proofs.lemmas.List.{length-map, map-append}
+use Rattle.std.proofs.lemmas.Option.{slice_get-map}
+use Rattle.std.specs.List.{slice_get}
 use Rattle.rio_packets.specs.Making.{most_rest}
 use Rattle.fabric_script.specs.declared.ports.PortRef.{PortRef}
 use Rattle.fabric_script.specs.declared.lines.Line.{Line}
-use Rattle.fabric_script.specs.declared.lines.Line.TheVariants.{Endpoint, Switch, Link, Buffers, Send, Read, Write, Pump, Deliver, Alter, Insert, Erase, Timeout, Settle, Collect, Run}
+use Rattle.fabric_script.specs.declared.lines.Line.TheVariants.{Endpoint, Switch, Link, Buffers, Route, Default, Lock, Send, Read, Write, Pump, Deliver, Alter, Insert, Erase, Timeout, Settle, Move, Collect, Run}
 use Rattle.fabric_script.specs.declared.lines.Numbered.{Numbered}
-use Rattle.fabric_script.specs.declared.reasons.Reason.TheVariants.{PortTaken, BadLength, OutOfPlace, NotLinked}
+use Rattle.fabric_script.specs.declared.reasons.Reason.TheVariants.{PortTaken, BadLength, WrongKind, OutOfPlace, NotLinked}
 use Rattle.fabric_script.specs.Lines.{is_event, new_name}
-use Rattle.fabric_script.specs.Known.{Known, nothing, known_after, node_ports, links_after, ports_of, same_port, is_linked}
+use Rattle.fabric_script.specs.Known.{Known, nothing, known_after, names_after, nodes_after, links_after, node_ports, ports_of, node_is_switch, is_switch as is_known_switch, same_port, is_linked}
 use Rattle.fabric_script.specs.Refusals.{is_bad_length}
 use Rattle.fabric_script.specs.Reading.{MayBe, IsFree}
 use Rattle.fabric_script.specs.Scripts.{PassesFrom, Passes}
 use Rattle.fabric_script.proofs.PrintLaws.{named_all}
-use Rattle.maint_registers.specs.Devices.{Device, is_switch, new_endpoint}
-use Rattle.fabric_model.specs.Network.{Network, IsEndpoint, peer_in}
-use Rattle.fabric_model.proofs.Boards.{all-append}
+use Rattle.maint_registers.specs.Devices.{is_switch}
+use Rattle.fabric_model.specs.Network.{Network, IsEndpoint, IsSwitch, switch_at, peer_in}
 use Rattle.fabric_trace.specs.Runs.{bare, set_up, set_up_all}
 use Rattle.fabric_trace.specs.SetUps.{MaySetUp, MaySetUpAll}
-use Rattle.fabric_trace.specs.Events.{MakesNoSwitch, IsDataLength, IsInRange, HasLink, IsThere, MayHappen, IsPort, ArePorts, counts_after, counts_after_all, port_counts}
+use Rattle.fabric_trace.proofs.SettingUp.{set_up-links, set_up-event, made_by, set_up-kinds}
+use Rattle.fabric_trace.specs.Events.{IsDataLength, IsInRange, HasLink, IsThere, MayHappen, IsPort, ArePorts, counts_after, counts_after_all, port_counts}
+
+not_not : (t : Bool) → not t ≡ false → t ≡ true
+not_not true e = refl
+not_not false e = absurd (true≢false e)
 
 -- ---- links
 
@@ -42,39 +47,85 @@ a_peer (link ∷ links) p e = by_tests (same_port link.0 p) (same_port link.1 p)
     by_tests false true a b later = rw (a, b) refl
     by_tests false false a b later = rw (a, b) (later (sym (ap (λ x. (x || same_port link.1 p) || is_linked links p) a ∙ ap (λ x. x || is_linked links p) b) ∙ e))
 
-set_up_links : (net : Network) (line : Line) → (set_up net line).links ≡ links_after net.links line
-set_up_links net (Endpoint name id) = refl
-set_up_links net (Link a b) = refl
-set_up_links net (Buffers port n) = refl
-set_up_links net _ = refl
+-- ---- what is known of earlier lines, and the network that they set up
+
+record Stage (known : Known) (net : Network) : Type 0 where
+  linked : net.links ≡ known.links
+  count : length known.nodes ≡ length known.names
+  kinds : map is_switch net.registers ≡ map (λ node. node_is_switch (Some node)) known.nodes
+
+kinds-made : (known : Known) (line : Line) → map (λ node. node_is_switch (Some node)) known.nodes ++ map is_switch (made_by line) ≡ map (λ node. node_is_switch (Some node)) (nodes_after known.nodes line)
+kinds-made known (Endpoint name id) = sym (map-append (λ node. node_is_switch (Some node)) known.nodes _)
+kinds-made known (Switch name ports) = sym (map-append (λ node. node_is_switch (Some node)) known.nodes _)
+kinds-made known _ = append-nil _
+
+one_more : {A B : Type 0} (xs : List A) (ys : List B) (x : A) (y : B) → length xs ≡ length ys → length (xs ++ x ∷ []) ≡ length (ys ++ y ∷ [])
+one_more xs ys x y same = omega (arith, length-append xs (x ∷ []), length-append ys (y ∷ []))
+
+count-made : (known : Known) (new : List ℕ) (line : Line) → length known.nodes ≡ length known.names → length (nodes_after known.nodes line) ≡ length (names_after known.names new line)
+count-made known new (Endpoint name id) same = one_more known.nodes known.names _ new same
+count-made known new (Switch name ports) same = one_more known.nodes known.names _ new same
+count-made known new _ same = same
+
+stage-after : (known : Known) (new : List ℕ) (net : Network) (line : Line) → Stage known net → Stage (known_after known new line) (set_up net line)
+stage-after known new net line s = record {
+  linked = set_up-links net line ∙ ap (λ links. links_after links line) s.linked;
+  count = count-made known new line s.count;
+  kinds = set_up-kinds net line ∙ ap (λ kinds. kinds ++ map is_switch (made_by line)) s.kinds ∙ kinds-made known line;
+}
+
+-- a node that is known is a switch of the network, or an endpoint, as it is known to be
+kind_at : (known : Known) (net : Network) (n : ℕ) → Stage known net → n < length known.names → switch_at net n ≡ Some (is_known_switch known.nodes n)
+kind_at known net n s within =
+    let same = s.count in
+    sym (slice_get-map is_switch net.registers n) ∙ ap (λ kinds. slice_get kinds n) s.kinds ∙ there node_is_switch known.nodes n (omega arith)
+  where
+    there : {N : Type 0} (f : Option N → Bool) (nodes : List N) (n : ℕ) → n < length nodes → slice_get (map (λ node. f (Some node)) nodes) n ≡ Some (f (slice_get nodes n))
+    there f [] n within = absurd (omega arith)
+    there f (node ∷ nodes) zero within = refl
+    there f (node ∷ nodes) (suc n) within = there f nodes n (omega arith)
+
+endpoint_at : (known : Known) (net : Network) (n : ℕ) → Stage known net → n < length known.names → is_known_switch known.nodes n ≡ false → IsEndpoint net n
+endpoint_at known net n s within own = kind_at known net n s within ∙ ap Some own
+
+switch_is_at : (known : Known) (net : Network) (n : ℕ) → Stage known net → n < length known.names → not (is_known_switch known.nodes n) ≡ false → IsSwitch net n
+switch_is_at known net n s within own = kind_at known net n s within ∙ ap Some (not_not (is_known_switch known.nodes n) own)
+
+device_at : (known : Known) (net : Network) (n : ℕ) → Stage known net → n < length known.names → n < length net.registers
+device_at known net n s within =
+    let names = s.count in
+    let nodes : length net.registers ≡ length known.nodes = sym (length-map net.registers is_switch) ∙ ap length s.kinds ∙ length-map known.nodes (λ node. node_is_switch (Some node)) in
+    omega arith
 
 -- ---- each line of set-up may stand behind those before it
 
-may_one : (known : Known) (new : List ℕ) (net : Network) (line : Line) → net.links ≡ known.links → MayBe known new line → IsFree known line → MaySetUp net line
-may_one known new net (Link a b) same may free =
+may_one : (known : Known) (new : List ℕ) (net : Network) (line : Line) → Stage known net → MayBe known new line → IsFree known line → MaySetUp net line
+may_one known new net (Switch name ports) s may free = may.fit.1.0
+may_one known new net (Link a b) s may free =
     let parts = or_parts (same_port a b) (is_linked known.links a || is_linked known.links b) (free PortTaken) in
     let ends = or_parts (is_linked known.links a) (is_linked known.links b) parts.1 in
-    (parts.0, ap (λ links. peer_in links a) same ∙ no_peer known.links a ends.0, ap (λ links. peer_in links b) same ∙ no_peer known.links b ends.1)
-may_one known new net (Buffers port n) same may free = may.fit.1.0
-may_one known new net _ same may free = tt
+    (parts.0, ap (λ links. peer_in links a) s.linked ∙ no_peer known.links a ends.0, ap (λ links. peer_in links b) s.linked ∙ no_peer known.links b ends.1)
+may_one known new net (Buffers port n) s may free = may.fit.1.0
+may_one known new net (Route node id p) s may free = switch_is_at known net node s may.fit.0 (free WrongKind)
+may_one known new net (Default node p) s may free = switch_is_at known net node s may.fit.0 (free WrongKind)
+may_one known new net (Lock node id) s may free = device_at known net node s may.fit.0
+may_one known new net _ s may free = tt
 
-may_all : (known : Known) (names : List (List ℕ)) (net : Network) (lines : List Numbered) → net.links ≡ known.links → PassesFrom known names lines → MaySetUpAll net lines
-may_all known names net [] same passes = tt
-may_all known names net (line ∷ lines) same passes = (
-  may_one known (new_name names line.line) net line.line same passes.0 passes.1,
-  may_all (known_after known (new_name names line.line) line.line) names (set_up net line.line) lines (set_up_links net line.line ∙ ap (λ links. links_after links line.line) same) passes.2,
+may_all : (known : Known) (names : List (List ℕ)) (net : Network) (lines : List Numbered) → Stage known net → PassesFrom known names lines → MaySetUpAll net lines
+may_all known names net [] s passes = tt
+may_all known names net (line ∷ lines) s passes = (
+  may_one known (new_name names line.line) net line.line s passes.0 passes.1,
+  may_all (known_after known (new_name names line.line) line.line) names (set_up net line.line) lines (stage-after known (new_name names line.line) net line.line s) passes.2,
 )
 
+-- before the first line
+bare_stage : Stage nothing bare
+bare_stage = record { linked = refl; count = refl; kinds = refl }
+
 pub may_set_up : (names : List (List ℕ)) (lines : List Numbered) → Passes names lines → MaySetUpAll bare lines
-may_set_up names lines passes = may_all nothing names bare lines refl passes
+may_set_up names lines passes = may_all nothing names bare lines bare_stage passes
 
 -- ---- nothing is set up behind an event
-
-set_up-event : (net : Network) (line : Line) → is_event line ≡ true → set_up net line ≡ net
-set_up-event net (Endpoint name id) event = absurd (false≢true event)
-set_up-event net (Link a b) event = absurd (false≢true event)
-set_up-event net (Buffers port n) event = absurd (false≢true event)
-set_up-event net _ event = refl
 
 event_of : (begun event : Bool) → begun ≡ true → begun && not event ≡ false → event ≡ true
 event_of true true b e = refl
@@ -110,10 +161,6 @@ data_length ftype count e =
       maintenance = λ is. of_form (not_not (nat_le 6 count && nat_le count 70 && (count % 8 == 6)) (sym (ap (λ f. (f == 8) && forms) is) ∙ parts.1));
     }
   where
-    not_not : (t : Bool) → not t ≡ false → t ≡ true
-    not_not true e = refl
-    not_not false e = absurd (true≢false e)
-
     of_form : nat_le 6 count && nat_le count 70 && (count % 8 == 6) ≡ true → (6 ≤ count) × (count ≤ 70) × (count % 8 ≡ 6)
     of_form is =
         let outer = and_parts (nat_le 6 count && nat_le count 70) (count % 8 == 6) is in
@@ -141,45 +188,15 @@ in_range known new (Erase port place n) may free = (may.fit.1.0.1, may.fit.1.1.0
 in_range known new (Run n) may free = may.fit.0
 in_range known new _ may free = tt
 
--- what is known of earlier lines that make no switch, and the network that they set up
-record Stage (known : Known) (net : Network) : Type 0 where
-  linked : net.links ≡ known.links
-  count : length net.registers ≡ length known.names
-  endpoints : AllByRecursion (λ device. is_switch device ≡ false) net.registers
-
-stage-after : (known : Known) (new : List ℕ) (net : Network) (line : Line) → MakesNoSwitch line → Stage known net → Stage (known_after known new line) (set_up net line)
-stage-after known new net (Endpoint name id) plain s =
-    let same = s.count in
-    record {
-      linked = s.linked;
-      count = omega (arith, length-append net.registers (new_endpoint id false ∷ []), length-append known.names (new ∷ []));
-      endpoints = all-append (λ device. is_switch device ≡ false) net.registers (new_endpoint id false ∷ []) s.endpoints (refl, tt);
-    }
-stage-after known new net (Switch name ports) plain s = absurd plain
-stage-after known new net (Link a b) plain s = record { linked = ap (λ links. links ++ (a, b) ∷ []) s.linked; count = s.count; endpoints = s.endpoints }
-stage-after known new net (Buffers port n) plain s = record { linked = s.linked; count = s.count; endpoints = s.endpoints }
-stage-after known new net _ plain s = record { linked = s.linked; count = s.count; endpoints = s.endpoints }
-
-endpoint_at : (known : Known) (net : Network) (n : ℕ) → Stage known net → n < length known.names → IsEndpoint net n
-endpoint_at known net n s within = let same = s.count in kind_within net.registers n s.endpoints (omega arith)
-  where
-    kind_within : (devices : List Device) (n : ℕ) → AllByRecursion (λ device. is_switch device ≡ false) devices → n < length devices → option_map is_switch (slice_get devices n) ≡ Some false
-    kind_within [] n all within = absurd (omega arith)
-    kind_within (device ∷ devices) zero all within = ap Some all.0
-    kind_within (device ∷ devices) (suc n) all within = kind_within devices n all.1 (omega arith)
-
 link_at : (known : Known) (net : Network) (p : PortRef) → Stage known net → not (is_linked known.links p) ≡ false → HasLink net p
-link_at known net p s e = subst (λ links. is_some (peer_in links p) ≡ true) (sym s.linked) (a_peer known.links p (is_true (is_linked known.links p) e))
-  where
-    is_true : (t : Bool) → not t ≡ false → t ≡ true
-    is_true true e = refl
-    is_true false e = absurd (true≢false e)
+link_at known net p s e = subst (λ links. is_some (peer_in links p) ≡ true) (sym s.linked) (a_peer known.links p (not_not (is_linked known.links p) e))
 
 is_there : (known : Known) (new : List ℕ) (net : Network) (line : Line) → Stage known net → MayBe known new line → IsFree known line → IsThere net line
-is_there known new net (Send node prio ftype dest hex) s may free = endpoint_at known net node s may.fit.0
-is_there known new net (Read node prio dest hop tid offset) s may free = endpoint_at known net node s may.fit.0
-is_there known new net (Write node prio dest hop tid offset value) s may free = endpoint_at known net node s may.fit.0
-is_there known new net (Collect node) s may free = endpoint_at known net node s may.fit.0
+is_there known new net (Send node prio ftype dest hex) s may free = endpoint_at known net node s may.fit.0 (free WrongKind)
+is_there known new net (Read node prio dest hop tid offset) s may free = endpoint_at known net node s may.fit.0 (free WrongKind)
+is_there known new net (Write node prio dest hop tid offset value) s may free = endpoint_at known net node s may.fit.0 (free WrongKind)
+is_there known new net (Move node) s may free = switch_is_at known net node s may.fit.0 (free WrongKind)
+is_there known new net (Collect node) s may free = endpoint_at known net node s may.fit.0 (free WrongKind)
 is_there known new net (Pump port n) s may free = link_at known net port s (free NotLinked)
 is_there known new net (Deliver port n) s may free = link_at known net port s (free NotLinked)
 is_there known new net (Alter port place ch) s may free = link_at known net port s (free NotLinked)
@@ -193,20 +210,20 @@ is_there known new net _ s may free = tt
 abbrev Happens : Network → Numbered → Type 0
 Happens net line = is_event line.line ≡ true → IsInRange line.line × IsThere net line.line
 
-happen_from : (known : Known) (names : List (List ℕ)) (net : Network) (lines : List Numbered) → Stage known net → All (λ line. MakesNoSwitch line.line) lines → PassesFrom known names lines → All (Happens (set_up_all net lines)) lines
-happen_from known names net [] s none passes = All-nil (Happens net)
-happen_from known names net (line ∷ lines) s none passes =
+happen_from : (known : Known) (names : List (List ℕ)) (net : Network) (lines : List Numbered) → Stage known net → PassesFrom known names lines → All (Happens (set_up_all net lines)) lines
+happen_from known names net [] s passes = All-nil (Happens net)
+happen_from known names net (line ∷ lines) s passes =
     let new = new_name names line.line in
     let next = known_after known new line.line in
     let quiet : is_event line.line ≡ true → set_up_all net (line ∷ lines) ≡ net = λ event.
     ap (λ (n : Network). set_up_all n lines) (set_up-event net line.line event) ∙ stays next names net lines (begun_by known.begun (is_event line.line) event) passes.2 in
     All-cons (Happens (set_up_all net (line ∷ lines))) line lines
     (λ event. (in_range known new line.line passes.0 passes.1, subst (λ (n : Network). IsThere n line.line) (sym (quiet event)) (is_there known new net line.line s passes.0 passes.1)))
-    (happen_from next names (set_up net line.line) lines (stage-after known new net line.line (All-head (λ line. MakesNoSwitch line.line) line lines none) s) (All-tail (λ line. MakesNoSwitch line.line) line lines none) passes.2)
+    (happen_from next names (set_up net line.line) lines (stage-after known new net line.line s) passes.2)
 
-pub may_happen : (names : List (List ℕ)) (lines : List Numbered) → Passes names lines → All (λ line. MakesNoSwitch line.line) lines → All (λ line. is_event line.line ≡ true → MayHappen names (set_up_all bare lines) line.line) lines
-may_happen names lines passes none =
-    let all = happen_from nothing names bare lines (record { linked = refl; count = refl; endpoints = tt }) none passes in
+pub may_happen : (names : List (List ℕ)) (lines : List Numbered) → Passes names lines → All (λ line. is_event line.line ≡ true → MayHappen names (set_up_all bare lines) line.line) lines
+may_happen names lines passes =
+    let all = happen_from nothing names bare lines bare_stage passes in
     let named = named_all nothing names lines passes in
     λ k d within event. record { named = named k d within; range = (all k d within event).0; there = (all k d within event).1 }
 

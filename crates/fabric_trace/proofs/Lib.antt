@@ -11,6 +11,7 @@ pub mod Serving
 pub mod Keeping
 pub mod Making
 pub mod Running
+pub mod SettingUp
 pub mod Starting
 pub mod Happening
 pub mod Wiring

@@ -9,9 +9,10 @@ use Rattle.link_rest.specs.Acts.{Reached, At, Found as FoundAt, OnState, goes, a
 use Rattle.link_rest.specs.Rest.{IsSettled}
 use Rattle.link_rest.proofs.Settled.{settling_rests}
 use Rattle.link_machine.specs.Sound.{IsSoundLink}
+use Rattle.maint_registers.specs.Devices.{Device}
 use Rattle.fabric_script.specs.declared.ports.PortRef.{PortRef}
 use Rattle.fabric_script.specs.declared.lines.Line.{Line}
-use Rattle.fabric_script.specs.declared.lines.Line.TheVariants.{Endpoint, Link, Buffers}
+use Rattle.fabric_script.specs.declared.lines.Line.TheVariants.{Endpoint, Switch, Link, Buffers, Route, Default, Lock}
 use Rattle.fabric_script.specs.declared.lines.Numbered.{Numbered}
 use Rattle.fabric_model.specs.Network.{Network, same_port}
 use Rattle.fabric_model.specs.Steps.{Step, LegalFrom}
@@ -56,12 +57,20 @@ use Rattle.fabric_trace.proofs.Viewing.{is_link}
 buffers_if : (own : Bool) (n m : ℕ) → AreBuffers n → AreBuffers m → AreBuffers (if own then n else m)
 buffers_if own n m first second = elim own as (λ x. AreBuffers (if x then n else m)) [ true ↦ first | false ↦ second ]
 
-set_up_one : (net : Network) (line : Line) → IsSetUp net → MaySetUp net line → IsSetUp (set_up net line)
-set_up_one net (Endpoint name id) is may = record {
+-- nothing of this looks at the registers
+with_registers : (net : Network) (devices : List Device) → IsSetUp net → IsSetUp (record net { registers = devices })
+with_registers net devices is = record {
   empty = record { received = is.empty.received; waiting = is.empty.waiting; lent = is.empty.lent; given = is.empty.given };
   proper = is.proper;
   buffers = is.buffers;
 }
+
+set_up_one : (net : Network) (line : Line) → IsSetUp net → MaySetUp net line → IsSetUp (set_up net line)
+set_up_one net (Endpoint name id) is may = with_registers net _ is
+set_up_one net (Switch name ports) is may = with_registers net _ is
+set_up_one net (Route node id p) is may = with_registers net _ is
+set_up_one net (Default node p) is may = with_registers net _ is
+set_up_one net (Lock node id) is may = with_registers net _ is
 set_up_one net (Link a b) is may = record {
   empty = record { received = is.empty.received; waiting = is.empty.waiting; lent = is.empty.lent; given = is.empty.given };
   proper = AreProper-append net.links a b is.proper may.0 may.1 may.2;

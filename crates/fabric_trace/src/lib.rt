@@ -7,8 +7,8 @@
 //!   what is known after lines;
 //! - `Fold`: the one fold that reads a trace, by its lines alone;
 //! - `Blocks`: which lines each event makes, from what is known before it;
-//! - `Runs`: what a trace of a script is; `SetUps`: which networks the lines of set-up may give; `Events`: which events
-//!   may happen in a network;
+//! - `Settings`: what the lines of set-up make of a network; `SetUps`: which networks they may give; `Events`: which
+//!   events may happen in a network; `Runs`: what a trace of a script is;
 //! - `Parts`: what may stand in a trace, whatever script it is of;
 //! - `Links`, `Wires`, `Holds`, `Frees`, `Faithful`, `Ends`: what is true of each link, of the characters that a port got, of the
 //!   packets that it holds, of the events that it acted on, and of the last line;

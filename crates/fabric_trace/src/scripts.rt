@@ -4,7 +4,7 @@ ghost use Rattle.std.specs.Prelude.{◌≡◌, ℕ, true, List, ◌∷◌, ◌++
 ghost use Rattle.fabric_script.specs.declared.lines.Numbered.{Numbered};
 ghost use Rattle.fabric_script.specs.Lines.{is_event};
 ghost use Rattle.fabric_script.specs.Scripts.{Passes};
-ghost use Rattle.fabric_trace.specs.Events.{ArePorts, MakesNoSwitch, MayHappen, port_counts};
+ghost use Rattle.fabric_trace.specs.Events.{ArePorts, MayHappen, port_counts};
 ghost use Rattle.fabric_trace.specs.Runs.{bare, set_up_all};
 ghost use Rattle.fabric_trace.specs.SetUps.{MaySetUpAll};
 
@@ -17,7 +17,6 @@ pub fn scripts_may_set_up()
 /// Each event of a script that passes may happen in the network that the script sets up.
 pub fn events_may_happen()
     ensures { (names : List (List ℕ)) (lines : List Numbered) → Passes names lines
-        → All (λ line. MakesNoSwitch line.line) lines
         → All (λ line. is_event line.line ≡ true
         → MayHappen names (set_up_all bare lines) line.line) lines }
 {}
