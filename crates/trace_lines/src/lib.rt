@@ -6,7 +6,7 @@
 //! Left out: which lines a trace has.
 //!
 //! - `write_begun`: the line with which an event begins
-//! - `write_take` to `write_early`: the lines of an event
+//! - `write_take` to `write_none`: the lines of an event
 //! - [`LinkLines`]: a watch of a link, which writes its notes
 //! - `write_end`, `write_undetected`: the last line
 #![tactic(auto)]

@@ -35,7 +35,7 @@ const LINES: &[u8] = b"take A 000f0201cafe0001a9bb0000\nfire A.0\nsent B.0 k1c d
 got A.0 k1c d00 dff d16\nhold B.0 000f0201cafe0001a9bb0000\nfree A.0 000f0201cafe0001a9bb0000\n\
 leave B 000f0201cafe0001a9bb0000\nmove A.0 B.0 000f0201cafe0001a9bb0000\n\
 drop B.0 000f0201cafe0001a9bb0000\nanswer B.0 000f0201cafe0001a9bb0000 000f0201deb20000\n\
-full\nempty\nshort\nearly\nend\n";
+full\nempty\nshort\nearly\nnone\nend\n";
 
 const NOTES: &[u8] = b"fire A.0\nsent A.0 k1c d00 dff d16\ngot B.0 k1c d00 dff d16\n\
 hold B.0 000f0201cafe0001a9bb0000\nsent B.0 k1c d00 dff d16\ngot A.0 k1c d00 dff d16\n\
@@ -133,6 +133,7 @@ fn lines_are_those_of_a_trace(rt: HostRuntime) -> Result<(), Fail> {
     write_empty(&mut outbox);
     write_short(&mut outbox);
     write_early(&mut outbox);
+    write_none(&mut outbox);
     write_end(&mut outbox);
     outbox.flush();
     assert!(rt; !outbox.failed());
