@@ -14,5 +14,6 @@ pub mod Order
 pub mod Flows
 pub mod Lanes
 pub mod Room
+pub mod Forms
 pub mod Worked
 pub mod Around

@@ -9,6 +9,7 @@ pub mod Flows
 pub mod Proper
 pub mod Priorities
 pub mod Room
+pub mod Forms
 pub mod Examples
 pub mod Switches
 pub mod Lawful

@@ -5,6 +5,8 @@
 //! buffers.
 
 ghost use Rattle.std.specs.Prelude.{List, ◌≡◌, ◌++◌};
+ghost use Rattle.std.specs.List.{AllByRecursion};
+ghost use Rattle.maint_registers.specs.Within.{IsWithin};
 ghost use Rattle.fabric_model.specs.Network.{Network};
 ghost use Rattle.fabric_model.specs.Steps.{Step, LegalFrom, after_all};
 ghost use Rattle.fabric_model.specs.Laws.History.{IsEmptyNetwork};
@@ -16,6 +18,7 @@ ghost use Rattle.fabric_model.specs.Laws.Flows.{SameCourse, EarlierFirst, InOrde
 ghost use Rattle.fabric_model.specs.Laws.Proper.{AreProper};
 ghost use Rattle.fabric_model.specs.Laws.Priorities.{ByPriority};
 ghost use Rattle.fabric_model.specs.Laws.Room.{HasPlaces};
+ghost use Rattle.fabric_model.specs.Laws.Forms.{IsFormed, AnswersPass};
 
 /// The network holds exactly the packets taken: each number that was given out stands in exactly
 /// one place, in one list of a port and a priority or among those that have left, were dropped or
@@ -76,6 +79,21 @@ pub fn by_priority()
 pub fn places_suffice()
     ensures { (start : Network) (steps : List Step) (end : Network)
         → IsEmptyNetwork start → LegalFrom start steps end → HasPlaces end }
+{}
+
+/// If each number of the registers fits at first, it goes on to fit, and every packet in the network
+/// is in its link form. Both stay whatever legal steps follow.
+pub fn forms_are_kept()
+    ensures reached { (start : Network) (steps : List Step) (end : Network)
+        → IsEmptyNetwork start → AllByRecursion IsWithin start.registers
+        → LegalFrom start steps end → IsFormed end }
+    ensures kept { (start : Network) (steps : List Step) (end : Network) → IsFormed start
+        → LegalFrom start steps end → IsFormed end }
+{}
+
+/// In such a network all that registers answer is in its link form.
+pub fn answers_pass()
+    ensures { (net : Network) → IsFormed net → AnswersPass net }
 {}
 
 /// Legal steps from one network end in one network.

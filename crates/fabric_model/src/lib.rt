@@ -22,6 +22,6 @@ pub use examples::{
     routes_can_change, through_switches,
 };
 pub use laws::{
-    by_priority, by_tables, freed_after_held, holding_exactly, in_order, in_order_of_course,
-    joined, once, one_end, places_suffice, unchanged,
+    answers_pass, by_priority, by_tables, forms_are_kept, freed_after_held, holding_exactly,
+    in_order, in_order_of_course, joined, once, one_end, places_suffice, unchanged,
 };
