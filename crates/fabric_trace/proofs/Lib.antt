@@ -9,6 +9,7 @@ pub mod Calling
 pub mod Delivering
 pub mod Serving
 pub mod Keeping
+pub mod Faces
 pub mod Making
 pub mod Running
 pub mod SettingUp

@@ -9,18 +9,25 @@ use Rattle.link_wires.specs.Wires.{fits}
 use Rattle.link_wires.specs.declared.edits.Edit.{Edit}
 use Rattle.link_machine.specs.Calls.{has_chars, pump_notes, delivery_notes, is_silent, time_out_notes}
 use Rattle.rio_packets.specs.Fields.{prio_of}
+use Rattle.switch_core.specs.declared.switch.Step as switch
+use Rattle.switch_core.specs.declared.switch.Step.TheVariants.{Moved, Dropped, Answered, Nothing}
+use Rattle.switch_core.specs.declared.endpoint.Collected.{Collected}
+use Rattle.switch_core.specs.declared.endpoint.Collected.TheVariants as Collects
+use Rattle.switch_core.specs.SwitchSteps.{step_of}
+use Rattle.switch_core.specs.EndpointSteps.{collected}
 use Rattle.fabric_script.specs.Lines.{is_event}
 use Rattle.fabric_script.specs.declared.ports.PortRef.{PortRef}
 use Rattle.fabric_script.specs.declared.lines.Line.{Line}
 use Rattle.fabric_script.specs.declared.lines.Line.TheVariants.{Endpoint, Switch, Link, Buffers, Route, Default, Lock, Send, Read, Write, Pump, Deliver, Alter, Insert, Erase, Timeout, Settle, Move, Collect, Run}
 use Rattle.fabric_script.specs.declared.lines.Numbered.{Numbered}
-use Rattle.fabric_model.specs.Network.{link_in, room_out, port_of, next_packet}
+use Rattle.fabric_model.specs.Network.{link_in, room_out, port_of}
 use Rattle.fabric_model.specs.Steps.{Take, AtNode}
 use Rattle.fabric_model.proofs.Peers.{link_peers}
 use Rattle.fabric_trace.specs.Lines.{TraceLine, Begun, Stepped, Signed, Lacked, Ended, Undetected, Full, Short, Early}
 use Rattle.fabric_trace.specs.Known.{Found, Seen, peer_of, link_at}
 use Rattle.fabric_trace.specs.Fold.{edit_of, seen_line, seen}
-use Rattle.fabric_trace.specs.Blocks.{takes, Leaves, lines_of, pumps, delivers, times_out, edits, IsSettle, WithPeer, WithLink, IsBlock}
+use Rattle.fabric_trace.specs.Served.{face_in, faces_in, step_lines, collect_lines}
+use Rattle.fabric_trace.specs.Blocks.{takes, lines_of, pumps, delivers, times_out, edits, IsSettle, WithPeer, WithLink, IsBlock}
 use Rattle.fabric_trace.specs.Runs.{Follows, BlockThen, Names, NamesNothing, RunsFrom, BlocksFrom}
 use Rattle.fabric_trace.specs.Parts.{Begins as BeginsPart, Ends, Names as NamesPart, Made, Done, Then}
 use Rattle.fabric_trace.specs.Settled.{settled_by, under_way, RestsAt, Settled}
@@ -54,10 +61,19 @@ unfolding IsWithin
 takes_within s node packet =
     elim (room_out s.network (port_of node) (prio_of packet)) as (λ x. IsWithin (if x then Stepped (AtNode (Take node packet)) ∷ [] else Lacked Full ∷ [])) [ true ↦ tt | false ↦ tt ]
 
-leaves_within : (node : ℕ) (next : Option (List ℕ)) (block : List TraceLine) → Leaves node next block → IsWithin block
+step_within : (node : ℕ) (step : switch.Step) → IsWithin (step_lines node step)
 unfolding IsWithin
-leaves_within node None block leaves = within_by leaves tt
-leaves_within node (Some packet) block leaves = within_by leaves.1 tt
+step_within node (Moved from to packet) = tt
+step_within node (Dropped from packet) = tt
+step_within node (Answered port request response) = tt
+step_within node Nothing = tt
+
+collected_within : (node : ℕ) (what : Collected) → IsWithin (collect_lines node what)
+unfolding IsWithin
+collected_within node (Collects.Left packet) = tt
+collected_within node (Collects.Answered request response) = tt
+collected_within node Collects.Empty = tt
+collected_within node Collects.Full = tt
 
 delivers_within : (s : Seen) (p : PortRef) (n : ℕ) (q : PortRef) → IsWithin (delivers s p n q)
 unfolding IsWithin
@@ -97,8 +113,8 @@ block_within s (Route node id p) block is = absurd is
 block_within s (Default node p) block is = absurd is
 block_within s (Lock node id) block is = absurd is
 block_within s (Send node prio ftype dest hex) block is = within_by is.lines (takes_within s node is.packet)
-block_within s (Read node prio dest hop tid offset) block is = absurd is
-block_within s (Write node prio dest hop tid offset value) block is = absurd is
+block_within s (Read node prio dest hop tid offset) block is = within_by is.lines (takes_within s node is.packet)
+block_within s (Write node prio dest hop tid offset value) block is = within_by is.lines (takes_within s node is.packet)
 block_within s (Pump port n) block is = peer_within (peer_of s port) (pumps s port n) block (λ q. notes_within port q (pump_notes A n (link_at s port q))) is
 block_within s (Deliver port n) block is = peer_within (peer_of s port) (delivers s port n) block (delivers_within s port n) is
 block_within s (Alter port place ch) block is = within_by is (edits_within s (edit_of (Alter port place ch)))
@@ -106,8 +122,8 @@ block_within s (Insert port place ch) block is = within_by is (edits_within s (e
 block_within s (Erase port place n) block is = within_by is (edits_within s (edit_of (Erase port place n)))
 block_within s (Timeout port) block is = peer_within (peer_of s port) (times_out s port) block (times_out_within s port) is
 block_within s (Settle port) block is = link_within s (link_in s.network.links port) block is
-block_within s (Move node) block is = absurd is
-block_within s (Collect node) block is = leaves_within node (next_packet (s.network.received (port_of node))) block is.1
+block_within s (Move node) block is = within_by is.lines (step_within node (step_of is.device (faces_in s.network node is.device)))
+block_within s (Collect node) block is = within_by is.lines (collected_within node (collected is.device (face_in s.network (port_of node))))
 block_within s (Run n) block is = absurd is
 
 -- ---- settling

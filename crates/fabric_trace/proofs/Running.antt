@@ -1,6 +1,5 @@
 -- Blocks and runs are made of parts; what a script sets up is good.
-use Rattle.std.proofs.Common.{◌≡◌, ◌⊎◌, inl, inr, ℕ, ◌<◌, ◌&&◌, ◌++◌, Bool, true, false, List, [], ◌∷◌, Option, Some, None, MatchBool, refl, sym, ap, ◌∙◌, subst, arith, if◌then◌else◌}
-use Rattle.std.specs.List.{AllByRecursion}
+use Rattle.std.proofs.Common.{◌≡◌, ℕ, ◌&&◌, ◌++◌, Bool, true, false, List, [], ◌∷◌, Option, Some, None, MatchBool, refl, sym, ap, ◌∙◌, subst, if◌then◌else◌}
 use Rattle.link_model.specs.declared.event.Event.{Event}
 use Rattle.rio_packets.specs.Fields.{prio_of}
 use Rattle.rio_packets.specs.LinkForm.{Passes}
@@ -18,20 +17,28 @@ use Rattle.link_machine.specs.Calls.{first_takes, has_chars, delivery_from, deli
 use Rattle.link_rest.specs.Acts.{Act, Pump as PumpAct, Deliver as DeliverAct, Fire, Reached, At, Found as FoundAt, reached_by, after, goes, act_notes, acts_notes}
 use Rattle.link_watch.specs.Sides.{other_side}
 use Rattle.fabric_script.specs.Lines.{is_event}
+use Rattle.switch_core.specs.declared.switch.Step as switch
+use Rattle.switch_core.specs.declared.switch.Step.TheVariants.{Moved, Dropped, Answered, Nothing}
+use Rattle.switch_core.specs.declared.endpoint.Collected.{Collected}
+use Rattle.switch_core.specs.declared.endpoint.Collected.TheVariants as Collects
+use Rattle.switch_core.specs.SwitchSteps.{step_of}
+use Rattle.switch_core.specs.EndpointSteps.{collected}
 use Rattle.fabric_script.specs.declared.ports.PortRef.{PortRef}
 use Rattle.fabric_script.specs.declared.lines.Line.{Line}
 use Rattle.fabric_script.specs.declared.lines.Line.TheVariants.{Endpoint, Switch, Link, Buffers, Route, Default, Lock, Send, Read, Write, Pump, Deliver, Alter, Insert, Erase, Timeout, Settle, Move, Collect, Run}
 use Rattle.fabric_script.specs.declared.lines.Numbered.{Numbered}
-use Rattle.fabric_model.specs.Network.{Item, IsEndpoint, Network, link_in, port_of, first_packet, next_packet, room_out}
-use Rattle.fabric_model.specs.Steps.{Take, Leave, AtNode, Step, after as net_after, LegalFrom}
+use Rattle.fabric_model.specs.Network.{IsEndpoint, Network, link_in, port_of, room_out}
+use Rattle.fabric_model.specs.Steps.{Take, Leave, Move as MoveOn, Drop, Answer, AtNode, Step, after as net_after, LegalFrom}
 use Rattle.fabric_model.proofs.Joining.{links_stay}
 use Rattle.fabric_model.proofs.Peers.{ArePeers, link_peers}
-use Rattle.fabric_trace.specs.Lines.{TraceLine, Begun, Stepped, Lacked, Full, Empty, Short, Early}
+use Rattle.fabric_trace.specs.Lines.{TraceLine, Begun, Stepped, Lacked, Full, Empty, Short, Early, NoStep}
 use Rattle.fabric_trace.specs.Known.{Seen, Found, peer_of, link_at}
 use Rattle.fabric_trace.specs.Fold.{edit_of, edited_by, seen}
-use Rattle.fabric_trace.specs.Blocks.{takes, Leaves, port_at_side, lines_of, pumps, delivers, times_out, edits, IsSettle, WithPeer, WithLink, IsBlock}
+use Rattle.fabric_trace.specs.Served.{face_in, faces_in, step_lines, HasForm, IsMove, collect_lines, HasResponseForm, IsCollect}
+use Rattle.fabric_trace.specs.Blocks.{takes, Sends, port_at_side, lines_of, pumps, delivers, times_out, edits, IsSettle, WithPeer, WithLink, IsBlock}
 use Rattle.fabric_trace.specs.Runs.{Follows, BlockThen, Names as NamesLast, RunsFrom}
-use Rattle.fabric_trace.specs.Parts.{Begins, Lacks, Ends, Names, Steps, Turns, Delivers, Fires, Made, Done, Then}
+use Rattle.fabric_trace.specs.Parts.{Begins, Lacks, Ends, Names, Steps, Serves, Turns, Delivers, Fires, Made, Done, Then}
+use Rattle.fabric_trace.proofs.Faces.{StepNeeds, step_needs, CollectNeeds, collect_needs}
 use Rattle.fabric_trace.proofs.Folding.{seen-append, lines-append}
 use Rattle.fabric_trace.proofs.Keeping.{few_prio, IsGood, good_by_priority, made_keeps}
 use Rattle.fabric_trace.proofs.Making.{AreOthers, others_here, others_on, others_round, Reaches, at_is, one_part, made-append, made_by, sent_round, delivery_round, pump_reaches, fire_reaches, deliver_reaches}
@@ -211,38 +218,36 @@ takes_made s node packet endpoint passes = by_room (room_out s.network (port_of 
     by_room true is = one_part (Steps (Take node packet) (endpoint, passes, is) (few_prio packet passes) refl)
     by_room false is = one_part (Lacks Full refl)
 
-first_of : (xs ys : List Item) (packet : List ℕ) → first_packet (xs ++ ys) ≡ Some packet → (first_packet xs ≡ Some packet) ⊎ (first_packet ys ≡ Some packet)
-first_of [] ys packet is = inr is
-first_of (x ∷ xs) ys packet is = inl is
+sends_made : (s : Seen) (node : ℕ) (body : List ℕ) (block : List TraceLine) → Sends s node body block → Made s block
+sends_made s node body block is = made_by is.lines (takes_made s node is.packet is.endpoint (Passes-from_form body is.packet is.form))
 
--- the packet whose turn it is is the first of a lane
-next_of : (lanes : ℕ → List Item) (packet : List ℕ) → next_packet lanes ≡ Some packet → (r : ℕ) × (r < 4) × (first_packet (lanes r) ≡ Some packet)
-next_of lanes packet is = third (first_of (lanes 3) (lanes 2 ++ (lanes 1 ++ lanes 0)) packet is)
-  where
-    first : ((first_packet (lanes 1) ≡ Some packet) ⊎ (first_packet (lanes 0) ≡ Some packet)) → (r : ℕ) × (r < 4) × (first_packet (lanes r) ≡ Some packet)
-    first (inl at) = (1, omega arith, at)
-    first (inr at) = (0, omega arith, at)
+-- a switch makes a step, or none of its packets can go
+step_made : (s : Seen) (node : ℕ) (step : switch.Step) → HasForm step → StepNeeds s.network node step → Made s (step_lines node step)
+step_made s node (Moved from to packet) form needs =
+    one_part (Serves (MoveOn (record { node = node; port = from }) (record { node = node; port = to }) packet) needs refl)
+step_made s node (Dropped from packet) form needs = one_part (Serves (Drop (record { node = node; port = from }) packet) needs refl)
+step_made s node (Answered port request response) form needs =
+    one_part (Serves (Answer (record { node = node; port = port }) request response) (needs form) refl)
+step_made s node Nothing form needs = one_part (Lacks NoStep refl)
 
-    second : ((first_packet (lanes 2) ≡ Some packet) ⊎ (first_packet (lanes 1 ++ lanes 0) ≡ Some packet)) → (r : ℕ) × (r < 4) × (first_packet (lanes r) ≡ Some packet)
-    second (inl at) = (2, omega arith, at)
-    second (inr at) = first (first_of (lanes 1) (lanes 0) packet at)
+move_made : (s : Seen) (node : ℕ) (block : List TraceLine) → IsGood s → IsMove s.network node block → Made s block
+move_made s node block good is =
+    let net = s.network in
+    made_by is.lines (step_made s node (step_of is.device (faces_in net node is.device)) is.form
+    (step_needs net node is.device (good_by_priority good) is.stands is.switch))
 
-    third : ((first_packet (lanes 3) ≡ Some packet) ⊎ (first_packet (lanes 2 ++ (lanes 1 ++ lanes 0)) ≡ Some packet)) → (r : ℕ) × (r < 4) × (first_packet (lanes r) ≡ Some packet)
-    third (inl at) = (3, omega arith, at)
-    third (inr at) = second (first_of (lanes 2) (lanes 1 ++ lanes 0) packet at)
+-- an endpoint collects a packet, or there is none, or no room for its answer
+collected_made : (s : Seen) (node : ℕ) (what : Collected) → HasResponseForm what → CollectNeeds s.network node what → Made s (collect_lines node what)
+collected_made s node (Collects.Left packet) form needs = one_part (Steps (Leave node packet) needs.1 needs.0 refl)
+collected_made s node (Collects.Answered request response) form needs = one_part (Serves (Answer (port_of node) request response) (needs form) refl)
+collected_made s node Collects.Empty form needs = one_part (Lacks Empty refl)
+collected_made s node Collects.Full form needs = one_part (Lacks Full refl)
 
-first_prio : (items : List Item) (r : ℕ) (packet : List ℕ) → AllByRecursion (λ item. prio_of item.now ≡ r) items → first_packet items ≡ Some packet → prio_of packet ≡ r
-first_prio [] r packet all is = absurd cc
-first_prio (item ∷ items) r packet all is = let same : item.now ≡ packet = cc in ap prio_of (sym same) ∙ all.0
-
-leaves_made : (s : Seen) (node : ℕ) (next : Option (List ℕ)) (block : List TraceLine) → IsGood s → IsEndpoint s.network node → next_packet (s.network.received (port_of node)) ≡ next
-    → Leaves node next block → Made s block
-leaves_made s node None block good endpoint is leaves = one_part (Lacks Empty leaves)
-leaves_made s node (Some packet) block good endpoint is leaves =
-    let at = next_of (s.network.received (port_of node)) packet is in
-    let prio = first_prio (s.network.received (port_of node) at.0) at.0 packet ((good_by_priority good).received (port_of node) at.0) at.2 in
-    let first = subst (λ r. first_packet (s.network.received (port_of node) r) ≡ Some packet) (sym prio) at.2 in
-    one_part (Steps (Leave node packet) (endpoint, first, leaves.0) (omega (arith, at.1, prio)) leaves.1)
+collect_made : (s : Seen) (node : ℕ) (block : List TraceLine) → IsGood s → IsCollect s.network node block → Made s block
+collect_made s node block good is =
+    let net = s.network in
+    made_by is.lines (collected_made s node (collected is.device (face_in net (port_of node))) is.form
+    (collect_needs net node is.device (good_by_priority good) is.stands is.endpoint))
 
 peer_made : (s : Seen) (p : PortRef) (peer : Option PortRef) (lines : PortRef → List TraceLine) (block : List TraceLine) → peer_of s p ≡ peer → WithPeer peer lines block
     → ((q : PortRef) → peer_of s p ≡ Some q → Made s (lines q)) → Made s block
@@ -282,9 +287,9 @@ block_made (Buffers port n) s block good none is = absurd is
 block_made (Route node id p) s block good none is = absurd is
 block_made (Default node p) s block good none is = absurd is
 block_made (Lock node id) s block good none is = absurd is
-block_made (Send node prio ftype dest hex) s block good none is = made_by is.lines (takes_made s node is.packet is.endpoint (Passes-from_form _ is.packet is.form))
-block_made (Read node prio dest hop tid offset) s block good none is = absurd is
-block_made (Write node prio dest hop tid offset value) s block good none is = absurd is
+block_made (Send node prio ftype dest hex) s block good none is = sends_made s node _ block is
+block_made (Read node prio dest hop tid offset) s block good none is = sends_made s node _ block is
+block_made (Write node prio dest hop tid offset value) s block good none is = sends_made s node _ block is
 block_made (Pump port n) s block good none is =
     peer_made s port (peer_of s port) (pumps s port n) block refl is (λ q peer. one_part (Turns port q n peer none refl))
 block_made (Deliver port n) s block good none is =
@@ -295,8 +300,8 @@ block_made (Erase port place n) s block good none is = made_by is (edits_made s 
 block_made (Timeout port) s block good none is =
     peer_made s port (peer_of s port) (times_out s port) block refl is (λ q peer. times_out_made s port q none peer)
 block_made (Settle port) s block good none is = settle_made s port (link_in s.network.links port) block good none refl is
-block_made (Move node) s block good none is = absurd is
-block_made (Collect node) s block good none is = leaves_made s node (next_packet (s.network.received (port_of node))) block good is.0 refl is.1
+block_made (Move node) s block good none is = move_made s node block good is
+block_made (Collect node) s block good none is = collect_made s node block good is
 block_made (Run n) s block good none is = absurd is
 
 -- ---- runs

@@ -1,23 +1,26 @@
 -- A script has at most one trace: each part of a run determines its lines.
-use Rattle.std.proofs.Common.{◌≡◌, ℕ, Bool, true, false, not, List, [], ◌∷◌, ◌++◌, Option, Some, None, MatchBool, sym, ap, ◌∙◌, subst, append_assoc}
-use Rattle.rio_packets.specs.Fields.{body_of}
+use Rattle.std.proofs.Common.{◌≡◌, ℕ, Bool, true, false, not, List, [], ◌∷◌, ◌++◌, Option, Some, None, MatchBool, slice_get, sym, ap, ◌∙◌, subst, append_assoc}
 use Rattle.rio_packets.proofs.FormLaws.{LinkForm-one}
 use Rattle.link_watch.specs.declared.side.Side.{Side}
 use Rattle.link_watch.specs.declared.side.Side.TheVariants.{A, B}
 use Rattle.link_rest.specs.Schedules.{NextOf, WhereOf, Is, LoopOf, Rests, GoesOn, Leaves as LeavesLoop}
 use Rattle.link_rest.specs.Acts.{Pump as PumpAct, Fire, Reached, At, goes, holds, acts_notes}
 use Rattle.link_rest.specs.Settling.{of_end, first_has_chars, first_rests, is_retry_stopped, has_failed, may_fire, waits, all_chars, Empties, is_busy, Drains, TakesTurn, Restarts, TimesOut, Requests, Recovers, SendsAll, Settles}
+use Rattle.maint_registers.specs.Devices.{Device}
+use Rattle.switch_core.specs.SwitchSteps.{step_of}
+use Rattle.switch_core.specs.EndpointSteps.{collected}
 use Rattle.fabric_script.specs.Lines.{is_event}
 use Rattle.fabric_script.specs.declared.ports.PortRef.{PortRef}
 use Rattle.fabric_script.specs.declared.lines.Line.{Line}
 use Rattle.fabric_script.specs.declared.lines.Line.TheVariants.{Endpoint, Switch, Link, Buffers, Route, Default, Lock, Send, Read, Write, Pump, Deliver, Alter, Insert, Erase, Timeout, Settle, Move, Collect, Run}
 use Rattle.fabric_script.specs.declared.lines.Numbered.{Numbered}
-use Rattle.fabric_model.specs.Network.{base_of, link_in, port_of, next_packet}
+use Rattle.fabric_model.specs.Network.{Network, link_in, port_of}
 use Rattle.fabric_model.specs.Laws.Freeing.{IsFront}
 use Rattle.fabric_trace.specs.Lines.{TraceLine, Begun}
 use Rattle.fabric_trace.specs.Known.{Found, Seen, peer_of, link_at}
 use Rattle.fabric_trace.specs.Fold.{seen}
-use Rattle.fabric_trace.specs.Blocks.{takes, IsSend, Leaves, pumps, delivers, times_out, lines_of, IsSettle, WithPeer, WithLink, IsBlock}
+use Rattle.fabric_trace.specs.Served.{face_in, faces_in, step_lines, IsMove, collect_lines, IsCollect}
+use Rattle.fabric_trace.specs.Blocks.{takes, Sends, pumps, delivers, times_out, lines_of, IsSettle, WithPeer, WithLink, IsBlock}
 use Rattle.fabric_trace.specs.Runs.{start, Follows, BlockThen, Names, NamesNothing, RunsFrom, Runs, BlocksFrom, Begins}
 
 -- no two lists are of this kind
@@ -113,13 +116,21 @@ settles_one =
 
 -- ---- blocks
 
-send_one : (s : Seen) (node prio ftype dest : ℕ) (rest : List ℕ) → AtMostOne (IsSend s node prio ftype dest rest)
-send_one s node prio ftype dest rest x y p q =
-    p.lines ∙ (ap (takes s node) (LinkForm-one (body_of prio ftype dest (base_of s.network node) rest) p.packet q.packet p.form q.form) ∙ sym q.lines)
+send_one : (s : Seen) (node : ℕ) (body : List ℕ) → AtMostOne (Sends s node body)
+send_one s node body x y p q =
+    p.lines ∙ (ap (takes s node) (LinkForm-one body p.packet q.packet p.form q.form) ∙ sym q.lines)
 
-leaves_one : (node : ℕ) (packet : Option (List ℕ)) → AtMostOne (Leaves node packet)
-leaves_one node None x y f g = f ∙ sym g
-leaves_one node (Some packet) x y f g = f.1 ∙ sym g.1
+-- a node has one device
+device_one : (found : Option Device) (a b : Device) → found ≡ Some a → found ≡ Some b → a ≡ b
+device_one found a b is other = let same : Some a ≡ Some b = sym is ∙ other in cc
+
+move_one : (net : Network) (node : ℕ) → AtMostOne (IsMove net node)
+move_one net node x y p q =
+    p.lines ∙ (ap (λ device. step_lines node (step_of device (faces_in net node device))) (device_one (slice_get net.registers node) p.device q.device p.stands q.stands) ∙ sym q.lines)
+
+collect_one : (net : Network) (node : ℕ) → AtMostOne (IsCollect net node)
+collect_one net node x y p q =
+    p.lines ∙ (ap (λ device. collect_lines node (collected device (face_in net (port_of node)))) (device_one (slice_get net.registers node) p.device q.device p.stands q.stands) ∙ sym q.lines)
 
 settle_one : (s : Seen) (a b : PortRef) → AtMostOne (IsSettle s a b)
 settle_one s a b x y p q =
@@ -141,9 +152,9 @@ block_one (Buffers port n) s x y f g = absurd f
 block_one (Route node id p) s x y f g = absurd f
 block_one (Default node p) s x y f g = absurd f
 block_one (Lock node id) s x y f g = absurd f
-block_one (Send node prio ftype dest hex) s x y f g = send_one s node prio ftype dest hex x y f g
-block_one (Read node prio dest hop tid offset) s x y f g = absurd f
-block_one (Write node prio dest hop tid offset value) s x y f g = absurd f
+block_one (Send node prio ftype dest hex) s x y f g = send_one s node _ x y f g
+block_one (Read node prio dest hop tid offset) s x y f g = send_one s node _ x y f g
+block_one (Write node prio dest hop tid offset value) s x y f g = send_one s node _ x y f g
 block_one (Pump port n) s x y f g = peer_one (peer_of s port) (pumps s port n) x y f g
 block_one (Deliver port n) s x y f g = peer_one (peer_of s port) (delivers s port n) x y f g
 block_one (Alter port place ch) s x y f g = f ∙ sym g
@@ -151,8 +162,8 @@ block_one (Insert port place ch) s x y f g = f ∙ sym g
 block_one (Erase port place n) s x y f g = f ∙ sym g
 block_one (Timeout port) s x y f g = peer_one (peer_of s port) (times_out s port) x y f g
 block_one (Settle port) s x y f g = link_one (link_in s.network.links port) (IsSettle s) (settle_one s) x y f g
-block_one (Move node) s x y f g = absurd f
-block_one (Collect node) s x y f g = leaves_one node (next_packet (s.network.received (port_of node))) x y f.1 g.1
+block_one (Move node) s x y f g = move_one s.network node x y f g
+block_one (Collect node) s x y f g = collect_one s.network node x y f g
 block_one (Run n) s x y f g = absurd f
 
 -- ---- runs

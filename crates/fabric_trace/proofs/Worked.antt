@@ -1,5 +1,5 @@
--- A small run is one, and the laws fail of lines that they must not allow.
-use Rattle.std.proofs.Common.{◌≡◌, ◌≢◌, ℕ, List, [], None, ◌∷◌, ◌++◌, Some, refl, sym, subst, if◌then◌else◌, inl, inr, drop, arith, ap, ◌∙◌, append-nil}
+-- Small runs are traces of their scripts, and the laws fail of lines that they must not allow.
+use Rattle.std.proofs.Common.{◌≡◌, ◌≢◌, ℕ, true, List, [], None, ◌∷◌, ◌++◌, Some, refl, sym, subst, if◌then◌else◌, inl, inr, drop, arith, ap, ◌∙◌, append-nil}
 use Rattle.rio_chars.specs.declared.chars.Char.{Char}
 use Rattle.link_model.specs.declared.event.Event.{Event}
 use Rattle.link_rest.specs.Rest.{IsSettled}
@@ -9,9 +9,13 @@ use Rattle.link_wires.specs.Kept.IsSubsequence.{Ends, Takes, Skips}
 use Rattle.link_wires.specs.Wires.{turned, bursts}
 use Rattle.link_model.specs.Window.{window}
 use Rattle.link_model.specs.Places.{run}
+use Rattle.maint_registers.specs.Devices.{new_endpoint, new_switch}
+use Rattle.maint_packets.specs.declared.next_hop.Next.TheVariants.{Port}
+use Rattle.switch_core.specs.Order.{greatest_first, least_first}
 use Rattle.fabric_model.specs.Network.{Network, same_port}
+use Rattle.fabric_model.specs.Serving.{next_at}
 use Rattle.fabric_model.specs.Steps.{LegalFrom}
-use Rattle.fabric_trace.specs.Lines.{Empty, Short, Early, Fired, Signed, Lacked, steps_of}
+use Rattle.fabric_trace.specs.Lines.{Empty, Short, Early, NoStep, Fired, Signed, Lacked, steps_of}
 use Rattle.fabric_trace.specs.Known.{link_at}
 use Rattle.fabric_trace.specs.Fold.{says, seen}
 use Rattle.fabric_trace.specs.Runs.{bare, begins, Runs}
@@ -24,13 +28,14 @@ use Rattle.link_model.specs.declared.event.Event.TheVariants.{Ctl, Pkt, Bad}
 use Rattle.link_model.specs.Symbols.{packet_accepted}
 use Rattle.fabric_trace.specs.Frees.{Acknowledges, Gotten, nothing_got, completed, FreesSaid}
 use Rattle.fabric_trace.specs.Holds.{HoldsCame}
+use Rattle.fabric_trace.specs.Served.{IsMove}
 use Rattle.fabric_trace.specs.SetUps.{MaySetUpAll}
 use Rattle.fabric_trace.specs.Wires.{WireFold}
-use Rattle.fabric_trace.specs.Examples.{near, far, pair, idle_script, idle_trace, joined_with_itself, held_from_nowhere, held_in_wrong_order, freed, freed_twice, got_from_nowhere, got_another, still_under_way, acted_from_nowhere, not_settled, near_failed, found_before}
+use Rattle.fabric_trace.specs.Examples.{near, far, pair, idle_script, idle_trace, switch_script, switch_trace, two_held, dropped_at, moved_to, joined_with_itself, held_from_nowhere, held_in_wrong_order, freed, freed_twice, got_from_nowhere, got_another, still_under_way, acted_from_nowhere, not_settled, near_failed, found_before}
 use Rattle.fabric_trace.proofs.Folding.{says_none}
 
 pub idle_runs : Runs idle_script idle_trace
-unfolding bursts turned highest_below run window
+unfolding bursts turned highest_below run window greatest_first
 idle_runs = (
   [],
   _,
@@ -65,7 +70,7 @@ idle_runs = (
               Lacked Empty ∷ [],
               _,
               refl,
-              (refl, refl),
+              record { endpoint = refl; device = new_endpoint 1 true; stands = refl; form = tt; lines = refl },
               refl,
             ),
           ),
@@ -74,6 +79,31 @@ idle_runs = (
     ),
   ),
 )
+
+pub switch_runs : Runs switch_script switch_trace
+unfolding greatest_first least_first
+switch_runs = (
+  Lacked NoStep ∷ [],
+  _,
+  refl,
+  record { switch = refl; device = new_switch 2 0; stands = refl; form = tt; lines = refl },
+  refl,
+)
+
+pub higher_first : IsMove (two_held 1) 0 (dropped_at 1 1)
+unfolding greatest_first least_first
+higher_first = record { switch = refl; device = new_switch 2 0; stands = refl; form = tt; lines = refl }
+
+pub lower_port_first : IsMove (two_held 0) 0 (dropped_at 0 0)
+unfolding greatest_first least_first
+lower_port_first = record { switch = refl; device = new_switch 2 0; stands = refl; form = tt; lines = refl }
+
+pub elsewhere_breaks : (net end : Network) (node from named to : ℕ) (packet : List ℕ)
+    → next_at net node packet ≡ Some (Port named) → named ≢ to
+    → LegalFrom net (steps_of (moved_to node from to packet)) end → ⊥
+elsewhere_breaks net end node from named to packet is apart legal =
+    let same : Some (Port named) ≡ Some (Port to) = sym is ∙ legal.0.2 in
+    apart (cc same)
 
 pub joined_breaks : MaySetUpAll bare joined_with_itself → ⊥
 joined_breaks may = absurd (cc may.0.0)

@@ -1,15 +1,16 @@
--- A small run, and lines of which the laws do not hold.
-use Rattle.std.specs.Prelude.{ℕ, List, [], ◌∷◌, Some}
+-- Small runs, and lines of which the laws do not hold.
+use Rattle.std.specs.Prelude.{ℕ, ◌+◌, ◌*◌, List, [], ◌∷◌, Some}
 use Rattle.rio_chars.specs.declared.chars.Char.{Char}
 use Rattle.rio_chars.specs.declared.chars.Char.TheVariants.{Invalid}
 use Rattle.link_model.specs.declared.event.Event.TheVariants.{Pkt}
 use Rattle.link_model.specs.Output as out
 use Rattle.fabric_script.specs.declared.ports.PortRef.{PortRef}
-use Rattle.fabric_script.specs.declared.lines.Line.TheVariants.{Endpoint, Link, Pump, Deliver, Alter, Insert, Timeout, Settle, Collect}
+use Rattle.fabric_script.specs.declared.lines.Line.TheVariants.{Endpoint, Switch, Link, Pump, Deliver, Alter, Insert, Timeout, Settle, Move, Collect}
 use Rattle.fabric_script.specs.declared.lines.Numbered.{Numbered}
-use Rattle.fabric_model.specs.Network.{Network, port_of}
-use Rattle.fabric_model.specs.Steps.{Hold, Free, Linked}
-use Rattle.fabric_trace.specs.Lines.{Empty, Short, Early, Sent, Got, Fired, TraceLine, Begun, Stepped, Signed, Lacked, Ended}
+use Rattle.maint_registers.specs.Devices.{new_switch}
+use Rattle.fabric_model.specs.Network.{Item, Network, port_of, with_lane}
+use Rattle.fabric_model.specs.Steps.{Hold, Free, Move as MoveOn, Drop, Linked, ByDevice}
+use Rattle.fabric_trace.specs.Lines.{Empty, Short, Early, NoStep, Sent, Got, Fired, TraceLine, Begun, Stepped, Signed, Lacked, Ended}
 use Rattle.fabric_trace.specs.Views.{new_half}
 use Rattle.fabric_trace.specs.Known.{Seen}
 use Rattle.fabric_trace.specs.Runs.{bare, set_up_all, begins}
@@ -59,6 +60,42 @@ idle_trace =
     ∷ Begun (Collect 1) ∷ Lacked Empty
     ∷ Ended
     ∷ []
+
+-- a switch has nothing to move
+abbrev pub switch_script : List Numbered
+switch_script =
+    record { number = 1; line = Switch 0 2 } ∷ record { number = 2; line = Move 0 } ∷ []
+
+abbrev pub switch_trace : List TraceLine
+switch_trace = Begun (Move 0) ∷ Lacked NoStep ∷ Ended ∷ []
+
+-- a packet of this priority with IDs of 16 bits, which a switch drops
+abbrev pub wide : ℕ → List ℕ
+wide r = 0 ∷ (r * 64 + 0x12) ∷ 0 ∷ 0 ∷ 0 ∷ 1 ∷ []
+
+-- a switch has received a packet of priority 0 at port 0, and one of this priority at port 1
+abbrev pub two_held : ℕ → Network
+two_held r = record bare {
+  registers = new_switch 2 0 ∷ [];
+  received = with_lane (with_lane (λ p q. []) (at 0) 0 (held 0 0)) (at 1) r (held 1 r);
+}
+  where
+    at : ℕ → PortRef
+    at port = record { node = 0; port = port }
+
+    held : ℕ → ℕ → List Item
+    held port prio =
+        record { number = port; port = at port; taken = wide prio; now = wide prio } ∷ []
+
+-- the switch drops the packet of this port and this priority
+abbrev pub dropped_at : ℕ → ℕ → List TraceLine
+dropped_at port r = Stepped (ByDevice (Drop record { node = 0; port = port } (wide r))) ∷ []
+
+-- a switch moves a packet that came to one of its ports to another
+abbrev pub moved_to : ℕ → ℕ → ℕ → List ℕ → List TraceLine
+moved_to node from to packet =
+    Stepped (ByDevice (MoveOn record { node = node; port = from } record { node = node; port = to }
+    packet)) ∷ []
 
 -- a port of a link line is joined with itself
 abbrev pub joined_with_itself : List Numbered

@@ -1,8 +1,12 @@
 -- The first of several that has an answer.
-use Rattle.std.proofs.Common.{◌≡◌, true, false, is_some, IsSome, ℕ, zero, suc, ◌+◌, ◌<◌, ◌≤◌, Option, Some, None, refl, ap, sym, ◌∙◌, inl, inr, arith}
+use Rattle.std.proofs.Common.{◌≡◌, true, false, is_some, IsSome, ℕ, zero, suc, ◌+◌, ◌<◌, ◌≤◌, Option, Some, None, refl, ap, sym, ◌∙◌, ◌⊎◌, inl, inr, arith}
 use Rattle.std.specs.Option.{option_or}
 use Rattle.std.proofs.lemmas.Bool.{cases_eq}
 use Rattle.switch_core.specs.Order.{least_first, greatest_first}
+
+either_some : {A : Type 0} (o p : Option A) (x : A) → option_or o p ≡ Some x → (o ≡ Some x) ⊎ (p ≡ Some x)
+either_some None p x is = inr is
+either_some (Some y) p x is = inl is
 
 module _ {A : Type 0} (answer : ℕ → Option A) where
   -- a number that has no answer is passed
@@ -84,3 +88,24 @@ module _ {A : Type 0} (answer : ℕ → Option A) where
       by_answer : (o : Option A) → answer n ≡ o → is_some o ≡ false → greatest_first answer m ≡ greatest_first answer n
       by_answer None e h = greatest_first-passed n m next e
       by_answer (Some x) e h = cc
+
+  -- an answer that is found is that of a number below the bound
+  pub least_first-is : (n : ℕ) (x : A) → least_first answer n ≡ Some x → (m : ℕ) × (m < n) × (answer m ≡ Some x)
+  unfolding least_first
+  least_first-is zero x is = absurd cc
+  least_first-is (suc n) x is = by_last (either_some (least_first answer n) (answer n) x is) (λ before. least_first-is n x before)
+    where
+      by_last : (least_first answer n ≡ Some x) ⊎ (answer n ≡ Some x)
+          → (least_first answer n ≡ Some x → (m : ℕ) × (m < n) × (answer m ≡ Some x)) → (m : ℕ) × (m < suc n) × (answer m ≡ Some x)
+      by_last (inl before) found = let m = found before in (m.0, omega (arith, m.1), m.2)
+      by_last (inr here) found = (n, omega arith, here)
+
+  pub greatest_first-is : (n : ℕ) (x : A) → greatest_first answer n ≡ Some x → (m : ℕ) × (m < n) × (answer m ≡ Some x)
+  unfolding greatest_first
+  greatest_first-is zero x is = absurd cc
+  greatest_first-is (suc n) x is = by_last (either_some (answer n) (greatest_first answer n) x is) (λ below. greatest_first-is n x below)
+    where
+      by_last : (answer n ≡ Some x) ⊎ (greatest_first answer n ≡ Some x)
+          → (greatest_first answer n ≡ Some x → (m : ℕ) × (m < n) × (answer m ≡ Some x)) → (m : ℕ) × (m < suc n) × (answer m ≡ Some x)
+      by_last (inl here) found = (n, omega arith, here)
+      by_last (inr below) found = let m = found below in (m.0, omega (arith, m.1), m.2)
