@@ -17,3 +17,4 @@ pub mod Room
 pub mod Forms
 pub mod Worked
 pub mod Around
+pub mod Emptying

@@ -1,5 +1,5 @@
 -- How traces end.
-use Rattle.std.proofs.Common.{◌≡◌, ℕ, Bool, true, false, List, [], ◌∷◌, ◌++◌, Option, Some, None, MatchBool, refl, sym, ap, ◌∙◌, append_assoc}
+use Rattle.std.proofs.Common.{◌≡◌, ℕ, List, [], ◌∷◌, ◌++◌, Option, Some, None, refl, sym, ap, ◌∙◌, append_assoc}
 use Rattle.fabric_script.specs.Lines.{is_event}
 use Rattle.fabric_script.specs.declared.lines.Line.{Line}
 use Rattle.fabric_script.specs.declared.lines.Numbered.{Numbered}
@@ -7,8 +7,10 @@ use Rattle.fabric_trace.specs.Lines.{TraceLine, Begun, Ended, Undetected}
 use Rattle.fabric_trace.specs.Known.{Found, Seen}
 use Rattle.fabric_trace.specs.Fold.{seen}
 use Rattle.fabric_trace.specs.Ends.{EndsAs, Whole, Named}
-use Rattle.fabric_trace.specs.Runs.{Follows, BlockThen, Names, RunsFrom}
+use Rattle.fabric_trace.specs.Rounds.{Follows}
+use Rattle.fabric_trace.specs.Runs.{BlockThen, Names, RunsFrom}
 use Rattle.fabric_trace.proofs.Folding.{seen-append}
+use Rattle.fabric_trace.proofs.Rounds.{by_test}
 
 -- lines before those that end
 ends_behind : (s : Seen) (first rest lines : List TraceLine) → lines ≡ first ++ rest → EndsAs (seen s first) rest → EndsAs s lines
@@ -22,10 +24,6 @@ follows_end : (t : Seen) (found : Option Found) (More : List TraceLine → Type 
     → (t.unfaithful ≡ None → More rest → EndsAs t rest) → Follows found More (Names number) rest → EndsAs t rest
 follows_end t None More number rest is more follows = more is follows
 follows_end t (Some found) More number rest is more follows = Named [] number found follows is
-
-by_test : {P Q C : Type 0} (test : Bool) → (P → C) → (Q → C) → MatchBool test P Q → C
-by_test true f g x = f x
-by_test false f g x = g x
 
 event_ends : (s : Seen) (line : Line) (number : ℕ) (More : Seen → List TraceLine → Type 0) (lines : List TraceLine)
     → ((t : Seen) (rest : List TraceLine) → t.unfaithful ≡ None → More t rest → EndsAs t rest) → BlockThen More (Names number) s line lines → EndsAs s lines

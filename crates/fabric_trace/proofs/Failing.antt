@@ -32,8 +32,7 @@ use Rattle.fabric_trace.specs.Parts.{Part, Begins, Lacks, Ends, Names, Steps, Se
 use Rattle.fabric_trace.specs.Firsts.{FindsFirst}
 use Rattle.fabric_trace.specs.Working.{NoneFailed, NeverFail}
 use Rattle.fabric_trace.proofs.Folding.{seen-append, half_own}
-use Rattle.fabric_trace.proofs.Keeping.{IsGood, good_peers, part_keeps}
-use Rattle.fabric_trace.proofs.Running.{legal_links}
+use Rattle.fabric_trace.proofs.Keeping.{IsGood, good_peers, legal_links, part_keeps}
 
 -- ---- a sender that sends does not fail, and one that has failed stays so
 

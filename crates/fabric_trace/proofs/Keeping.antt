@@ -20,7 +20,7 @@ use Rattle.fabric_model.specs.Steps.{Take, Leave, NodeStep, Move, Drop, Answer, 
 use Rattle.fabric_model.specs.Laws.History.{IsEmptyNetwork}
 use Rattle.fabric_model.specs.Laws.Proper.{AreProper}
 use Rattle.fabric_model.specs.Laws.Priorities.{ByPriority}
-use Rattle.fabric_model.proofs.Joining.{legal_joined}
+use Rattle.fabric_model.proofs.Joining.{legal_joined, links_stay}
 use Rattle.fabric_model.proofs.Moving.{moves_on, named_goes, sent_by}
 use Rattle.fabric_model.proofs.Boards.{first_item}
 use Rattle.fabric_model.proofs.Lanes.{by_priority, first_passes}
@@ -73,6 +73,10 @@ good_peers {s} p q good peer = record {
   there = peer;
   back = peer_back s.network.links q p good.proper peer;
 }
+
+pub legal_links : (net : Network) (steps : List Step) (end : Network) → LegalFrom net steps end → end.links ≡ net.links
+legal_links net [] end legal = ap (λ (n : Network). n.links) legal
+legal_links net (step ∷ steps) end legal = legal_links (after net step) steps end legal.1 ∙ links_stay net step
 
 -- lines are legal, and what they lead to is good
 pub record IsKept (s : Seen) (lines : List TraceLine) : Type 0 where
@@ -155,7 +159,7 @@ node_keeps s (Leave n packet) good needs few =
     step_keeps s (AtNode (Leave n packet)) good needs (fewer_links s (port_of n) packet good.proper few needs.1) refl
 
 -- a packet that a port has received first is one in its link form
-passes_first : (s : Seen) → IsGood s → (p : PortRef) (packet : List ℕ) → IsFirst s.network p packet → Passes packet
+pub passes_first : (s : Seen) → IsGood s → (p : PortRef) (packet : List ℕ) → IsFirst s.network p packet → Passes packet
 passes_first s good p packet first = first_passes good.reached.start good.reached.steps s.network good.reached.empty good.reached.legal p (prio_of packet) packet first
 
 -- a packet moves to another port of a switch, or to the same

@@ -11,9 +11,12 @@ pub mod Serving
 pub mod Keeping
 pub mod Faces
 pub mod Making
+pub mod Rounds
 pub mod Running
 pub mod SettingUp
 pub mod Starting
+pub mod RoundsRest
+pub mod RoundsEnd
 pub mod Happening
 pub mod Wiring
 pub mod Faith

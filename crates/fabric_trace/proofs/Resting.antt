@@ -1,5 +1,5 @@
 -- A link that was to settle is at rest when the next event begins.
-use Rattle.std.proofs.Common.{◌≡◌, ◌++◌, ℕ, Bool, true, false, List, [], ◌∷◌, Option, Some, None, MatchBool, refl, sym, subst, if◌then◌else◌}
+use Rattle.std.proofs.Common.{◌≡◌, ◌++◌, ℕ, zero, suc, true, false, List, [], ◌∷◌, Option, Some, None, refl, sym, subst, if◌then◌else◌}
 use Rattle.link_rest.specs.Acts.{At, acts_notes}
 use Rattle.link_rest.specs.Rest.{IsSettled}
 use Rattle.link_watch.specs.declared.note.Note.{Note}
@@ -15,6 +15,7 @@ use Rattle.switch_core.specs.declared.endpoint.Collected.{Collected}
 use Rattle.switch_core.specs.declared.endpoint.Collected.TheVariants as Collects
 use Rattle.switch_core.specs.SwitchSteps.{step_of}
 use Rattle.switch_core.specs.EndpointSteps.{collected}
+use Rattle.maint_registers.specs.Devices.{Device, is_switch}
 use Rattle.fabric_script.specs.Lines.{is_event}
 use Rattle.fabric_script.specs.declared.ports.PortRef.{PortRef}
 use Rattle.fabric_script.specs.declared.lines.Line.{Line}
@@ -28,12 +29,14 @@ use Rattle.fabric_trace.specs.Known.{Found, Seen, peer_of, link_at}
 use Rattle.fabric_trace.specs.Fold.{edit_of, seen_line, seen}
 use Rattle.fabric_trace.specs.Served.{face_in, faces_in, step_lines, collect_lines}
 use Rattle.fabric_trace.specs.Blocks.{takes, lines_of, pumps, delivers, times_out, edits, IsSettle, WithPeer, WithLink, IsBlock}
-use Rattle.fabric_trace.specs.Runs.{Follows, BlockThen, Names, NamesNothing, RunsFrom, BlocksFrom}
+use Rattle.fabric_trace.specs.Rounds.{Follows, NamesNothing, Joined, SettleAll, ServesAll, Rests as AtRest, Goes, ServeNodes, Round, Rounds}
+use Rattle.fabric_trace.specs.Runs.{BlockThen, Names, RunsFrom, BlocksFrom}
 use Rattle.fabric_trace.specs.Parts.{Begins as BeginsPart, Ends, Names as NamesPart, Made, Done, Then}
 use Rattle.fabric_trace.specs.Settled.{settled_by, under_way, RestsAt, Settled}
-use Rattle.fabric_trace.proofs.Keeping.{IsGood, made_keeps}
+use Rattle.fabric_trace.proofs.Keeping.{IsGood, legal_links, made_keeps}
 use Rattle.fabric_trace.proofs.Making.{one_part, made-append}
-use Rattle.fabric_trace.proofs.Running.{legal_links, block_made}
+use Rattle.fabric_trace.proofs.Rounds.{by_test}
+use Rattle.fabric_trace.proofs.Running.{block_made}
 use Rattle.fabric_trace.proofs.Starting.{settles_rest}
 
 -- ---- the lines of a block are no lines of events
@@ -104,6 +107,56 @@ link_within : (s : Seen) (link : Option (PortRef × PortRef)) (block : List Trac
 link_within s None block is = absurd is
 link_within s (Some link) block is = within_by is.lines (notes_within link.0 link.1 (acts_notes (At (link_at s link.0 link.1)) is.acts))
 
+within-append : (xs ys : List TraceLine) → IsWithin xs → IsWithin ys → IsWithin (xs ++ ys)
+unfolding IsWithin
+within-append [] ys first rest = rest
+within-append (Begun line ∷ xs) ys first rest = absurd first
+within-append (Stepped step ∷ xs) ys first rest = within-append xs ys first rest
+within-append (Signed sign ∷ xs) ys first rest = within-append xs ys first rest
+within-append (Lacked lack ∷ xs) ys first rest = within-append xs ys first rest
+within-append (Ended ∷ xs) ys first rest = absurd first
+within-append (Undetected number q e ∷ xs) ys first rest = within-append xs ys first rest
+
+follows_within : (found : Option Found) (More : List TraceLine → Type 0) (rest : List TraceLine) → (More rest → IsWithin rest) → Follows found More NamesNothing rest → IsWithin rest
+unfolding IsWithin
+follows_within None More rest more follows = more follows
+follows_within (Some e) More rest more follows = within_by follows tt
+
+joined_within : (s : Seen) (First : List TraceLine → Type 0) (More : Seen → List TraceLine → Type 0) (block : List TraceLine)
+    → ((first : List TraceLine) → First first → IsWithin first) → ((t : Seen) (rest : List TraceLine) → More t rest → IsWithin rest) → Joined First More s block → IsWithin block
+joined_within s First More block one more joined =
+    let t = seen s joined.0 in
+    within_by joined.2 (within-append joined.0 joined.1 (one joined.0 joined.3) (follows_within t.unfaithful (More t) joined.1 (more t joined.1) joined.4))
+
+settle_all_within : (links : List (PortRef × PortRef)) (s : Seen) (block : List TraceLine) → SettleAll IsSettle links s block → IsWithin block
+unfolding IsWithin
+settle_all_within [] s block is = within_by is tt
+settle_all_within (link ∷ links) s block is =
+    joined_within s (IsSettle s link.0 link.1) (SettleAll IsSettle links) block (λ first own. link_within s (Some link) first own) (settle_all_within links) is
+
+serves_within : {s : Seen} {node : ℕ} {block : List TraceLine} → ServesAll s node block → IsWithin block
+unfolding IsWithin
+serves_within (AtRest move is) = within_by is tt
+serves_within (Goes step rest move is more) = within_by is (serves_within more)
+
+nodes_within : (devices : List Device) (node : ℕ) (s : Seen) (block : List TraceLine) → ServeNodes node devices s block → IsWithin block
+unfolding IsWithin
+nodes_within [] node s block is = within_by is tt
+nodes_within (device ∷ devices) node s block is =
+    by_test (is_switch device)
+    (joined_within s (ServesAll s node) (ServeNodes (suc node) devices) block (λ first own. serves_within own) (nodes_within devices (suc node)))
+    (nodes_within devices (suc node) s block) is
+
+round_within : (s : Seen) (block : List TraceLine) → Round IsSettle s block → IsWithin block
+round_within s block is =
+    joined_within s (SettleAll IsSettle s.network.links s) (λ t rest. ServeNodes 0 t.network.registers t rest) block
+    (settle_all_within s.network.links s) (λ t. nodes_within t.network.registers 0 t) is
+
+rounds_within : (n : ℕ) (s : Seen) (block : List TraceLine) → Rounds IsSettle n s block → IsWithin block
+unfolding IsWithin
+rounds_within zero s block is = within_by is tt
+rounds_within (suc n) s block is = joined_within s (Round IsSettle s) (Rounds IsSettle n) block (round_within s) (rounds_within n) is
+
 block_within : (s : Seen) (line : Line) (block : List TraceLine) → IsBlock s line block → IsWithin block
 block_within s (Endpoint name id) block is = absurd is
 block_within s (Switch name ports) block is = absurd is
@@ -124,7 +177,7 @@ block_within s (Timeout port) block is = peer_within (peer_of s port) (times_out
 block_within s (Settle port) block is = link_within s (link_in s.network.links port) block is
 block_within s (Move node) block is = within_by is.lines (step_within node (step_of is.device (faces_in s.network node is.device)))
 block_within s (Collect node) block is = within_by is.lines (collected_within node (collected is.device (face_in s.network (port_of node))))
-block_within s (Run n) block is = absurd is
+block_within s (Run n) block is = rounds_within n s block is
 
 -- ---- settling
 
@@ -158,10 +211,6 @@ event_rests s _ block good none still links is = tt
 pub record Rests (s : Seen) (port : Option PortRef) (lines : List TraceLine) : Type 0 where
   pub made : Made s lines
   pub settled : Settled s port lines
-
-by_test : {P Q C : Type 0} (test : Bool) → (P → C) → (Q → C) → MatchBool test P Q → C
-by_test true f g x = f x
-by_test false f g x = g x
 
 rests_by : {s : Seen} {port : Option PortRef} {lines other : List TraceLine} → lines ≡ other → Rests s port other → Rests s port lines
 rests_by {s} {port} is rests = subst (Rests s port) (sym is) rests

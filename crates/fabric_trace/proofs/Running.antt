@@ -1,5 +1,5 @@
 -- Blocks and runs are made of parts; what a script sets up is good.
-use Rattle.std.proofs.Common.{◌≡◌, ℕ, ◌&&◌, ◌++◌, Bool, true, false, List, [], ◌∷◌, Option, Some, None, MatchBool, refl, sym, ap, ◌∙◌, subst, if◌then◌else◌}
+use Rattle.std.proofs.Common.{◌≡◌, ℕ, ◌&&◌, ◌++◌, Bool, true, false, List, [], ◌∷◌, Option, Some, None, refl, sym, ap, ◌∙◌, subst, if◌then◌else◌}
 use Rattle.link_model.specs.declared.event.Event.{Event}
 use Rattle.rio_packets.specs.Fields.{prio_of}
 use Rattle.rio_packets.specs.LinkForm.{Passes}
@@ -27,21 +27,22 @@ use Rattle.fabric_script.specs.declared.ports.PortRef.{PortRef}
 use Rattle.fabric_script.specs.declared.lines.Line.{Line}
 use Rattle.fabric_script.specs.declared.lines.Line.TheVariants.{Endpoint, Switch, Link, Buffers, Route, Default, Lock, Send, Read, Write, Pump, Deliver, Alter, Insert, Erase, Timeout, Settle, Move, Collect, Run}
 use Rattle.fabric_script.specs.declared.lines.Numbered.{Numbered}
-use Rattle.fabric_model.specs.Network.{IsEndpoint, Network, link_in, port_of, room_out}
-use Rattle.fabric_model.specs.Steps.{Take, Leave, Move as MoveOn, Drop, Answer, AtNode, Step, after as net_after, LegalFrom}
-use Rattle.fabric_model.proofs.Joining.{links_stay}
+use Rattle.fabric_model.specs.Network.{IsEndpoint, link_in, port_of, room_out}
+use Rattle.fabric_model.specs.Steps.{Take, Leave, Move as MoveOn, Drop, Answer, AtNode}
 use Rattle.fabric_model.proofs.Peers.{ArePeers, link_peers}
 use Rattle.fabric_trace.specs.Lines.{TraceLine, Begun, Stepped, Lacked, Full, Empty, Short, Early, NoStep}
 use Rattle.fabric_trace.specs.Known.{Seen, Found, peer_of, link_at}
 use Rattle.fabric_trace.specs.Fold.{edit_of, edited_by, seen}
 use Rattle.fabric_trace.specs.Served.{face_in, faces_in, step_lines, HasForm, IsMove, collect_lines, HasResponseForm, IsCollect}
 use Rattle.fabric_trace.specs.Blocks.{takes, Sends, port_at_side, lines_of, pumps, delivers, times_out, edits, IsSettle, WithPeer, WithLink, IsBlock}
-use Rattle.fabric_trace.specs.Runs.{Follows, BlockThen, Names as NamesLast, RunsFrom}
+use Rattle.fabric_trace.specs.Rounds.{Follows, Rounds}
+use Rattle.fabric_trace.specs.Runs.{BlockThen, Names as NamesLast, RunsFrom}
 use Rattle.fabric_trace.specs.Parts.{Begins, Lacks, Ends, Names, Steps, Serves, Turns, Delivers, Fires, Made, Done, Then}
 use Rattle.fabric_trace.proofs.Faces.{StepNeeds, step_needs, CollectNeeds, collect_needs}
 use Rattle.fabric_trace.proofs.Folding.{seen-append, lines-append}
-use Rattle.fabric_trace.proofs.Keeping.{few_prio, IsGood, good_by_priority, made_keeps}
+use Rattle.fabric_trace.proofs.Keeping.{few_prio, IsGood, good_by_priority, legal_links, made_keeps}
 use Rattle.fabric_trace.proofs.Making.{AreOthers, others_here, others_on, others_round, Reaches, at_is, one_part, made-append, made_by, sent_round, delivery_round, pump_reaches, fire_reaches, deliver_reaches}
+use Rattle.fabric_trace.proofs.Rounds.{by_test, rounds_come}
 use Rattle.fabric_trace.proofs.Walks.{peers_round}
 
 -- ---- what is done at either end
@@ -129,10 +130,6 @@ act_reaches s a b (DeliverAct B n) good none peers =
 act_reaches s a b (Fire A) good none peers = fire_reaches s a b good none peers
 act_reaches s a b (Fire B) good none peers =
     reaches_round s a b _ _ _ _ (fired_round a b (link_at s a b)) (fire_round (link_at s a b)) (fire_reaches s b a good none (peers_round peers))
-
-pub legal_links : (net : Network) (steps : List Step) (end : Network) → LegalFrom net steps end → end.links ≡ net.links
-legal_links net [] end legal = ap (λ (n : Network). n.links) legal
-legal_links net (step ∷ steps) end legal = legal_links (net_after net step) steps end legal.1 ∙ links_stay net step
 
 found_notes : (side : Side) (e : Event) (acts : List Act) → acts_notes (FoundAt side e) acts ≡ []
 unfolding acts_notes
@@ -230,7 +227,7 @@ step_made s node (Answered port request response) form needs =
     one_part (Serves (Answer (record { node = node; port = port }) request response) (needs form) refl)
 step_made s node Nothing form needs = one_part (Lacks NoStep refl)
 
-move_made : (s : Seen) (node : ℕ) (block : List TraceLine) → IsGood s → IsMove s.network node block → Made s block
+pub move_made : (s : Seen) (node : ℕ) (block : List TraceLine) → IsGood s → IsMove s.network node block → Made s block
 move_made s node block good is =
     let net = s.network in
     made_by is.lines (step_made s node (step_of is.device (faces_in net node is.device)) is.form
@@ -273,11 +270,18 @@ edits_made s t None = Done refl
 edits_made s t (Some edit) =
     elim (fits edit.1 (s.wires edit.0).chars) as (λ x. Made t (if x then [] else Lacked Short ∷ [])) [ true ↦ Done refl | false ↦ one_part (Lacks Short refl) ]
 
+pub link_made : (s : Seen) (a b : PortRef) (block : List TraceLine) → IsGood s → s.unfaithful ≡ None → ArePeers s.network.links a b → IsSettle s a b block → Made s block
+link_made s a b block good none peers settles = made_by settles.lines (acts_reach settles.acts s a b good none peers).made
+
 settle_made : (s : Seen) (port : PortRef) (link : Option (PortRef × PortRef)) (block : List TraceLine) → IsGood s → s.unfaithful ≡ None → link_in s.network.links port ≡ link
     → WithLink link (IsSettle s) block → Made s block
 settle_made s port None block good none is settles = absurd settles
 settle_made s port (Some link) block good none is settles =
-    made_by settles.lines (acts_reach settles.acts s link.0 link.1 good none (link_peers s.network.links port link good.proper is)).made
+    link_made s link.0 link.1 block good none (link_peers s.network.links port link good.proper is) settles
+
+rounds_made : (s : Seen) (n : ℕ) (block : List TraceLine) → IsGood s → s.unfaithful ≡ None → Rounds IsSettle n s block → Made s block
+rounds_made s n block good none rounds =
+    (rounds_come IsSettle IsSettle (λ s a b lines good none peers settles. (link_made s a b lines good none peers settles, settles)) move_made n s block good none rounds).0
 
 pub block_made : (line : Line) (s : Seen) (block : List TraceLine) → IsGood s → s.unfaithful ≡ None → IsBlock s line block → Made (edited_by s (edit_of line)) block
 block_made (Endpoint name id) s block good none is = absurd is
@@ -302,13 +306,9 @@ block_made (Timeout port) s block good none is =
 block_made (Settle port) s block good none is = settle_made s port (link_in s.network.links port) block good none refl is
 block_made (Move node) s block good none is = move_made s node block good is
 block_made (Collect node) s block good none is = collect_made s node block good is
-block_made (Run n) s block good none is = absurd is
+block_made (Run n) s block good none is = rounds_made s n block good none is
 
 -- ---- runs
-
-by_test : {P Q C : Type 0} (test : Bool) → (P → C) → (Q → C) → MatchBool test P Q → C
-by_test true f g x = f x
-by_test false f g x = g x
 
 follows_made : (t : Seen) (found : Option Found) (More : List TraceLine → Type 0) (number : ℕ) (rest : List TraceLine) → t.unfaithful ≡ found
     → (t.unfaithful ≡ None → More rest → Made t rest) → Follows found More (NamesLast number) rest → Made t rest

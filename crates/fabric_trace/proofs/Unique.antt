@@ -1,12 +1,12 @@
 -- A script has at most one trace: each part of a run determines its lines.
-use Rattle.std.proofs.Common.{◌≡◌, ℕ, Bool, true, false, not, List, [], ◌∷◌, ◌++◌, Option, Some, None, MatchBool, slice_get, sym, ap, ◌∙◌, subst, append_assoc}
+use Rattle.std.proofs.Common.{◌≡◌, ℕ, zero, suc, Bool, true, false, not, List, [], ◌∷◌, ◌++◌, Option, Some, None, MatchBool, slice_get, sym, ap, ◌∙◌, subst, append_assoc}
 use Rattle.rio_packets.proofs.FormLaws.{LinkForm-one}
 use Rattle.link_watch.specs.declared.side.Side.{Side}
 use Rattle.link_watch.specs.declared.side.Side.TheVariants.{A, B}
 use Rattle.link_rest.specs.Schedules.{NextOf, WhereOf, Is, LoopOf, Rests, GoesOn, Leaves as LeavesLoop}
 use Rattle.link_rest.specs.Acts.{Pump as PumpAct, Fire, Reached, At, goes, holds, acts_notes}
 use Rattle.link_rest.specs.Settling.{of_end, first_has_chars, first_rests, is_retry_stopped, has_failed, may_fire, waits, all_chars, Empties, is_busy, Drains, TakesTurn, Restarts, TimesOut, Requests, Recovers, SendsAll, Settles}
-use Rattle.maint_registers.specs.Devices.{Device}
+use Rattle.maint_registers.specs.Devices.{Device, is_switch}
 use Rattle.switch_core.specs.SwitchSteps.{step_of}
 use Rattle.switch_core.specs.EndpointSteps.{collected}
 use Rattle.fabric_script.specs.Lines.{is_event}
@@ -15,13 +15,15 @@ use Rattle.fabric_script.specs.declared.lines.Line.{Line}
 use Rattle.fabric_script.specs.declared.lines.Line.TheVariants.{Endpoint, Switch, Link, Buffers, Route, Default, Lock, Send, Read, Write, Pump, Deliver, Alter, Insert, Erase, Timeout, Settle, Move, Collect, Run}
 use Rattle.fabric_script.specs.declared.lines.Numbered.{Numbered}
 use Rattle.fabric_model.specs.Network.{Network, link_in, port_of}
+use Rattle.fabric_model.specs.Steps.{ByDevice}
 use Rattle.fabric_model.specs.Laws.Freeing.{IsFront}
-use Rattle.fabric_trace.specs.Lines.{TraceLine, Begun}
+use Rattle.fabric_trace.specs.Lines.{NoStep, TraceLine, Begun, Stepped, Lacked}
 use Rattle.fabric_trace.specs.Known.{Found, Seen, peer_of, link_at}
-use Rattle.fabric_trace.specs.Fold.{seen}
+use Rattle.fabric_trace.specs.Fold.{seen_line, seen}
 use Rattle.fabric_trace.specs.Served.{face_in, faces_in, step_lines, IsMove, collect_lines, IsCollect}
 use Rattle.fabric_trace.specs.Blocks.{takes, Sends, pumps, delivers, times_out, lines_of, IsSettle, WithPeer, WithLink, IsBlock}
-use Rattle.fabric_trace.specs.Runs.{start, Follows, BlockThen, Names, NamesNothing, RunsFrom, Runs, BlocksFrom, Begins}
+use Rattle.fabric_trace.specs.Rounds.{Follows, NamesNothing, Joined, SettleAll, ServesAll, Rests as AtRest, Goes, ServeNodes, Round, Rounds}
+use Rattle.fabric_trace.specs.Runs.{start, BlockThen, Names, RunsFrom, Runs, BlocksFrom, Begins}
 
 -- no two lists are of this kind
 abbrev pub AtMostOne : {L : Type 0} → (List L → Type 0) → Type 0
@@ -144,6 +146,55 @@ link_one : (link : Option (PortRef × PortRef)) (Block : PortRef → PortRef →
 link_one None Block one x y f g = absurd f
 link_one (Some link) Block one x y f g = one link.0 link.1 x y f g
 
+-- ---- rounds
+
+follows_one : (found : Option Found) (More : List TraceLine → Type 0) (Last : Found → List TraceLine → Type 0)
+    → AtMostOne More → ((e : Found) → AtMostOne (Last e)) → AtMostOne (Follows found More Last)
+follows_one None More Last one two = one
+follows_one (Some e) More Last one two = two e
+
+joined_one : (s : Seen) (First : List TraceLine → Type 0) (More : Seen → List TraceLine → Type 0) → AtMostOne First → ((t : Seen) → AtMostOne (More t)) → AtMostOne (Joined First More s)
+joined_one s First More one more x y p q =
+    let first = one p.0 q.0 p.3 q.3 in
+    let t = seen s q.0 in
+    let rest = follows_one t.unfaithful (More t) NamesNothing (more t) (λ e a b f g. f ∙ sym g) p.1 q.1
+    (subst (λ l. Follows (seen s l).unfaithful (More (seen s l)) NamesNothing p.1) first p.4) q.4 in
+    cc
+
+settle_all_one : (links : List (PortRef × PortRef)) (s : Seen) → AtMostOne (SettleAll IsSettle links s)
+settle_all_one [] s x y f g = f ∙ sym g
+settle_all_one (link ∷ links) s x y f g = joined_one s (IsSettle s link.0 link.1) (SettleAll IsSettle links) (settle_one s link.0 link.1) (settle_all_one links) x y f g
+
+serves_one : {s : Seen} {node : ℕ} {x y : List TraceLine} → ServesAll s node x → ServesAll s node y → x ≡ y
+serves_one (AtRest move e) (AtRest other f) = e ∙ sym f
+serves_one {s} {node} (AtRest move e) (Goes step rest other f more) =
+    let same = move_one s.network node (Lacked NoStep ∷ []) (Stepped (ByDevice step) ∷ []) move other in
+    absurd (cc)
+serves_one {s} {node} (Goes step rest move e more) (AtRest other f) =
+    let same = move_one s.network node (Lacked NoStep ∷ []) (Stepped (ByDevice step) ∷ []) other move in
+    absurd (cc)
+serves_one {s} {node} (Goes step rest move e more) (Goes step2 rest2 other f more2) =
+    let same = move_one s.network node (Stepped (ByDevice step2) ∷ []) (Stepped (ByDevice step) ∷ []) other move in
+    let is : step2 ≡ step = cc in
+    let after = serves_one more (subst (λ x. ServesAll (seen_line s (Stepped (ByDevice x))) node rest2) is more2) in
+    cc
+
+nodes_one : (devices : List Device) (node : ℕ) (s : Seen) → AtMostOne (ServeNodes node devices s)
+nodes_one [] node s x y f g = f ∙ sym g
+nodes_one (device ∷ devices) node s x y f g =
+    match_one (is_switch device) (Joined (ServesAll s node) (ServeNodes (suc node) devices) s) (ServeNodes (suc node) devices s)
+    (joined_one s (ServesAll s node) (ServeNodes (suc node) devices) (λ a b h k. serves_one h k) (nodes_one devices (suc node)))
+    (nodes_one devices (suc node) s) x y f g
+
+round_one : (s : Seen) → AtMostOne (Round IsSettle s)
+round_one s x y f g =
+    joined_one s (SettleAll IsSettle s.network.links s) (λ t rest. ServeNodes 0 t.network.registers t rest)
+    (settle_all_one s.network.links s) (λ t. nodes_one t.network.registers 0 t) x y f g
+
+rounds_one : (n : ℕ) (s : Seen) → AtMostOne (Rounds IsSettle n s)
+rounds_one zero s x y f g = f ∙ sym g
+rounds_one (suc n) s x y f g = joined_one s (Round IsSettle s) (Rounds IsSettle n) (round_one s) (rounds_one n) x y f g
+
 pub block_one : (line : Line) (s : Seen) → AtMostOne (IsBlock s line)
 block_one (Endpoint name id) s x y f g = absurd f
 block_one (Switch name ports) s x y f g = absurd f
@@ -164,14 +215,9 @@ block_one (Timeout port) s x y f g = peer_one (peer_of s port) (times_out s port
 block_one (Settle port) s x y f g = link_one (link_in s.network.links port) (IsSettle s) (settle_one s) x y f g
 block_one (Move node) s x y f g = move_one s.network node x y f g
 block_one (Collect node) s x y f g = collect_one s.network node x y f g
-block_one (Run n) s x y f g = absurd f
+block_one (Run n) s x y f g = rounds_one n s x y f g
 
 -- ---- runs
-
-follows_one : (found : Option Found) (More : List TraceLine → Type 0) (Last : Found → List TraceLine → Type 0)
-    → AtMostOne More → ((e : Found) → AtMostOne (Last e)) → AtMostOne (Follows found More Last)
-follows_one None More Last one two = one
-follows_one (Some e) More Last one two = two e
 
 event_one : (s : Seen) (line : Line) (More : Seen → List TraceLine → Type 0) (Last : Found → List TraceLine → Type 0)
     → ((t : Seen) → AtMostOne (More t)) → ((e : Found) → AtMostOne (Last e)) → AtMostOne (BlockThen More Last s line)

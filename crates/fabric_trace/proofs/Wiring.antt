@@ -24,8 +24,7 @@ use Rattle.fabric_trace.specs.Blocks.{lines_of}
 use Rattle.fabric_trace.specs.Parts.{Part, Begins, Lacks, Ends, Names, Steps, Serves, Turns, Delivers, Fires, Made, Done, Then}
 use Rattle.fabric_trace.specs.Wires.{WireChars, with_chars, edited_chars, taken_chars, signed_chars, on_wires, WireFold}
 use Rattle.fabric_trace.proofs.Folding.{network_is}
-use Rattle.fabric_trace.proofs.Keeping.{IsGood, part_keeps}
-use Rattle.fabric_trace.proofs.Running.{legal_links}
+use Rattle.fabric_trace.proofs.Keeping.{IsGood, legal_links, part_keeps}
 
 -- ---- the characters of the fold
 

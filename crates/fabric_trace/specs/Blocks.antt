@@ -17,12 +17,13 @@ use Rattle.link_rest.specs.Acts.{Act, At, acts_notes}
 use Rattle.link_rest.specs.Settling.{Settles}
 use Rattle.fabric_script.specs.declared.ports.PortRef.{PortRef}
 use Rattle.fabric_script.specs.declared.lines.Line.{Line}
-use Rattle.fabric_script.specs.declared.lines.Line.TheVariants.{Send, Read, Write, Pump, Deliver, Alter, Erase, Insert, Timeout, Settle, Move, Collect}
+use Rattle.fabric_script.specs.declared.lines.Line.TheVariants.{Send, Read, Write, Pump, Deliver, Alter, Erase, Insert, Timeout, Settle, Move, Collect, Run}
 use Rattle.fabric_model.specs.Network.{Network, IsEndpoint, port_of, room_out, base_of, link_in}
 use Rattle.fabric_model.specs.Steps.{Hold, Free, Take, Linked, AtNode}
 use Rattle.fabric_trace.specs.Lines.{Full, Short, Early, Sent, Got, Fired, TraceLine, Stepped, Signed, Lacked}
 use Rattle.fabric_trace.specs.Known.{Seen, peer_of, link_at}
 use Rattle.fabric_trace.specs.Fold.{edit_of}
+use Rattle.fabric_trace.specs.Rounds.{Rounds}
 use Rattle.fabric_trace.specs.Served.{IsMove, IsCollect}
 
 -- ---- at a node
@@ -120,8 +121,7 @@ abbrev pub WithLink : Option (PortRef × PortRef) → (PortRef → PortRef → L
 WithLink None Block block = ⊥
 WithLink (Some link) Block block = Block link.0 link.1 block
 
--- These are the lines of the event, behind the line with which it begins. What `run` does is not said yet: it
--- has no block.
+-- These are the lines of the event, behind the line with which it begins. Lines of set-up have none.
 abbrev pub IsBlock : Seen → Line → List TraceLine → Type 0
 IsBlock s (Send node prio ftype dest hex) block = IsSend s node prio ftype dest hex block
 IsBlock s (Read node prio dest hop tid offset) block =
@@ -137,4 +137,5 @@ IsBlock s (Erase port place n) block = block ≡ edits s (edit_of (Erase port pl
 IsBlock s (Insert port place ch) block = block ≡ edits s (edit_of (Insert port place ch))
 IsBlock s (Timeout port) block = WithPeer (peer_of s port) (times_out s port) block
 IsBlock s (Settle port) block = WithLink (link_in s.network.links port) (IsSettle s) block
+IsBlock s (Run n) block = Rounds IsSettle n s block
 IsBlock s _ block = ⊥

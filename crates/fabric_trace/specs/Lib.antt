@@ -4,6 +4,7 @@ pub mod Views
 pub mod Known
 pub mod Fold
 pub mod Served
+pub mod Rounds
 pub mod Blocks
 pub mod Settings
 pub mod Runs

@@ -1,11 +1,12 @@
 -- What a trace of a script is.
-use Rattle.std.specs.Prelude.{◌≡◌, ℕ, List, [], ◌∷◌, ◌++◌, Option, Some, None, MatchBool}
+use Rattle.std.specs.Prelude.{◌≡◌, ℕ, List, [], ◌∷◌, ◌++◌, None, MatchBool}
 use Rattle.fabric_script.specs.Lines.{is_event}
 use Rattle.fabric_script.specs.declared.lines.Line.{Line}
 use Rattle.fabric_script.specs.declared.lines.Numbered.{Numbered}
 use Rattle.fabric_model.specs.Network.{Network}
 pub use Rattle.fabric_model.specs.Network.{bare}
 pub use Rattle.fabric_trace.specs.Settings.{set_up, set_up_all}
+pub use Rattle.fabric_trace.specs.Rounds.{Follows, NamesNothing}
 use Rattle.fabric_trace.specs.Lines.{TraceLine, Begun, Ended, Undetected}
 use Rattle.fabric_trace.specs.Views.{new_half}
 use Rattle.fabric_trace.specs.Known.{Found, Seen, new_wire}
@@ -28,12 +29,6 @@ abbrev pub start : List Numbered → Seen
 start script = begins (set_up_all bare script)
 
 -- ---- one event after another
-
--- More follows while every event that was acted on was sent; else the last part.
-abbrev pub Follows : Option Found → (List TraceLine → Type 0) → (Found → List TraceLine → Type 0)
-    → List TraceLine → Type 0
-Follows None More Last rest = More rest
-Follows (Some found) More Last rest = Last found rest
 
 -- the line that an event begins with, its block, and what comes behind
 abbrev pub BlockThen : (Seen → List TraceLine → Type 0) → (Found → List TraceLine → Type 0) → Seen
@@ -59,9 +54,6 @@ abbrev pub Runs : List Numbered → List TraceLine → Type 0
 Runs script lines = RunsFrom (start script) script lines
 
 -- ---- fronts
-
-abbrev pub NamesNothing : Found → List TraceLine → Type 0
-NamesNothing found lines = lines ≡ []
 
 -- The same with no last line: what a trace begins with.
 abbrev pub BlocksFrom : Seen → List Numbered → List TraceLine → Type 0

@@ -1,6 +1,6 @@
 //! What holds of every trace. The calls do nothing: their clauses are the laws.
 
-ghost use Rattle.std.specs.Prelude.{◌≡◌, ◌≢◌, ◌++◌, List, [], Some, None};
+ghost use Rattle.std.specs.Prelude.{◌≡◌, ◌≢◌, ℕ, ◌++◌, List, [], Some, None};
 ghost use Rattle.link_model.specs.Output as out;
 ghost use Rattle.link_rest.specs.Rest.{IsSettled};
 ghost use Rattle.fabric_script.specs.declared.lines.Numbered.{Numbered};
@@ -19,6 +19,7 @@ ghost use Rattle.fabric_trace.specs.Known.{peer_of, port_at, link_at};
 ghost use Rattle.fabric_trace.specs.Lines.{TraceLine, steps_of};
 ghost use Rattle.fabric_trace.specs.Links.{AreLinks};
 ghost use Rattle.fabric_trace.specs.Parts.{Made};
+ghost use Rattle.fabric_trace.specs.Rounds.{Rounds, SettlesTo};
 ghost use Rattle.fabric_trace.specs.Runs.{Runs, Begins, bare, set_up_all, begins, start};
 ghost use Rattle.fabric_trace.specs.SetUps.{IsSetUp, MaySetUpAll};
 ghost use Rattle.fabric_trace.specs.Shown.{Shown};
@@ -89,6 +90,15 @@ pub fn settling_leaves_a_link_at_rest()
         → IsSettle (seen (begins net) before) a b block
         → (seen (begins net) (before ++ block)).unfaithful ≡ None
         → IsSettled (link_at (seen (begins net) (before ++ block)) a b) }
+{}
+
+/// Within a `run`, each link is at rest when it has settled, if every event that was acted on was sent.
+pub fn rounds_leave_links_at_rest()
+    ensures { (net : Network) (n : ℕ) (before block : List TraceLine) → IsSetUp net
+        → Made (begins net) before
+        → (seen (begins net) before).unfaithful ≡ None
+        → Rounds IsSettle n (seen (begins net) before) block
+        → Rounds (SettlesTo IsSettle) n (seen (begins net) before) block }
 {}
 
 /// The characters that a port got stood at the front of its peer's wire, as it was sent and as the script edited it.

@@ -8,6 +8,7 @@
 //! - `Fold`: the one fold that reads a trace, by its lines alone;
 //! - `Served`, `Blocks`: which lines each event makes, from what is known before it, those of
 //!   devices first;
+//! - `Rounds`: what the rounds of a run are;
 //! - `Settings`: what the lines of set-up make of a network; `SetUps`: which networks they may give; `Events`: which
 //!   events may happen in a network; `Runs`: what a trace of a script is;
 //! - `Parts`: what may stand in a trace, whatever script it is of;
@@ -20,8 +21,7 @@
 //! The functions state the laws, as contracts of empty bodies. They speak of every script, of each that passes, or of all
 //! lines that are made of parts, from a network without a packet on.
 //!
-//! Left out: the line `run` of a script, which is not built yet and has no block; and that a trace
-//! exists.
+//! Left out: that a trace exists.
 #![tactic(auto)]
 
 mod examples;
@@ -31,8 +31,8 @@ mod scripts;
 pub use examples::{laws_can_fail, small_run, small_run_with_a_switch, two_ports_in_order};
 pub use laws::{
     a_trace_ends, acted_events_were_sent, first_blocks_are_a_front, links_stay_sound, one_trace,
-    runs_are_made, set_up, settling_leaves_a_link_at_rest, steps_are_legal,
-    what_a_port_frees_was_acknowledged, what_a_port_got_was_on_the_wire,
+    rounds_leave_links_at_rest, runs_are_made, set_up, settling_leaves_a_link_at_rest,
+    steps_are_legal, what_a_port_frees_was_acknowledged, what_a_port_got_was_on_the_wire,
     what_a_port_holds_came_to_it, what_a_trace_shows,
 };
 pub use scripts::{events_may_happen, ports_are_there, scripts_may_set_up};
