@@ -2,6 +2,7 @@ pub mod ActLaws
 pub mod ActionLaws
 pub mod BlockLaws
 pub mod Cables
+pub mod Changes
 pub mod CollectLaws
 pub mod EditLaws
 pub mod EndLaws

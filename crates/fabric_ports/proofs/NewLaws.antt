@@ -1,9 +1,8 @@
 -- What a new fabric shows, and what a plan is for after more lines.
-use Rattle.std.proofs.Common.{◌≡◌, ℕ, zero, suc, ◌+◌, ◌<◌, true, List, [], ◌∷◌, ◌++◌, All, Some, None, Bool, cond, false, map, get_or, take, drop, length, length-append, option_map, refl, sym, ap, ◌∙◌, subst, filter, ◌==◌, arith}
-use Rattle.std.proofs.lemmas.Bool.{false≢true}
+use Rattle.std.proofs.Common.{◌≡◌, ℕ, zero, suc, ◌+◌, ◌<◌, List, [], ◌∷◌, ◌++◌, All, Some, false, map, get_or, take, drop, length, length-append, option_map, refl, sym, ap, ◌∙◌, subst, filter, ◌==◌, arith}
 use Rattle.std.proofs.lemmas.List.{take_more, drop_more, take-append-drop, length-map}
-use Rattle.std.proofs.lemmas.List.Elements.{All-nil, All-cons, All-head, All-tail, All-weaker}
-use Rattle.std.proofs.lemmas.Option.{slice_get-map}
+use Rattle.std.proofs.lemmas.List.Elements.{All-head, All-tail, All-weaker}
+use Rattle.std.proofs.lemmas.Option.{same_Some, slice_get-map}
 use Rattle.std.specs.List.{slice_get}
 use Rattle.rio_packets.specs.Fields.{prio_of}
 use Rattle.link_model.specs.Places.{start as place_start}
@@ -21,7 +20,7 @@ use Rattle.fabric_script.specs.Lines.{new_name}
 use Rattle.fabric_script.specs.Scripts.{PassesFrom, Passes}
 use Rattle.fabric_model.specs.Network.{Network}
 use Rattle.fabric_model.specs.Laws.History.{IsEmptyNetwork}
-use Rattle.fabric_trace.specs.Events.{ArePorts, MakesNoSwitch, counts_after, counts_after_all, port_counts}
+use Rattle.fabric_trace.specs.Events.{ArePorts, counts_after, counts_after_all, port_counts}
 use Rattle.fabric_trace.specs.Known.{port_at}
 use Rattle.fabric_trace.specs.Parts.{Done}
 use Rattle.fabric_trace.specs.Runs.{bare, set_up, set_up_all, begins}
@@ -29,12 +28,10 @@ use Rattle.fabric_trace.specs.SetUps.{MaySetUp, MaySetUpAll}
 use Rattle.fabric_trace.specs.Views.{packets_in}
 use Rattle.fabric_trace.proofs.Happening.{may_set_up, ports_there}
 use Rattle.fabric_trace.proofs.Starting.{set_up_bare}
-use Rattle.fabric_ports.specs.Built.{unbuilt_in}
-use Rattle.fabric_ports.specs.Events.{is_built}
 use Rattle.fabric_ports.specs.Places.{IsEndpointAt, place_of}
 use Rattle.fabric_ports.specs.Showing.{ShowsCable, ShowsFabric}
-use Rattle.fabric_ports.specs.Standing.{IsPlainItem, IsPlain, Stands}
-use Rattle.fabric_ports.specs.Plans.{counts_of, IsEndpointDevice, IsNewCable, PlansFor}
+use Rattle.fabric_ports.specs.Standing.{Stands}
+use Rattle.fabric_ports.specs.Plans.{counts_of, HasPorts, IsNewCable, PlansFor, MayAdd}
 use Rattle.fabric_ports.proofs.PlanLaws.{Lists, lists_of, lists_same}
 use Rattle.fabric_ports.specs.declared.fabric.Fabric.{Fabric}
 use Rattle.fabric_ports.specs.declared.plans.Plan.{Plan}
@@ -61,23 +58,19 @@ new_view net p empty = λ i. record {
   };
 }
 
--- each device is an endpoint
-endpoint_at : (devices : List Device) (n : ℕ) → All IsEndpointDevice devices
+-- an endpoint has a port
+endpoint_at : (devices : List Device) (n : ℕ) → All HasPorts devices
     → option_map is_switch (slice_get devices n) ≡ Some false → IsEndpointAt devices n
-endpoint_at [] n are is = absurd (cc)
-endpoint_at (device ∷ devices) zero are is = let one =
-    All-head IsEndpointDevice device devices are in
-    record { device = device; stands = refl; kind = one.0; has_port = one.1 }
-endpoint_at (device ∷ devices) (suc n) are is =
-    let one = endpoint_at devices n (All-tail IsEndpointDevice device devices are) is in
-    record { device = one.device; stands = one.stands; kind = one.kind; has_port = one.has_port }
-
--- no packet of an empty network is a request
-empty_plain : (net : Network) → IsEmptyNetwork net → IsPlain net
-empty_plain net empty = record {
-  received = λ p r. subst (All IsPlainItem) (sym (empty.received p r)) (All-nil IsPlainItem);
-  waiting = λ p r. subst (All IsPlainItem) (sym (empty.waiting p r)) (All-nil IsPlainItem);
+endpoint_at [] n have is = absurd (cc)
+endpoint_at (device ∷ devices) zero have is = record {
+  device = device;
+  stands = refl;
+  kind = same_Some (is_switch device) false is;
+  has_port = All-head HasPorts device devices have;
 }
+endpoint_at (device ∷ devices) (suc n) have is =
+    let one = endpoint_at devices n (All-tail HasPorts device devices have) is in
+    record { device = one.device; stands = one.stands; kind = one.kind; has_port = one.has_port }
 
 -- a fabric with new ports of the planned buffers shows the network of the plan
 new_shows : (fabric : Fabric) (buffers : List ℕ) (net : Network) → IsEmptyNetwork net
@@ -96,7 +89,7 @@ new_shows fabric buffers net empty l ports = record {
       fabric.cables.items l.new;
   links = l.links;
   registers = l.registers;
-  endpoints = λ n is. endpoint_at fabric.devices.items n l.endpoints
+  endpoints = λ n is. endpoint_at fabric.devices.items n l.have_ports
       (subst (λ (registers : List Device). option_map is_switch (slice_get registers n) ≡ Some
       false) l.registers is);
 }
@@ -116,7 +109,6 @@ new_stands names lines plan fabric passes is d f c ports =
           (lists_same plan.devices.items fabric.devices.items plan.firsts.items fabric.firsts.items
           plan.buffers.items plan.buffers.items plan.cables.items fabric.cables.items
           (set_up_all bare lines) d f refl c (lists_of plan (set_up_all bare lines) is)) ports;
-      plain = empty_plain (set_up_all bare lines) set_up.empty;
     }
 
 -- ---- from line to line
@@ -160,6 +152,24 @@ next_ports names lines i line plan passes within at first =
     (ports_there names (take i lines) (drop (i + 1) lines) line
     (subst (Passes names) (split_at lines i line within at) passes))
 
+-- the next line may be set up
+next_set_up : (names : List (List ℕ)) (lines : List Numbered) (i : ℕ) (line : Numbered)
+    → Passes names lines → i < length lines → line ≡ get_or lines i line
+    → MaySetUp (set_up_all bare (take i lines)) line.line
+next_set_up names lines i line passes within at =
+    may_at bare (take i lines) (drop (i + 1) lines) line
+    (subst (MaySetUpAll bare) (split_at lines i line within at) (may_set_up names lines passes))
+
+-- and added to the plan
+pub next_may : (names : List (List ℕ)) (lines : List Numbered) (i : ℕ) (line : Numbered)
+    (plan : Plan) → Passes names lines → i < length lines → line ≡ get_or lines i line
+    → PlansFirst plan lines i → MayAdd plan line.line
+next_may names lines i line plan passes within at first = record {
+  net = set_up_all bare (take i lines);
+  plans = first.plans;
+  may = next_set_up names lines i line passes within at;
+}
+
 pub next_plan : (names : List (List ℕ)) (lines : List Numbered) (i : ℕ) (line : Numbered)
     (old new : Plan) → Passes names lines → i < length lines → line ≡ get_or lines i line
     → PlansFirst old lines i
@@ -170,9 +180,7 @@ pub next_plan : (names : List (List ℕ)) (lines : List Numbered) (i : ℕ) (lin
 next_plan names lines i line old new passes within at first plans counts =
     let more : take (i + 1) lines ≡ take i lines ++ line ∷ [] = take_more lines i line within
     ∙ ap (λ x. take i lines ++ x ∷ []) (sym at) in
-    let may = may_at bare (take i lines) (drop (i + 1) lines) line
-    (subst (MaySetUpAll bare) (split_at lines i line within at)
-    (may_set_up names lines passes)) in
+    let may = next_set_up names lines i line passes within at in
     record {
       plans = subst (PlansFor new)
           (sym (ap (set_up_all bare) more ∙ set_up_all-append bare (take i lines) (line ∷ [])))
@@ -217,27 +225,3 @@ pub devices_named : (names : List (List ℕ)) (lines : List Numbered) (devices :
 devices_named names lines devices passes counts =
     sym (length-map devices (λ (device : Device). device.ports)) ∙ ap length counts
     ∙ names_count nothing names [] lines refl passes
-
--- ---- what is built
-
-pub all_built : (lines : List Numbered) → unbuilt_in lines ≡ None
-    → All (λ line. is_built line.line ≡ true) lines
-all_built [] none = All-nil (λ line. is_built line.line ≡ true)
-all_built (line ∷ lines) none =
-    let parts = by_test (is_built line.line) none in
-    All-cons (λ line. is_built line.line ≡ true) line lines parts.0 (all_built lines parts.1)
-  where
-    by_test : (t : Bool) → cond t (unbuilt_in lines) (Some line.number) ≡ None → (t ≡ true)
-        × (unbuilt_in lines ≡ None)
-    by_test true none = (refl, none)
-    by_test false none = absurd (cc)
-
-no_switch : (line : Line) → is_built line ≡ true → MakesNoSwitch line
-no_switch (Switch name ports) built = absurd (false≢true built)
-no_switch _ built = tt
-
-pub built_without_switches : (lines : List Numbered) → unbuilt_in lines ≡ None
-    → All (λ line. MakesNoSwitch line.line) lines
-built_without_switches lines none =
-    All-weaker (λ line. is_built line.line ≡ true) (λ line. MakesNoSwitch line.line)
-    (λ line built. no_switch line.line built) lines (all_built lines none)

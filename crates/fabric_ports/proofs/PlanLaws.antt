@@ -1,26 +1,28 @@
 -- What lines of set-up make of a plan, and what a fabric shows that is made by one.
-use Rattle.std.proofs.Common.{◌≡◌, ℕ, zero, suc, ◌<◌, true, false, List, [], ◌∷◌, ◌++◌, All, Some, Result, Ok, Err, IfOk, map, get_or, set, length, length-append, refl, sym, ap, ◌∙◌, subst, arith, inl, inr, if◌then◌else◌}
+use Rattle.std.proofs.Common.{◌≡◌, ℕ, zero, suc, ◌+◌, ◌<◌, true, false, List, [], ◌∷◌, ◌++◌, All, Some, Result, Ok, Err, IfOk, map, get_or, set, replicate, length, length-append, refl, sym, ap, ◌∙◌, subst, arith, inl, inr, if◌then◌else◌}
 use Rattle.std.specs.List.{slice_get}
 use Rattle.std.proofs.lemmas.Bool.{true≢false, false_from_ne_true}
-use Rattle.std.proofs.lemmas.List.{map-append, length-set}
-use Rattle.std.proofs.lemmas.List.Elements.{All-nil, All-push, All-set, All-weaker}
+use Rattle.std.proofs.lemmas.List.{map-append, length-set, length-replicate}
+use Rattle.std.proofs.lemmas.List.Elements.{All-nil, All-push, All-append, All-replicate, All-set, All-weaker}
 use Rattle.std.proofs.Math.Seq.{get_or-append_seam}
 use Rattle.link_machine.specs.States.{empty_wires}
 use Rattle.link_sound.specs.Histories.{AreBuffers}
-use Rattle.maint_registers.specs.Devices.{Device, new_endpoint}
+use Rattle.maint_registers.specs.Devices.{Device, with_link}
 use Rattle.fabric_script.specs.declared.ports.PortRef.{PortRef}
-use Rattle.fabric_script.specs.declared.lines.Line.TheVariants.{Endpoint, Link, Buffers}
-use Rattle.fabric_model.specs.Network.{Network, same_port}
+use Rattle.fabric_script.specs.declared.lines.Line.TheVariants.{Link, Buffers}
+use Rattle.fabric_model.specs.Network.{Network, same_port, with_device}
 use Rattle.fabric_model.proofs.Peers.{port_is, same_port-refl}
 use Rattle.fabric_trace.specs.Events.{IsPort}
 use Rattle.fabric_trace.specs.Runs.{bare, set_up}
+use Rattle.fabric_trace.specs.Settings.{with_node, with_change, with_end}
 use Rattle.fabric_ports.specs.Places.{AreFirsts, port_count, HasPort, IsPortOf, place_of}
 use Rattle.fabric_ports.specs.Showing.{ends_of, AreRegisters}
-use Rattle.fabric_ports.specs.Plans.{counts_of, IsEndpointDevice, IsNewCable, PlansFor}
+use Rattle.fabric_ports.specs.Plans.{counts_of, HasPorts, IsNewCable, PlansFor, with_end_at}
 use Rattle.fabric_ports.specs.declared.fabric.Cable.{Cable}
 use Rattle.fabric_ports.specs.declared.plans.Plan.{Plan}
+use Rattle.fabric_ports.proofs.Changes.{KeepsPorts, counts-change, firsts-change, count-change, have_ports-change, port-change, port-unchange}
 use Rattle.fabric_ports.proofs.PlaceLaws.{same_place}
-use Rattle.fabric_ports.proofs.Rows.{get-append, get-last, get-set, get-set_other, placed, count-append, firsts-append, as_many_firsts, place_stays, port_stays, old_or_new}
+use Rattle.fabric_ports.proofs.Rows.{get-append, get-behind, get-set, get-set_other, placed, count-append, firsts-append, as_many_firsts, place_stays, port_stays, old_or_new}
 
 -- ---- the lists of a plan
 
@@ -28,7 +30,7 @@ use Rattle.fabric_ports.proofs.Rows.{get-append, get-last, get-set, get-set_othe
 pub record Lists (devices : List Device) (firsts buffers : List ℕ) (cables : List Cable)
     (net : Network) : Type 0 where
   pub rows : AreFirsts 0 devices firsts
-  pub endpoints : All IsEndpointDevice devices
+  pub have_ports : All HasPorts devices
   pub count : length buffers ≡ port_count devices
   pub few : All AreBuffers buffers
   pub here : (p : PortRef) → IsPortOf devices p
@@ -42,7 +44,7 @@ pub lists_of : (plan : Plan) (net : Network) → PlansFor plan net
     → Lists plan.devices.items plan.firsts.items plan.buffers.items plan.cables.items net
 lists_of plan net is = record {
   rows = is.whole.firsts;
-  endpoints = is.whole.endpoints;
+  have_ports = is.whole.have_ports;
   count = is.whole.count;
   few = is.whole.few;
   here = is.buffers;
@@ -56,7 +58,7 @@ plan_of : (plan : Plan) (net : Network)
     → Lists plan.devices.items plan.firsts.items plan.buffers.items plan.cables.items net
     → PlansFor plan net
 plan_of plan net l = record {
-  whole = record { firsts = l.rows; endpoints = l.endpoints; count = l.count; few = l.few };
+  whole = record { firsts = l.rows; have_ports = l.have_ports; count = l.count; few = l.few };
   buffers = l.here;
   other_buffers = l.elsewhere;
   cables = l.new;
@@ -81,7 +83,7 @@ plan_bare plan d f b c =
     (lists_same [] plan.devices.items [] plan.firsts.items [] plan.buffers.items []
     plan.cables.items bare d f b c (record {
       rows = tt;
-      endpoints = All-nil IsEndpointDevice;
+      have_ports = All-nil HasPorts;
       count = refl;
       few = All-nil AreBuffers;
       here = λ p is. absurd is;
@@ -91,21 +93,22 @@ plan_bare plan d f b c =
       registers = refl;
     }))
 
--- ---- an endpoint
+-- ---- a device
 
-endpoint_here : (devices : List Device) (firsts buffers : List ℕ) (cables : List Cable)
-    (net : Network) (id : ℕ) → Lists devices firsts buffers cables net → (p : PortRef)
-    → IsPortOf (devices ++ new_endpoint id false ∷ []) p
-    → slice_get (buffers ++ 8 ∷ []) (place_of (firsts ++ length buffers ∷ []) p) ≡ Some
-    (net.buffers p)
-endpoint_here devices firsts buffers cables net id l p is =
-    elim (old_or_new devices (new_endpoint id false) p is) [
+device_here : (devices : List Device) (firsts buffers : List ℕ) (cables : List Cable)
+    (net : Network) (device : Device) → Lists devices firsts buffers cables net → (p : PortRef)
+    → IsPortOf (devices ++ device ∷ []) p
+    → slice_get (buffers ++ replicate device.ports 8)
+    (place_of (firsts ++ length buffers ∷ []) p) ≡ Some (net.buffers p)
+device_here devices firsts buffers cables net device l p is =
+    elim (old_or_new devices device p is) [
       | inl old ↦
           let at = placed devices firsts p l.rows old in
           let within = at.within in
           let all = l.count in
-          ap (slice_get (buffers ++ 8 ∷ [])) (place_stays firsts (length buffers ∷ []) p at.known)
-          ∙ get-append buffers (8 ∷ []) (place_of firsts p) (omega arith)
+          ap (slice_get (buffers ++ replicate device.ports 8))
+          (place_stays firsts (length buffers ∷ []) p at.known)
+          ∙ get-append buffers (replicate device.ports 8) (place_of firsts p) (omega arith)
           ∙ l.here p old
       | inr last ↦
           let node = last.0 in
@@ -114,65 +117,120 @@ endpoint_here devices firsts buffers cables net id l p is =
           let first : get_or (firsts ++ length buffers ∷ []) p.node 0 ≡ length buffers =
           ap (λ n. get_or (firsts ++ length buffers ∷ []) n 0) (node ∙ sym many)
           ∙ get_or-append_seam firsts (length buffers) [] 0 in
-          let place : place_of (firsts ++ length buffers ∷ []) p ≡ length buffers = omega arith in
-          ap (slice_get (buffers ++ 8 ∷ [])) place ∙ get-last buffers 8
+          let place : place_of (firsts ++ length buffers ∷ []) p ≡ length buffers + p.port =
+          ap (λ n. n + p.port) first in
+          get-behind buffers device.ports p.port 8 (place_of (firsts ++ length buffers ∷ []) p)
+          port place
           ∙ ap Some (sym
           (l.elsewhere p (λ old. let at = (placed devices firsts p l.rows old).device in
           omega arith)))
     ]
 
-endpoint_lists : (devices : List Device) (firsts buffers : List ℕ) (cables : List Cable)
-    (net : Network) (name id : ℕ) → Lists devices firsts buffers cables net
-    → Lists (devices ++ new_endpoint id false ∷ []) (firsts ++ length buffers ∷ [])
-    (buffers ++ 8 ∷ []) cables (set_up net (Endpoint name id))
-endpoint_lists devices firsts buffers cables net name id l =
-    let device = new_endpoint id false in
+device_lists : (devices : List Device) (firsts buffers : List ℕ) (cables : List Cable)
+    (net : Network) (device : Device) → HasPorts device → Lists devices firsts buffers cables net
+    → Lists (devices ++ device ∷ []) (firsts ++ length buffers ∷ [])
+    (buffers ++ replicate device.ports 8) cables (with_node net device)
+device_lists devices firsts buffers cables net device has l =
     let all = l.count in
     record {
       rows = subst (λ n. AreFirsts 0 (devices ++ device ∷ []) (firsts ++ n ∷ [])) (sym all)
           (firsts-append devices firsts device l.rows);
-      endpoints = All-push IsEndpointDevice devices device l.endpoints (refl, omega arith);
-      count = omega (arith, length-append buffers (8 ∷ []), count-append devices device);
-      few = All-push AreBuffers buffers 8 l.few (omega arith, omega arith);
-      here = endpoint_here devices firsts buffers cables net id l;
+      have_ports = All-push HasPorts devices device l.have_ports has;
+      count = length-append buffers (replicate device.ports 8)
+          ∙ ap (λ n. length buffers + n) (length-replicate device.ports 8)
+          ∙ ap (λ n. n + device.ports) all ∙ sym (count-append devices device);
+      few = All-append AreBuffers buffers (replicate device.ports 8) l.few
+          (All-replicate AreBuffers device.ports 8 (omega arith, omega arith));
+      here = device_here devices firsts buffers cables net device l;
       elsewhere = λ p not. l.elsewhere p (λ old. not (port_stays devices (device ∷ []) p old));
       new = All-weaker (IsNewCable devices) (IsNewCable (devices ++ device ∷ []))
           (λ cable is. record {
-            port_a =
-                port_stays devices (device ∷ []) cable.a is.port_a;
-            port_b =
-                port_stays devices (device ∷ []) cable.b is.port_b;
+            port_a = port_stays devices (device ∷ []) cable.a is.port_a;
+            port_b = port_stays devices (device ∷ []) cable.b is.port_b;
             wires = is.wires;
           })
           cables l.new;
       links = l.links;
-      registers = ap (λ x. x ++ new_endpoint id false ∷ []) l.registers;
+      registers = ap (λ x. x ++ device ∷ []) l.registers;
     }
 
-pub plan-endpoint : (old new : Plan) (net : Network) (name id : ℕ)
-    → new.devices.items ≡ old.devices.items ++ new_endpoint id false ∷ []
+pub plan-device : (old new : Plan) (net : Network) (device : Device) → HasPorts device
+    → new.devices.items ≡ old.devices.items ++ device ∷ []
     → new.firsts.items ≡ old.firsts.items ++ length old.buffers.items ∷ []
-    → new.buffers.items ≡ old.buffers.items ++ 8 ∷ [] → new.cables.items ≡ old.cables.items
-    → PlansFor old net → PlansFor new (set_up net (Endpoint name id))
-plan-endpoint old new net name id d f b c is =
-    plan_of new (set_up net (Endpoint name id))
-    (lists_same (old.devices.items ++ new_endpoint id false ∷ []) new.devices.items
+    → new.buffers.items ≡ old.buffers.items ++ replicate device.ports 8
+    → new.cables.items ≡ old.cables.items
+    → PlansFor old net → PlansFor new (with_node net device)
+plan-device old new net device has d f b c is =
+    plan_of new (with_node net device)
+    (lists_same (old.devices.items ++ device ∷ []) new.devices.items
     (old.firsts.items ++ length old.buffers.items ∷ []) new.firsts.items
-    (old.buffers.items ++ 8 ∷ []) new.buffers.items old.cables.items new.cables.items
-    (set_up net (Endpoint name id)) d f b c
-    (endpoint_lists old.devices.items old.firsts.items old.buffers.items old.cables.items net name
-    id (lists_of old net is)))
+    (old.buffers.items ++ replicate device.ports 8) new.buffers.items
+    old.cables.items new.cables.items (with_node net device) d f b c
+    (device_lists old.devices.items old.firsts.items old.buffers.items old.cables.items net device
+    has (lists_of old net is)))
+
+pub counts-device : (devices new : List Device) (device : Device) (ports : ℕ)
+    → new ≡ devices ++ device ∷ [] → device.ports ≡ ports
+    → counts_of new ≡ counts_of devices ++ ports ∷ []
+counts-device devices new device ports is same =
+    ap counts_of is ∙ map-append (λ (device : Device). device.ports) devices (device ∷ [])
+    ∙ ap (λ n. counts_of devices ++ n ∷ []) same
+
+-- ---- a device that changes
+
+change_lists : (devices : List Device) (firsts buffers : List ℕ) (cables : List Cable)
+    (net : Network) (n : ℕ) (change : Device → Device) → KeepsPorts change
+    → Lists devices firsts buffers cables net
+    → Lists (with_device devices n change) firsts buffers cables (with_change net n change)
+change_lists devices firsts buffers cables net n change same l = record {
+  rows = firsts-change 0 devices firsts n change same l.rows;
+  have_ports = have_ports-change devices n change same l.have_ports;
+  count = l.count ∙ sym (count-change devices n change same);
+  few = l.few;
+  here = λ p is. l.here p (port-unchange devices n change same p.node p.port is);
+  elsewhere = λ p not.
+      l.elsewhere p (λ old. not (port-change devices n change same p.node p.port old));
+  new = All-weaker (IsNewCable devices) (IsNewCable (with_device devices n change))
+      (λ cable is. record {
+        port_a = port-change devices n change same cable.a.node cable.a.port is.port_a;
+        port_b = port-change devices n change same cable.b.node cable.b.port is.port_b;
+        wires = is.wires;
+      })
+      cables l.new;
+  links = l.links;
+  registers = ap (λ x. with_device x n change) l.registers;
+}
+
+pub plan-change : (old new : Plan) (net : Network) (n : ℕ) (change : Device → Device)
+    → KeepsPorts change → new.devices.items ≡ with_device old.devices.items n change
+    → new.firsts.items ≡ old.firsts.items → new.buffers.items ≡ old.buffers.items
+    → new.cables.items ≡ old.cables.items
+    → PlansFor old net → PlansFor new (with_change net n change)
+plan-change old new net n change same d f b c is =
+    plan_of new (with_change net n change)
+    (lists_same (with_device old.devices.items n change) new.devices.items
+    old.firsts.items new.firsts.items old.buffers.items new.buffers.items
+    old.cables.items new.cables.items (with_change net n change) d f b c
+    (change_lists old.devices.items old.firsts.items old.buffers.items old.cables.items net n change
+    same (lists_of old net is)))
 
 -- ---- a link
 
-link_lists : (devices : List Device) (firsts buffers : List ℕ) (cables : List Cable) (net : Network)
-    (a b : PortRef) → IsPortOf devices a → IsPortOf devices b
+-- a device knows that this port has a link; it has as many ports
+abbrev pub linked_at : ℕ → Device → Device
+linked_at port device = record device { linked = with_link device.linked port }
+
+keeps_ports : (port : ℕ) → KeepsPorts (linked_at port)
+keeps_ports port = λ device. refl
+
+cable_lists : (devices : List Device) (firsts buffers : List ℕ) (cables : List Cable)
+    (net : Network) (a b : PortRef) → IsPortOf devices a → IsPortOf devices b
     → Lists devices firsts buffers cables net
     → Lists devices firsts buffers (cables ++ record { a = a; b = b; link = empty_wires } ∷ [])
-    (set_up net (Link a b))
-link_lists devices firsts buffers cables net a b is_a is_b l = record {
+    (record net { links = net.links ++ (a, b) ∷ [] })
+cable_lists devices firsts buffers cables net a b is_a is_b l = record {
   rows = l.rows;
-  endpoints = l.endpoints;
+  have_ports = l.have_ports;
   count = l.count;
   few = l.few;
   here = l.here;
@@ -184,19 +242,51 @@ link_lists devices firsts buffers cables net a b is_a is_b l = record {
   registers = l.registers;
 }
 
+-- the port of a device that knows of a link is one as before
+pub told_port : (devices : List Device) (told p : PortRef) → IsPortOf devices p
+    → IsPortOf (with_end_at devices told) p
+told_port devices told p is =
+    port-change devices told.node (linked_at told.port) (keeps_ports told.port) p.node p.port is
+
+end_lists : (devices : List Device) (firsts buffers : List ℕ) (cables : List Cable) (net : Network)
+    (p : PortRef) → Lists devices firsts buffers cables net
+    → Lists (with_end_at devices p) firsts buffers cables (with_end net p)
+end_lists devices firsts buffers cables net p l =
+    change_lists devices firsts buffers cables net p.node (linked_at p.port) (keeps_ports p.port) l
+
+link_lists : (devices : List Device) (firsts buffers : List ℕ) (cables : List Cable) (net : Network)
+    (a b : PortRef) → IsPortOf devices a → IsPortOf devices b
+    → Lists devices firsts buffers cables net
+    → Lists (with_end_at (with_end_at devices a) b) firsts buffers
+    (cables ++ record { a = a; b = b; link = empty_wires } ∷ []) (set_up net (Link a b))
+link_lists devices firsts buffers cables net a b is_a is_b l =
+    cable_lists (with_end_at (with_end_at devices a) b) firsts buffers cables
+    (with_end (with_end net a) b) a b
+    (told_port (with_end_at devices a) b a (told_port devices a a is_a))
+    (told_port (with_end_at devices a) b b (told_port devices a b is_b))
+    (end_lists (with_end_at devices a) firsts buffers cables (with_end net a) b
+    (end_lists devices firsts buffers cables net a l))
+
 pub plan-link : (old new : Plan) (net : Network) (a b : PortRef) → IsPortOf old.devices.items a
-    → IsPortOf old.devices.items b → new.devices.items ≡ old.devices.items
+    → IsPortOf old.devices.items b
+    → new.devices.items ≡ with_end_at (with_end_at old.devices.items a) b
     → new.firsts.items ≡ old.firsts.items → new.buffers.items ≡ old.buffers.items
     → new.cables.items ≡ old.cables.items ++ record { a = a; b = b; link = empty_wires } ∷ []
     → PlansFor old net → PlansFor new (set_up net (Link a b))
 plan-link old new net a b is_a is_b d f bu c is =
     plan_of new (set_up net (Link a b))
-    (lists_same old.devices.items new.devices.items old.firsts.items new.firsts.items
-    old.buffers.items new.buffers.items
+    (lists_same (with_end_at (with_end_at old.devices.items a) b) new.devices.items
+    old.firsts.items new.firsts.items old.buffers.items new.buffers.items
     (old.cables.items ++ record { a = a; b = b; link = empty_wires } ∷ []) new.cables.items
     (set_up net (Link a b)) d f bu c
     (link_lists old.devices.items old.firsts.items old.buffers.items old.cables.items net a b is_a
     is_b (lists_of old net is)))
+
+-- so each device has as many ports as before
+pub counts-end : (devices : List Device) (p : PortRef)
+    → counts_of (with_end_at devices p) ≡ counts_of devices
+counts-end devices p =
+    counts-change devices p.node (linked_at p.port) (keeps_ports p.port)
 
 -- ---- the buffers of a port
 
@@ -233,7 +323,7 @@ buffers_lists devices firsts buffers cables net port n is few l =
     let place = place_of firsts port in
     record {
       rows = l.rows;
-      endpoints = l.endpoints;
+      have_ports = l.have_ports;
       count = length-set buffers place n ∙ l.count;
       few = All-set AreBuffers buffers place n few l.few;
       here = buffers_here devices firsts buffers cables net port n is l;
@@ -277,6 +367,11 @@ port_by_count devices p is = at devices p.node is
 pub ok_from : {T E A D : Type 0} (r : Result T E) → IfOk r (λ x. A) → (A → D) → IfOk r (λ x. D)
 ok_from (Ok x) a f = f a
 ok_from (Err e) a f = tt
+
+pub ok_from_two : {T E A B D : Type 0} (r : Result T E) → IfOk r (λ x. A) → IfOk r (λ x. B)
+    → (A → B → D) → IfOk r (λ x. D)
+ok_from_two (Ok x) a b f = f a b
+ok_from_two (Err e) a b f = tt
 
 pub ok_from_three : {T E A B C D : Type 0} (r : Result T E) → IfOk r (λ x. A) → IfOk r (λ x. B)
     → IfOk r (λ x. C) → (A → B → C → D) → IfOk r (λ x. D)

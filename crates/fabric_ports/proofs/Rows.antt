@@ -1,8 +1,9 @@
 -- Where ports stand when devices come behind: in the same place, and the new ones behind them.
-use Rattle.std.proofs.Common.{◌≡◌, ◌≢◌, ℕ, zero, suc, ◌+◌, ◌<◌, ◌⊎◌, inl, inr, List, [], ◌∷◌, ◌++◌, Some, None, set, length, refl, sym, ap, ◌∙◌, subst, arith}
+use Rattle.std.proofs.Common.{◌≡◌, ◌≢◌, ℕ, zero, suc, ◌+◌, ◌<◌, ◌⊎◌, inl, inr, List, [], ◌∷◌, ◌++◌, Some, None, set, replicate, length, refl, sym, ap, ◌∙◌, subst, arith}
 use Rattle.std.specs.List.{slice_get}
 use Rattle.std.proofs.lemmas.Bool.{cases_lt}
-use Rattle.std.proofs.lemmas.List.{get_or_append_left}
+use Rattle.std.proofs.lemmas.List.{get_or_append_left, get_or-replicate, length-replicate}
+use Rattle.std.proofs.lemmas.Option.{slice_get-get_or}
 use Rattle.fabric_script.specs.declared.ports.PortRef.{PortRef}
 use Rattle.maint_registers.specs.Devices.{Device}
 use Rattle.fabric_ports.specs.Places.{AreFirsts, port_count, HasPort, IsPortOf, place_of}
@@ -15,6 +16,18 @@ pub get-append : {X : Type 0} (xs ys : List X) (i : ℕ) → i < length xs
 get-append [] ys i within = absurd (omega arith)
 get-append (x ∷ xs) ys zero within = refl
 get-append (x ∷ xs) ys (suc i) within = get-append xs ys i (omega arith)
+
+get-same : {X : Type 0} (n i : ℕ) (x : X) → i < n → slice_get (replicate n x) i ≡ Some x
+get-same n i x within =
+    slice_get-get_or (replicate n x) i x (omega (arith, length-replicate n x))
+    ∙ ap Some (get_or-replicate n i x x within)
+
+-- behind the first list so many elements are the same
+pub get-behind : {X : Type 0} (xs : List X) (n i : ℕ) (x : X) (place : ℕ) → i < n
+    → place ≡ length xs + i → slice_get (xs ++ replicate n x) place ≡ Some x
+get-behind [] n i x place within at = get-same n place x (omega arith)
+get-behind (y ∷ xs) n i x zero within at = absurd (omega arith)
+get-behind (y ∷ xs) n i x (suc place) within at = get-behind xs n i x place within (omega arith)
 
 pub get-last : {X : Type 0} (xs : List X) (x : X) → slice_get (xs ++ x ∷ []) (length xs) ≡ Some x
 get-last [] x = refl
@@ -43,7 +56,7 @@ get-set_other (y ∷ xs) (suc i) (suc j) x apart = get-set_other xs i j x (λ e.
 
 -- ---- places
 
-has_node : (devices : List Device) (n k : ℕ) → HasPort (slice_get devices n) k → n < length devices
+pub has_node : (devices : List Device) (n k : ℕ) → HasPort (slice_get devices n) k → n < length devices
 has_node [] n k has = absurd has
 has_node (d ∷ devices) zero k has = omega arith
 has_node (d ∷ devices) (suc n) k has = let rest = has_node devices n k has in omega arith

@@ -1,11 +1,13 @@
 -- What lines of set-up have made, before there are ports.
-use Rattle.std.specs.Prelude.{◌≡◌, ℕ, ◌<◌, List, All, map, length, Some, slice_get}
+use Rattle.std.specs.Prelude.{◌≡◌, ℕ, ◌<◌, Bool, true, false, List, All, map, length, Some, slice_get}
 use Rattle.link_machine.specs.States.{empty_wires}
 use Rattle.link_sound.specs.Histories.{AreBuffers}
 use Rattle.fabric_script.specs.declared.ports.PortRef.{PortRef}
 use Rattle.fabric_script.specs.declared.lines.Line.{Line}
-use Rattle.fabric_model.specs.Network.{Network}
+use Rattle.fabric_script.specs.declared.lines.Line.TheVariants.{Endpoint, Switch, Link}
+use Rattle.fabric_model.specs.Network.{Network, bare}
 use Rattle.maint_registers.specs.Devices.{Device}
+use Rattle.fabric_trace.specs.Settings.{with_end}
 use Rattle.fabric_trace.specs.SetUps.{MaySetUp}
 use Rattle.fabric_ports.specs.Places.{AreFirsts, port_count, IsPortOf, place_of}
 use Rattle.fabric_ports.specs.Showing.{ends_of, AreRegisters}
@@ -49,3 +51,14 @@ pub record MayAdd (plan : Plan) (line : Line) : Type 0 where
   pub net : Network
   pub plans : PlansFor plan net
   pub may : MaySetUp net line
+
+-- whether a line makes a device or a link; any other changes at most what is there
+abbrev pub is_new : Line → Bool
+is_new (Endpoint name id) = true
+is_new (Switch name ports) = true
+is_new (Link a b) = true
+is_new _ = false
+
+-- the devices, of which that of a port knows that the port has a link
+abbrev pub with_end_at : List Device → PortRef → List Device
+with_end_at devices p = (with_end (record bare { registers = devices }) p).registers

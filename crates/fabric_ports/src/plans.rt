@@ -1,17 +1,17 @@
 //! What lines of set-up make: first the devices and the links, and then the ports.
-ghost use Rattle.std.specs.Prelude.{◌≡◌, ℕ, ◌+◌, ◌<◌, ◌≤◌, false, None, [], ◌∷◌, ◌++◌, All, map, length, slice_set, IfOk};
+ghost use Rattle.std.specs.Prelude.{◌≡◌, ℕ, ◌<◌, false, None, [], ◌∷◌, ◌++◌, All, map, length, replicate, slice_set, IfOk};
 ghost use Rattle.link_machine.specs.States.{empty_wires};
 ghost use Rattle.link_port.specs.Ports.{new_port};
 ghost use Rattle.link_sound.specs.Histories.{AreBuffers};
-ghost use Rattle.maint_registers.specs.Devices.{new_endpoint};
+ghost use Rattle.maint_registers.specs.Devices.{with_link};
 ghost use Rattle.fabric_model.specs.Network.{Network};
 ghost use Rattle.fabric_script.specs.Scripts.{Passes};
-ghost use Rattle.fabric_trace.specs.Events.{ArePorts, MakesNoSwitch, counts_after};
+ghost use Rattle.fabric_trace.specs.Events.{ArePorts, counts_after};
 ghost use Rattle.fabric_trace.specs.Runs.{bare, set_up, set_up_all};
 ghost use Rattle.fabric_trace.specs.SetUps.{MaySetUp};
 ghost use Rattle.fabric_ports.specs.Built.{unbuilt_in};
 ghost use Rattle.fabric_ports.specs.Places.{IsPortOf, place_of};
-ghost use Rattle.fabric_ports.specs.Plans.{IsPlan, PlansFor, counts_of};
+ghost use Rattle.fabric_ports.specs.Plans.{IsPlan, PlansFor, MayAdd, counts_of, with_end_at, is_new};
 ghost use Rattle.fabric_ports.specs.Standing.{Stands};
 
 use crate::fabric::{Cable, Fabric};
@@ -121,19 +121,34 @@ impl Plan {
         ensures devices { IfOk result (λ _. self.new.devices.items
             ≡ with_end_at (with_end_at self.old.devices.items a) b) }
         ensures rest { self.new ≡ record self.old {
-            devices = self.new.devices;
-            cables = self.new.cables;
+          devices = self.new.devices;
+          cables = self.new.cables;
         } }
     {
         let link = Link::new(alloc);
         self.cables.push(Cable { a, b, link })?;
-        self.devices[usize::from(a.node)].set_linked(a.port);
-        self.devices[usize::from(b.node)].set_linked(b.port);
+        self.set_linked(a);
+        self.set_linked(b);
         Ok(())
+    }
+
+    /// Tells the device of a port that the port has a link.
+    fn set_linked(&mut self, port: PortRef)
+        requires { IsPortOf self.old.devices.items port }
+        ensures devices { self.new.devices.items ≡ with_end_at self.old.devices.items port }
+        ensures rest { self.new ≡ record self.old { devices = self.new.devices } }
+    {
+        tell_link(&mut self.devices[usize::from(port.node)], port.port);
     }
 
     /// Takes a line in that makes nothing new.
     fn set(&mut self, line: &Line)
+        requires may { MayAdd self.old line.now }
+        requires ports { ArePorts (counts_of self.old.devices.items) line.now }
+        requires old { is_new line.now ≡ false }
+        ensures plans { (net : Network) → PlansFor self.old net → MaySetUp net line.now
+            → PlansFor self.new (set_up net line.now) }
+        ensures counts { counts_of self.new.devices.items ≡ counts_of self.old.devices.items }
     {
         match line {
             Line::Buffers { port, n } => self.set_buffers(*port, *n),
@@ -155,6 +170,16 @@ impl Plan {
         let place = self.firsts[usize::from(port.node)] + usize::from(port.port);
         self.buffers[place] = n;
     }
+}
+
+/// Tells a device that one of its ports has a link.
+fn tell_link(device: &mut Registers, port: u8)
+    requires { port < device.old.ports }
+    ensures { device.new ≡ record device.old { linked = with_link device.old.linked port } }
+{
+    // No device has more than 16 ports.
+    prove!(device.ports() <= 16);
+    device.set_linked(port);
 }
 
 /// New ports with so many receive buffers each.

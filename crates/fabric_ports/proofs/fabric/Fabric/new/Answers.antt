@@ -1,10 +1,10 @@
-use Rattle.std.proofs.Common.{◌≡◌, ◌<◌, length, get_or, take, map, ◌∙◌, sym, ap, subst, refl, rules, arith}
+use Rattle.std.proofs.Common.{◌≡◌, ◌<◌, length, get_or, take, map, ◌∙◌, ap, subst, refl, rules, arith}
 use Rattle.std.proofs.lemmas.List.{take_all}
 use Rattle.link_port.specs.Ports.{new_port}
-use Rattle.fabric_trace.specs.Events.{MakesNoSwitch, port_counts}
+use Rattle.fabric_trace.specs.Events.{port_counts}
 use Rattle.fabric_trace.specs.Runs.{bare, set_up_all}
 use Rattle.fabric_ports.specs.Plans.{PlansFor, counts_of}
-use Rattle.fabric_ports.proofs.NewLaws.{built_without_switches, devices_named, new_stands, next_ports, next_plan}
+use Rattle.fabric_ports.proofs.NewLaws.{devices_named, new_stands, next_ports, next_may, next_plan}
 use Rattle.fabric_ports.proofs.fabric.Fabric.new.Goals as goal
 
 pub add-requires-clause-ports : goal.add-requires-clause-ports
@@ -17,15 +17,15 @@ add-requires-clause-ports c =
     c.numbered-item.result c.loop-numbered.plan c.requires.passes within here
     c.loop-numbered.invariant
 
-pub add-requires-clause-endpoint : goal.add-requires-clause-endpoint
-add-requires-clause-endpoint c =
+pub add-requires-clause-may : goal.add-requires-clause-may
+add-requires-clause-may c =
     let script = c.args.script.now in
     let within : c.loop-numbered.numbered-index < length script.lines.items = omega arith in
     let here : c.numbered-item.result ≡ get_or script.lines.items c.loop-numbered.numbered-index
     c.numbered-item.result = search rules in
-    subst (λ line. MakesNoSwitch line.line) (sym here)
-    (built_without_switches script.lines.items c.requires.built c.loop-numbered.numbered-index
-    c.numbered-item.result within)
+    next_may script.names.items script.lines.items c.loop-numbered.numbered-index
+    c.numbered-item.result c.loop-numbered.plan c.requires.passes within here
+    c.loop-numbered.invariant
 
 pub loop-numbered-preserved : goal.loop-numbered-preserved
 loop-numbered-preserved c =

@@ -1,26 +1,81 @@
-use Rattle.std.proofs.Common.{ap, sym, subst}
-use Rattle.fabric_trace.specs.Events.{ArePorts}
+use Rattle.std.proofs.Common.{◌≡◌, ℕ, false, List, refl, ap, ◌∙◌, sym, subst, arith}
+use Rattle.std.proofs.lemmas.Bool.{true≢false}
+use Rattle.maint_registers.specs.Devices.{Device, new_endpoint, new_switch}
+use Rattle.fabric_script.specs.declared.lines.Line.{Line}
+use Rattle.fabric_script.specs.declared.lines.Line.TheVariants.{Endpoint, Switch}
+use Rattle.fabric_trace.specs.Events.{ArePorts, counts_after}
 use Rattle.fabric_trace.specs.Runs.{set_up}
+use Rattle.fabric_trace.specs.Settings.{with_node}
 use Rattle.fabric_trace.specs.SetUps.{MaySetUp}
-use Rattle.fabric_ports.specs.Plans.{PlansFor, counts_of}
-use Rattle.fabric_ports.proofs.PlanLaws.{plan-endpoint, plan-link, plan-buffers, port_by_count, ok_from, ok_from_three}
+use Rattle.fabric_ports.specs.Plans.{PlansFor, HasPorts, counts_of, with_end_at, is_new}
+use Rattle.fabric_ports.proofs.PlanLaws.{plan-device, plan-link, counts-device, counts-end, port_by_count, ok_from, ok_from_two, ok_from_three}
 use Rattle.fabric_ports.proofs.plans.Plan.add.Goals as goal
 
-pub set_buffers-requires-clause-port : goal.set_buffers-requires-clause-port
-set_buffers-requires-clause-port c =
-    port_by_count c.args.self.now.devices.items c.in-Buffers.port
-    (subst (ArePorts (counts_of c.args.self.now.devices.items)) c.in-Buffers.is
-    c.requires.ports)
+old_counts : (counts : List ℕ) (line : Line) → is_new line ≡ false
+    → counts_after counts line ≡ counts
+old_counts counts (Endpoint name id) old = absurd (true≢false old)
+old_counts counts (Switch name ports) old = absurd (true≢false old)
+old_counts counts _ old = refl
+
+pub switch-requires-clause-least : goal.switch-requires-clause-least
+switch-requires-clause-least c =
+    (subst (MaySetUp c.requires.may.net) c.in-Switch.is c.requires.may.may).0
+
+pub switch-requires-clause-most : goal.switch-requires-clause-most
+switch-requires-clause-most c =
+    (subst (MaySetUp c.requires.may.net) c.in-Switch.is c.requires.may.may).1
+
+pub add_cable-requires-clause-first : goal.add_cable-requires-clause-first
+add_cable-requires-clause-first c =
+    port_by_count c.args.self.now.devices.items c.in-Link.a
+    (subst (ArePorts (counts_of c.args.self.now.devices.items)) c.in-Link.is c.requires.ports).0
+
+pub add_cable-requires-clause-second : goal.add_cable-requires-clause-second
+add_cable-requires-clause-second c =
+    port_by_count c.args.self.now.devices.items c.in-Link.b
+    (subst (ArePorts (counts_of c.args.self.now.devices.items)) c.in-Link.is c.requires.ports).1
 
 pub returns-in-Endpoint-clause-plans : goal.returns-in-Endpoint-clause-plans
 returns-in-Endpoint-clause-plans c =
     let old = c.args.self.now in
-    let new = c.add_endpoint.new.self in
-    let e = c.add_endpoint.ensures in
-    ok_from_three c.add_endpoint.result e.devices e.firsts e.buffers (λ d f b net is may.
+    let new = c.add_device.new.self in
+    let e = c.add_device.ensures in
+    let one : HasPorts (new_endpoint c.in-Endpoint.id false) = omega arith in
+    ok_from_three c.add_device.result e.devices e.firsts e.buffers (λ d f b net is may.
     subst (λ line. PlansFor new (set_up net line)) (sym c.in-Endpoint.is)
-    (plan-endpoint old new net c.in-Endpoint.name c.in-Endpoint.id d f b
-    (ap (λ cables. cables.items) e.cables) is))
+    (subst (λ device. PlansFor new (with_node net device)) c.endpoint.ensures
+    (plan-device old new net c.endpoint.result (subst HasPorts (sym c.endpoint.ensures) one) d f b
+    (ap (λ cables. cables.items) e.cables) is)))
+
+pub returns-in-Endpoint-clause-counts : goal.returns-in-Endpoint-clause-counts
+returns-in-Endpoint-clause-counts c =
+    let old = c.args.self.now.devices.items in
+    let new = c.add_device.new.self.devices.items in
+    ok_from c.add_device.result c.add_device.ensures.devices (λ d.
+    counts-device old new c.endpoint.result 1 d (ap (λ (x : Device). x.ports) c.endpoint.ensures)
+    ∙ sym (ap (counts_after (counts_of old)) c.in-Endpoint.is))
+
+pub returns-in-Switch-clause-plans : goal.returns-in-Switch-clause-plans
+returns-in-Switch-clause-plans c =
+    let old = c.args.self.now in
+    let new = c.add_device-in-Switch.new.self in
+    let e = c.add_device-in-Switch.ensures in
+    let least = (subst (MaySetUp c.requires.may.net) c.in-Switch.is c.requires.may.may).0 in
+    let some : HasPorts (new_switch c.in-Switch.ports 0) = omega (arith, least) in
+    ok_from_three c.add_device-in-Switch.result e.devices e.firsts e.buffers (λ d f b net is may.
+    subst (λ line. PlansFor new (set_up net line)) (sym c.in-Switch.is)
+    (subst (λ device. PlansFor new (with_node net device)) c.switch.ensures
+    (plan-device old new net c.switch.result (subst HasPorts (sym c.switch.ensures) some) d f b
+    (ap (λ cables. cables.items) e.cables) is)))
+
+pub returns-in-Switch-clause-counts : goal.returns-in-Switch-clause-counts
+returns-in-Switch-clause-counts c =
+    let old = c.args.self.now.devices.items in
+    let new = c.add_device-in-Switch.new.self.devices.items in
+    ok_from c.add_device-in-Switch.result c.add_device-in-Switch.ensures.devices (λ d.
+    counts-device old new c.switch.result c.in-Switch.ports d
+    (ap (λ (x : Device). x.ports) c.switch.ensures)
+    ∙ sym (ap (counts_after (counts_of old)) c.in-Switch.is))
 
 pub returns-in-Link-clause-plans : goal.returns-in-Link-clause-plans
 returns-in-Link-clause-plans c =
@@ -28,23 +83,18 @@ returns-in-Link-clause-plans c =
     let new = c.add_cable.new.self in
     let e = c.add_cable.ensures in
     let ports = subst (ArePorts (counts_of old.devices.items)) c.in-Link.is c.requires.ports in
-    ok_from c.add_cable.result e.cables (λ cables net is may.
+    let rest = e.rest in
+    ok_from_two c.add_cable.result e.devices e.cables (λ devices cables net is may.
     subst (λ line. PlansFor new (set_up net line)) (sym c.in-Link.is)
     (plan-link old new net c.in-Link.a c.in-Link.b
     (port_by_count old.devices.items c.in-Link.a ports.0)
     (port_by_count old.devices.items c.in-Link.b ports.1)
-    (ap (λ plan. plan.devices.items) e.rest) (ap (λ plan. plan.firsts.items) e.rest)
-    (ap (λ plan. plan.buffers.items) e.rest) cables is))
+    devices (ap (λ plan. plan.firsts.items) rest)
+    (ap (λ plan. plan.buffers.items) rest) cables is))
 
-pub returns-in-Buffers-clause-plans : goal.returns-in-Buffers-clause-plans
-returns-in-Buffers-clause-plans c net is may =
-    let old = c.args.self.now in
-    let new = c.set_buffers.new.self in
-    let e = c.set_buffers.ensures in
-    let port = port_by_count old.devices.items c.in-Buffers.port
-    (subst (ArePorts (counts_of old.devices.items)) c.in-Buffers.is c.requires.ports) in
-    subst (λ line. PlansFor new (set_up net line)) (sym c.in-Buffers.is)
-    (plan-buffers old new net c.in-Buffers.port c.in-Buffers.n port
-    (subst (MaySetUp net) c.in-Buffers.is may)
-    (ap (λ plan. plan.devices.items) e.rest) (ap (λ plan. plan.firsts.items) e.rest) e.buffers
-    (ap (λ plan. plan.cables.items) e.rest) is)
+pub returns-in-Link-clause-counts : goal.returns-in-Link-clause-counts
+returns-in-Link-clause-counts c =
+    let old = c.args.self.now.devices.items in
+    ok_from c.add_cable.result c.add_cable.ensures.devices (λ devices.
+    ap counts_of devices ∙ counts-end (with_end_at old c.in-Link.a) c.in-Link.b
+    ∙ counts-end old c.in-Link.a ∙ sym (ap (counts_after (counts_of old)) c.in-Link.is))

@@ -1,0 +1,115 @@
+-- Where ports stand when a device changes that has as many ports as before: where they stood.
+use Rattle.std.proofs.Common.{◌≡◌, ℕ, zero, suc, ◌+◌, ◌<◌, true, List, [], ◌∷◌, All, Some, option_map, length, get_or, set, refl, sym, ap, ◌∙◌, subst, arith}
+use Rattle.std.proofs.lemmas.List.Elements.{All-cons, All-head, All-tail}
+use Rattle.std.proofs.lemmas.Option.{same_Some, slice_get_read}
+use Rattle.std.specs.List.{slice_get}
+use Rattle.maint_registers.specs.Devices.{Device, is_switch}
+use Rattle.fabric_model.specs.Network.{Network, IsSwitch, with_device}
+use Rattle.fabric_model.proofs.Devices.{map-with_device}
+use Rattle.fabric_ports.specs.Places.{AreFirsts, port_count, HasPort}
+use Rattle.fabric_ports.specs.Plans.{counts_of, HasPorts}
+use Rattle.fabric_ports.specs.Showing.{AreRegisters}
+
+-- a device has as many ports after a change
+abbrev pub KeepsPorts : (Device → Device) → Type 0
+KeepsPorts change = (device : Device) → (change device).ports ≡ device.ports
+
+pub counts-change : (devices : List Device) (n : ℕ) (change : Device → Device) → KeepsPorts change
+    → counts_of (with_device devices n change) ≡ counts_of devices
+counts-change devices n change same =
+    map-with_device (λ (device : Device). device.ports) devices n change same
+
+pub count-change : (devices : List Device) (n : ℕ) (change : Device → Device) → KeepsPorts change
+    → port_count (with_device devices n change) ≡ port_count devices
+count-change [] n change same = refl
+count-change (d ∷ devices) zero change same = ap (λ k. k + port_count devices) (same d)
+count-change (d ∷ devices) (suc n) change same =
+    ap (λ k. d.ports + k) (count-change devices n change same)
+
+pub firsts-change : (place : ℕ) (devices : List Device) (firsts : List ℕ) (n : ℕ)
+    (change : Device → Device) → KeepsPorts change → AreFirsts place devices firsts
+    → AreFirsts place (with_device devices n change) firsts
+firsts-change place [] firsts n change same are = are
+firsts-change place (d ∷ devices) [] zero change same are = absurd are
+firsts-change place (d ∷ devices) [] (suc n) change same are = absurd are
+firsts-change place (d ∷ devices) (f ∷ firsts) zero change same are =
+    (are.0, subst (λ k. AreFirsts (place + k) devices firsts) (sym (same d)) are.1)
+firsts-change place (d ∷ devices) (f ∷ firsts) (suc n) change same are =
+    (are.0, firsts-change (place + d.ports) devices firsts n change same are.1)
+
+pub have_ports-change : (devices : List Device) (n : ℕ) (change : Device → Device)
+    → KeepsPorts change → All HasPorts devices → All HasPorts (with_device devices n change)
+have_ports-change [] n change same have = have
+have_ports-change (d ∷ devices) zero change same have =
+    All-cons HasPorts (change d) devices
+    (subst (λ k. 0 < k) (sym (same d)) (All-head HasPorts d devices have))
+    (All-tail HasPorts d devices have)
+have_ports-change (d ∷ devices) (suc n) change same have =
+    All-cons HasPorts d (with_device devices n change) (All-head HasPorts d devices have)
+    (have_ports-change devices n change same (All-tail HasPorts d devices have))
+
+pub port-change : (devices : List Device) (n : ℕ) (change : Device → Device) → KeepsPorts change
+    → (m port : ℕ) → HasPort (slice_get devices m) port
+    → HasPort (slice_get (with_device devices n change) m) port
+port-change [] n change same m port has = has
+port-change (d ∷ devices) zero change same zero port has =
+    subst (λ k. port < k) (sym (same d)) has
+port-change (d ∷ devices) zero change same (suc m) port has = has
+port-change (d ∷ devices) (suc n) change same zero port has = has
+port-change (d ∷ devices) (suc n) change same (suc m) port has =
+    port-change devices n change same m port has
+
+pub port-unchange : (devices : List Device) (n : ℕ) (change : Device → Device) → KeepsPorts change
+    → (m port : ℕ) → HasPort (slice_get (with_device devices n change) m) port
+    → HasPort (slice_get devices m) port
+port-unchange [] n change same m port has = has
+port-unchange (d ∷ devices) zero change same zero port has = subst (λ k. port < k) (same d) has
+port-unchange (d ∷ devices) zero change same (suc m) port has = has
+port-unchange (d ∷ devices) (suc n) change same zero port has = has
+port-unchange (d ∷ devices) (suc n) change same (suc m) port has =
+    port-unchange devices n change same m port has
+
+-- ---- a device that was read, changed and written back
+
+pub set-change : (devices : List Device) (n : ℕ) (read : Device) (change : Device → Device)
+    → slice_get devices n ≡ Some read → set devices n (change read) ≡ with_device devices n change
+set-change [] n read change there = refl
+set-change (d ∷ devices) zero read change there =
+    ap (λ x. change x ∷ devices) (sym (same_Some d read there))
+set-change (d ∷ devices) (suc n) read change there =
+    ap (λ more. d ∷ more) (set-change devices n read change there)
+
+pub changed_at : (devices : List Device) (node i : ℕ) (read written : Device)
+    (change : Device → Device) → i ≡ node → i < length devices → read ≡ get_or devices i read
+    → written ≡ change read → set devices i written ≡ with_device devices node change
+changed_at devices node i read written change same within value is =
+    ap (set devices i) is
+    ∙ set-change devices i read change
+    (slice_get_read devices (length devices) i read refl within value)
+    ∙ ap (λ n. with_device devices n change) same
+
+-- ---- a switch that is there
+
+pub record IsSwitchThere (devices : List Device) (node : ℕ) : Type 0 where
+  pub within : node < length devices
+  pub kind : (read : Device) → read ≡ get_or devices node read → is_switch read ≡ true
+
+switch_there : (devices : List Device) (node : ℕ)
+    → option_map is_switch (slice_get devices node) ≡ Some true → IsSwitchThere devices node
+switch_there [] node is = absurd cc
+switch_there (d ∷ devices) zero is = record {
+  within = omega arith;
+  kind = λ read value. ap is_switch value ∙ same_Some (is_switch d) true is;
+}
+switch_there (d ∷ devices) (suc node) is =
+    let later = switch_there devices node is in
+    let within = later.within in
+    record { within = omega arith; kind = later.kind }
+
+-- a switch of the network is one of its devices
+pub switch_of : (net : Network) (devices : List Device) (node : ℕ) → AreRegisters net devices
+    → IsSwitch net node → IsSwitchThere devices node
+switch_of net devices node registers switch =
+    switch_there devices node
+    (subst (λ (x : List Device). option_map is_switch (slice_get x node) ≡ Some true) registers
+    switch)

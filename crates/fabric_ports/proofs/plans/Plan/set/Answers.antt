@@ -1,0 +1,162 @@
+use Rattle.std.proofs.Common.{◌≡◌, ℕ, ◌<◌, List, length, get_or, refl, sym, ap, ◌∙◌, subst, arith}
+use Rattle.std.specs.Vec.{with_item}
+use Rattle.maint_registers.specs.Devices.{Device}
+use Rattle.fabric_model.specs.Network.{Network}
+use Rattle.fabric_trace.specs.Events.{ArePorts}
+use Rattle.fabric_trace.specs.Runs.{set_up}
+use Rattle.fabric_trace.specs.SetUps.{MaySetUp}
+use Rattle.fabric_trace.specs.Settings.{with_change, routed, defaulted, held_by}
+use Rattle.fabric_ports.specs.Plans.{PlansFor, counts_of}
+use Rattle.fabric_ports.specs.declared.plans.Plan.{Plan}
+use Rattle.fabric_ports.proofs.Changes.{KeepsPorts, counts-change, changed_at, switch_of}
+use Rattle.fabric_ports.proofs.PlanLaws.{plan-buffers, plan-change, port_by_count}
+use Rattle.fabric_ports.proofs.plans.Plan.set.Goals as goal
+
+-- the plan with another device in place of one
+abbrev with_written : Plan → ℕ → Device → Plan
+with_written plan i device = record plan { devices = with_item plan.devices i device }
+
+written_plans : (old : Plan) (net : Network) (node i : ℕ) (read written : Device)
+    (change : Device → Device) → KeepsPorts change → i ≡ node → i < length old.devices.items
+    → read ≡ get_or old.devices.items i read → written ≡ change read → PlansFor old net
+    → PlansFor (with_written old i written) (with_change net node change)
+written_plans old net node i read written change same at within value is plans =
+    plan-change old (with_written old i written) net node change same
+    (changed_at old.devices.items node i read written change at within value is) refl refl refl
+    plans
+
+written_counts : (old : Plan) (node i : ℕ) (read written : Device)
+    (change : Device → Device) → KeepsPorts change → i ≡ node → i < length old.devices.items
+    → read ≡ get_or old.devices.items i read → written ≡ change read
+    → counts_of (with_written old i written).devices.items ≡ counts_of old.devices.items
+written_counts old node i read written change same at within value is =
+    ap counts_of (changed_at old.devices.items node i read written change at within value is)
+    ∙ counts-change old.devices.items node change same
+
+pub set_buffers-requires-clause-port : goal.set_buffers-requires-clause-port
+set_buffers-requires-clause-port c =
+    port_by_count c.args.self.now.devices.items c.in-Buffers.port
+    (subst (ArePorts (counts_of c.args.self.now.devices.items)) c.in-Buffers.is c.requires.ports)
+
+pub returns-in-Buffers-clause-plans : goal.returns-in-Buffers-clause-plans
+returns-in-Buffers-clause-plans c net is may =
+    let old = c.args.self.now in
+    let new = c.set_buffers.new.self in
+    let e = c.set_buffers.ensures in
+    let port = port_by_count old.devices.items c.in-Buffers.port
+    (subst (ArePorts (counts_of old.devices.items)) c.in-Buffers.is c.requires.ports) in
+    subst (λ line. PlansFor new (set_up net line)) (sym c.in-Buffers.is)
+    (plan-buffers old new net c.in-Buffers.port c.in-Buffers.n port
+    (subst (MaySetUp net) c.in-Buffers.is may)
+    (ap (λ plan. plan.devices.items) e.rest) (ap (λ plan. plan.firsts.items) e.rest) e.buffers
+    (ap (λ plan. plan.cables.items) e.rest) is)
+
+pub index_mut-requires : goal.index_mut-requires
+index_mut-requires c =
+    let may = c.requires.may in
+    let there = (switch_of may.net c.args.self.now.devices.items c.in-Route.node may.plans.registers
+    (subst (MaySetUp may.net) c.in-Route.is may.may)).within in
+    grind (arith, there)
+
+pub set_route-requires : goal.set_route-requires
+set_route-requires c =
+    let may = c.requires.may in
+    let devices = c.args.self.now.devices.items in
+    let read = c.index_mut.result.now in
+    (switch_of may.net devices c.in-Route.node may.plans.registers
+    (subst (MaySetUp may.net) c.in-Route.is may.may)).kind read
+    (c.index_mut.ensures.value ∙ ap (λ n. get_or devices n read) c.from.ensures)
+
+pub index_mut-requires-in-Default : goal.index_mut-requires-in-Default
+index_mut-requires-in-Default c =
+    let may = c.requires.may in
+    let there = (switch_of may.net c.args.self.now.devices.items c.in-Default.node may.plans.registers
+    (subst (MaySetUp may.net) c.in-Default.is may.may)).within in
+    grind (arith, there)
+
+pub set_default-requires : goal.set_default-requires
+set_default-requires c =
+    let may = c.requires.may in
+    let devices = c.args.self.now.devices.items in
+    let read = c.index_mut-in-Default.result.now in
+    (switch_of may.net devices c.in-Default.node may.plans.registers
+    (subst (MaySetUp may.net) c.in-Default.is may.may)).kind read
+    (c.index_mut-in-Default.ensures.value ∙ ap (λ n. get_or devices n read) c.from-in-Default.ensures)
+
+pub returns-in-Route-clause-plans : goal.returns-in-Route-clause-plans
+returns-in-Route-clause-plans c = λ net plans line_may.
+    let old = c.args.self.now in
+    let may = c.requires.may in
+    let there = (switch_of may.net old.devices.items c.in-Route.node may.plans.registers
+    (subst (MaySetUp may.net) c.in-Route.is may.may)).within in
+    let at = c.from.ensures in
+    let within : c.from.result < length old.devices.items = grind (arith, there, at) in
+    subst (λ line. PlansFor (with_written old c.from.result c.set_route.new.self)
+    (set_up net line)) (sym c.in-Route.is)
+    (written_plans old net c.in-Route.node c.from.result c.index_mut.result.now
+    c.set_route.new.self (routed c.in-Route.id c.in-Route.p) (λ device. refl) at within
+    c.index_mut.ensures.value c.set_route.ensures plans)
+
+pub returns-in-Route-clause-counts : goal.returns-in-Route-clause-counts
+returns-in-Route-clause-counts c =
+    let old = c.args.self.now in
+    let may = c.requires.may in
+    let there = (switch_of may.net old.devices.items c.in-Route.node may.plans.registers
+    (subst (MaySetUp may.net) c.in-Route.is may.may)).within in
+    let at = c.from.ensures in
+    let within : c.from.result < length old.devices.items = grind (arith, there, at) in
+    written_counts old c.in-Route.node c.from.result c.index_mut.result.now
+    c.set_route.new.self (routed c.in-Route.id c.in-Route.p) (λ device. refl) at within
+    c.index_mut.ensures.value c.set_route.ensures
+
+pub returns-in-Default-clause-plans : goal.returns-in-Default-clause-plans
+returns-in-Default-clause-plans c = λ net plans line_may.
+    let old = c.args.self.now in
+    let may = c.requires.may in
+    let there = (switch_of may.net old.devices.items c.in-Default.node may.plans.registers
+    (subst (MaySetUp may.net) c.in-Default.is may.may)).within in
+    let at = c.from-in-Default.ensures in
+    let within : c.from-in-Default.result < length old.devices.items = grind (arith, there, at) in
+    subst (λ line. PlansFor (with_written old c.from-in-Default.result c.set_default.new.self)
+    (set_up net line)) (sym c.in-Default.is)
+    (written_plans old net c.in-Default.node c.from-in-Default.result c.index_mut-in-Default.result.now
+    c.set_default.new.self (defaulted c.in-Default.p) (λ device. refl) at within
+    c.index_mut-in-Default.ensures.value c.set_default.ensures plans)
+
+pub returns-in-Default-clause-counts : goal.returns-in-Default-clause-counts
+returns-in-Default-clause-counts c =
+    let old = c.args.self.now in
+    let may = c.requires.may in
+    let there = (switch_of may.net old.devices.items c.in-Default.node may.plans.registers
+    (subst (MaySetUp may.net) c.in-Default.is may.may)).within in
+    let at = c.from-in-Default.ensures in
+    let within : c.from-in-Default.result < length old.devices.items = grind (arith, there, at) in
+    written_counts old c.in-Default.node c.from-in-Default.result c.index_mut-in-Default.result.now
+    c.set_default.new.self (defaulted c.in-Default.p) (λ device. refl) at within
+    c.index_mut-in-Default.ensures.value c.set_default.ensures
+
+pub returns-in-Lock-clause-plans : goal.returns-in-Lock-clause-plans
+returns-in-Lock-clause-plans c = λ net plans line_may.
+    let old = c.args.self.now in
+    let may = c.requires.may in
+    let there = subst (λ (x : List Device). c.in-Lock.node < length x) may.plans.registers
+    (subst (MaySetUp may.net) c.in-Lock.is may.may) in
+    let at = c.from-in-Lock.ensures in
+    let within : c.from-in-Lock.result < length old.devices.items = grind (arith, there, at) in
+    subst (λ line. PlansFor (with_written old c.from-in-Lock.result c.set_lock.new.self)
+    (set_up net line)) (sym c.in-Lock.is)
+    (written_plans old net c.in-Lock.node c.from-in-Lock.result c.index_mut-in-Lock.result.now
+    c.set_lock.new.self (held_by c.in-Lock.id) (λ device. refl) at within
+    c.index_mut-in-Lock.ensures.value c.set_lock.ensures plans)
+
+pub returns-in-Lock-clause-counts : goal.returns-in-Lock-clause-counts
+returns-in-Lock-clause-counts c =
+    let old = c.args.self.now in
+    let may = c.requires.may in
+    let there = subst (λ (x : List Device). c.in-Lock.node < length x) may.plans.registers
+    (subst (MaySetUp may.net) c.in-Lock.is may.may) in
+    let at = c.from-in-Lock.ensures in
+    let within : c.from-in-Lock.result < length old.devices.items = grind (arith, there, at) in
+    written_counts old c.in-Lock.node c.from-in-Lock.result c.index_mut-in-Lock.result.now
+    c.set_lock.new.self (held_by c.in-Lock.id) (λ device. refl) at within
+    c.index_mut-in-Lock.ensures.value c.set_lock.ensures
