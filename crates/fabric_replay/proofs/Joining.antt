@@ -1,5 +1,6 @@
 -- The blocks of first events, and what comes behind them.
 use Rattle.std.proofs.Common.{◌≡◌, Bool, true, false, List, [], ◌∷◌, ◌++◌, Option, Some, None, MatchBool, refl, sym, ap, ◌∙◌, subst, append_assoc}
+use Rattle.fabric_script.specs.Lines.{is_event}
 use Rattle.fabric_script.specs.declared.lines.Line.{Line}
 use Rattle.fabric_script.specs.declared.lines.Numbered.{Numbered}
 use Rattle.fabric_trace.specs.Blocks.{IsBlock}
@@ -7,7 +8,7 @@ use Rattle.fabric_trace.specs.Fold.{seen}
 use Rattle.fabric_trace.specs.Known.{Found, Seen}
 use Rattle.std.proofs.lemmas.List.{append-nil}
 use Rattle.fabric_trace.specs.Lines.{TraceLine, Begun, Undetected}
-use Rattle.fabric_trace.specs.Runs.{has_block, Follows, BlockThen, Names, NamesNothing, RunsFrom, BlocksFrom}
+use Rattle.fabric_trace.specs.Runs.{Follows, BlockThen, Names, NamesNothing, RunsFrom, BlocksFrom}
 use Rattle.fabric_trace.proofs.Folding.{seen-append}
 
 by_test : {P Q C D : Type 0} (test : Bool) → (P → C) → (Q → D) → MatchBool test P Q → MatchBool test C D
@@ -39,7 +40,7 @@ pub blocks-append : (a b : List Numbered) (s : Seen) (xs ys : List TraceLine) �
 blocks-append [] b s xs ys none sent more =
     subst (λ (l : List TraceLine). BlocksFrom s b (l ++ ys)) (sym none) (subst (λ (l : List TraceLine). BlocksFrom (seen s l) b ys) none more)
 blocks-append (line ∷ a) b s xs ys run sent more =
-    by_test (has_block line.line)
+    by_test (is_event line.line)
     (event-append s line.line (λ t rest. BlocksFrom t a rest) (λ t rest. BlocksFrom t (a ++ b) rest) NamesNothing xs ys sent
     (λ t rest there near. blocks-append a b t rest ys near (ap (λ (x : Seen). x.unfaithful) there ∙ sent) (subst (λ (x : Seen). BlocksFrom x b ys) (sym there) more)))
     (λ near. blocks-append a b s xs ys near sent more) run
@@ -48,7 +49,7 @@ pub runs-append : (a b : List Numbered) (s : Seen) (xs ys : List TraceLine) → 
 runs-append [] b s xs ys none sent more =
     subst (λ (l : List TraceLine). RunsFrom s b (l ++ ys)) (sym none) (subst (λ (l : List TraceLine). RunsFrom (seen s l) b ys) none more)
 runs-append (line ∷ a) b s xs ys run sent more =
-    by_test (has_block line.line)
+    by_test (is_event line.line)
     (event-append s line.line (λ t rest. BlocksFrom t a rest) (λ t rest. RunsFrom t (a ++ b) rest) (Names line.number) xs ys sent
     (λ t rest there near. runs-append a b t rest ys near (ap (λ (x : Seen). x.unfaithful) there ∙ sent) (subst (λ (x : Seen). RunsFrom x b ys) (sym there) more)))
     (λ near. runs-append a b s xs ys near sent more) run
@@ -58,14 +59,14 @@ nothing_follows None More none = none
 nothing_follows (Some e) More none = refl
 
 -- the block of one event
-pub one_block : (s : Seen) (item : Numbered) (block : List TraceLine) → has_block item.line ≡ true → IsBlock s item.line block → BlocksFrom s (item ∷ []) (Begun item.line ∷ block)
+pub one_block : (s : Seen) (item : Numbered) (block : List TraceLine) → is_event item.line ≡ true → IsBlock s item.line block → BlocksFrom s (item ∷ []) (Begun item.line ∷ block)
 one_block s item block has is =
     let t = seen s (Begun item.line ∷ block) in
     subst (λ x. MatchBool x (BlockThen (λ t rest. BlocksFrom t [] rest) NamesNothing s item.line (Begun item.line ∷ block)) (BlocksFrom s [] (Begun item.line ∷ block))) (sym has)
     (block, [], sym (append-nil (Begun item.line ∷ block)), is, nothing_follows t.unfaithful (λ rest. rest ≡ []) refl)
 
 -- the block of one event, and the line that names what was not sent
-pub one_last : (s : Seen) (item : Numbered) (script : List Numbered) (block : List TraceLine) (found : Found) → has_block item.line ≡ true → IsBlock s item.line block
+pub one_last : (s : Seen) (item : Numbered) (script : List Numbered) (block : List TraceLine) (found : Found) → is_event item.line ≡ true → IsBlock s item.line block
     → (seen s (Begun item.line ∷ block)).unfaithful ≡ Some found → RunsFrom s (item ∷ script) ((Begun item.line ∷ block) ++ Undetected item.number found.port found.event ∷ [])
 one_last s item script block found has is finds =
     let last = Undetected item.number found.port found.event ∷ [] in

@@ -1,10 +1,11 @@
 -- The ports that a replay tells of are of nodes that have names.
-use Rattle.std.proofs.Common.{◌≡◌, ℕ, ◌<◌, ◌≤◌, suc, zero, Bool, true, false, List, [], ◌∷◌, All, map, Some, length, length-append, slice_get, refl, sym, ap, ◌∙◌, subst, arith, if◌then◌else◌}
+use Rattle.std.proofs.Common.{◌≡◌, ℕ, ◌+◌, ◌<◌, ◌≤◌, suc, zero, Bool, true, false, List, [], ◌∷◌, ◌++◌, All, map, Some, length, length-append, slice_get, refl, sym, ap, ◌∙◌, subst, arith, if◌then◌else◌}
+use Rattle.std.proofs.lemmas.List.{length-map}
 use Rattle.std.proofs.lemmas.List.Elements.{All-head, All-tail}
-use Rattle.maint_registers.specs.Devices.{Device, new_endpoint}
+use Rattle.maint_registers.specs.Devices.{Device, is_switch}
 use Rattle.fabric_script.specs.declared.ports.PortRef.{PortRef}
 use Rattle.fabric_script.specs.declared.lines.Line.{Line}
-use Rattle.fabric_script.specs.declared.lines.Line.TheVariants.{Endpoint, Switch, Link, Buffers}
+use Rattle.fabric_script.specs.declared.lines.Line.TheVariants.{Endpoint, Switch}
 use Rattle.fabric_script.specs.declared.lines.Numbered.{Numbered}
 use Rattle.fabric_script.specs.Known.{Known, nothing, known_after}
 use Rattle.fabric_script.specs.Lines.{new_name}
@@ -16,6 +17,7 @@ use Rattle.fabric_trace.specs.Known.{Found, Seen}
 use Rattle.fabric_trace.specs.Lines.{TraceLine}
 use Rattle.fabric_trace.specs.Runs.{bare, set_up, set_up_all, begins}
 use Rattle.fabric_trace.proofs.Boards.{seen_board, found_linked}
+use Rattle.fabric_trace.proofs.SettingUp.{made_by, set_up-kinds}
 use Rattle.fabric_ports.specs.Places.{HasPort}
 use Rattle.fabric_ports.specs.Showing.{ends_of, ShowsCable}
 use Rattle.fabric_ports.specs.Standing.{Stands}
@@ -24,12 +26,24 @@ use Rattle.fabric_ports.specs.declared.fabric.Fabric.{Fabric}
 
 -- ---- each device has a name
 
+-- how many devices there are with one more line
+count_after : (net : Network) (line : Line) → length (set_up net line).registers ≡ length net.registers + length (made_by line)
+count_after net line =
+    let before : length (map is_switch net.registers) ≡ length net.registers = length-map net.registers is_switch in
+    let made : length (map is_switch (made_by line)) ≡ length (made_by line) = length-map (made_by line) is_switch in
+    let both : length (map is_switch net.registers ++ map is_switch (made_by line)) ≡ length (map is_switch net.registers) + length (map is_switch (made_by line)) = length-append (map is_switch net.registers) (map is_switch (made_by line)) in
+    let after : length (map is_switch (set_up net line).registers) ≡ length (set_up net line).registers = length-map (set_up net line).registers is_switch in
+    let same = ap length (set_up-kinds net line) in
+    omega (arith, before, made, both, after, same)
+
+-- a line that makes a device gives it a name
+names_made : (known : Known) (new : List ℕ) (line : Line) → length known.names + length (made_by line) ≤ length (known_after known new line).names
+names_made known new (Endpoint name id) = omega (arith, length-append known.names (new ∷ []))
+names_made known new (Switch name ports) = omega (arith, length-append known.names (new ∷ []))
+names_made known new _ = omega arith
+
 few_registers : (known : Known) (new : List ℕ) (net : Network) (line : Line) → length net.registers ≤ length known.names → length (set_up net line).registers ≤ length (known_after known new line).names
-few_registers known new net (Endpoint name id) few = omega (arith, few, length-append net.registers (new_endpoint id false ∷ []), length-append known.names (new ∷ []))
-few_registers known new net (Switch name ports) few = omega (arith, few, length-append known.names (new ∷ []))
-few_registers known new net (Link a b) few = few
-few_registers known new net (Buffers port n) few = few
-few_registers known new net _ few = few
+few_registers known new net line few = omega (arith, few, count_after net line, names_made known new line)
 
 names_from : (known : Known) (names : List (List ℕ)) (net : Network) (lines : List Numbered) → length net.registers ≤ length known.names → PassesFrom known names lines → length (set_up_all net lines).registers ≤ length names
 names_from known names net [] few passes = subst (λ l. length net.registers ≤ length l) passes few

@@ -19,7 +19,7 @@ use Rattle.fabric_trace.specs.Events.{MayHappen}
 use Rattle.fabric_trace.specs.Fold.{seen}
 use Rattle.fabric_trace.specs.Known.{Found, Seen}
 use Rattle.fabric_trace.specs.Lines.{TraceLine, Begun, Ended, Undetected}
-use Rattle.fabric_trace.specs.Runs.{bare, set_up_all, start, has_block, BlockThen, NamesNothing, BlocksFrom, RunsFrom, Runs, Begins}
+use Rattle.fabric_trace.specs.Runs.{bare, set_up_all, start, BlockThen, NamesNothing, BlocksFrom, RunsFrom, Runs, Begins}
 use Rattle.fabric_trace.specs.SetUps.{MaySetUpAll}
 use Rattle.fabric_trace.specs.Shown.{Shown}
 use Rattle.fabric_trace.specs.Text.{trace_line_text, trace_text}
@@ -40,7 +40,7 @@ use Rattle.fabric_replay.specs.declared.replaying.ReplayEnd.TheVariants as Ends
 use Rattle.fabric_replay.specs.Going.{Going, ToldFront, ToldWhole}
 use Rattle.fabric_replay.specs.Replaying.{Replayed, ReplayedWhole, ReplayedUnsent, ReplayedFront}
 use Rattle.fabric_ports.specs.Built.{unbuilt_in}
-use Rattle.fabric_replay.proofs.BuiltLaws.{no_switches, built_lines, block_lines}
+use Rattle.fabric_replay.proofs.BuiltLaws.{built_lines}
 use Rattle.fabric_replay.proofs.Cutting.{cut_text, part_more}
 use Rattle.fabric_replay.proofs.Joining.{blocks-append, runs-append, one_block, one_last}
 use Rattle.fabric_replay.proofs.Naming.{names_suffice, found_named}
@@ -60,17 +60,13 @@ item_of script read i item same at within =
 of_item : (P : Numbered → Type 0) (script : List Numbered) (i : ℕ) (item : Numbered) → All P script → IsItem script i item → P item
 of_item P script i item all is = subst P (sym is.at) (all i item is.within)
 
--- it needs a block exactly if it is an event
-pub block_item : (script : List Numbered) (i : ℕ) (item : Numbered) → unbuilt_in script ≡ None → IsItem script i item → has_block item.line ≡ is_event item.line
-block_item script i item none is = of_item (λ line. has_block line.line ≡ is_event line.line) script i item (block_lines script none) is
-
 pub may_follow : (names : List (List ℕ)) (script : List Numbered) (i : ℕ) (item : Numbered) (lines : List TraceLine) (fabric : Fabric) → Passes names script → unbuilt_in script ≡ None → IsItem script i item → is_event item.line ≡ true
     → Stands (set_up_all bare script) lines fabric → MayFollow fabric names item.line
 may_follow names script i item lines fabric passes none is event stands = record {
   net = set_up_all bare script;
   lines = lines;
   stands = stands;
-  happens = happens_still names (set_up_all bare script) lines item.line (of_item (λ line. is_event line.line ≡ true → MayHappen names (set_up_all bare script) line.line) script i item (may_happen names script passes (no_switches script none)) is event);
+  happens = happens_still names (set_up_all bare script) lines item.line (of_item (λ line. is_event line.line ≡ true → MayHappen names (set_up_all bare script) line.line) script i item (may_happen names script passes) is event);
   event = event;
   built = of_item (λ line. is_built line.line ≡ true) script i item (built_lines script none) is;
   names_suffice = names_suffice names script lines fabric passes stands;
@@ -108,7 +104,7 @@ module _ {K : Type 0} (written : K → Option (List ℕ)) (faults : K → ℕ) (
   pub Going-begin : (fabric : Fabric) → begun.failed ≡ false → Stands (set_up_all bare script) [] fabric → Gone begun 0 fabric
   Going-begin fabric fine stands = record { lines = []; told = Writes-nil written faults begun; fine = fine; blocks = refl; stands = stands }
 
-  pub Going-skip : (i : ℕ) (item : Numbered) (out : Outbox K) (fabric : Fabric) → IsItem script i item → has_block item.line ≡ false → Gone out i fabric → Gone out (i + 1) fabric
+  pub Going-skip : (i : ℕ) (item : Numbered) (out : Outbox K) (fabric : Fabric) → IsItem script i item → is_event item.line ≡ false → Gone out i fabric → Gone out (i + 1) fabric
   Going-skip i item out fabric is no_block h = record {
     lines = h.lines;
     told = h.told;
@@ -121,7 +117,7 @@ module _ {K : Type 0} (written : K → Option (List ℕ)) (faults : K → ℕ) (
   }
 
   -- the blocks up to an event, with its own
-  blocks_with : (i : ℕ) (item : Numbered) (out : Outbox K) (fabric : Fabric) (block : List TraceLine) → IsItem script i item → has_block item.line ≡ true → (h : Gone out i fabric) → IsBlock (seen (start script) h.lines) item.line block
+  blocks_with : (i : ℕ) (item : Numbered) (out : Outbox K) (fabric : Fabric) (block : List TraceLine) → IsItem script i item → is_event item.line ≡ true → (h : Gone out i fabric) → IsBlock (seen (start script) h.lines) item.line block
       → BlocksFrom (start script) (take (i + 1) script) (h.lines ++ Begun item.line ∷ block)
   blocks_with i item out fabric block is has h own =
       subst (λ front. BlocksFrom (start script) front (h.lines ++ Begun item.line ∷ block)) (front_with script i item is)
@@ -141,9 +137,9 @@ module _ {K : Type 0} (written : K → Option (List ℕ)) (faults : K → ℕ) (
 
   -- ---- an event was carried out
 
-  pub Going-event : (i : ℕ) (item : Numbered) (out out2 : Outbox K) (fabric fabric2 : Fabric) (answer : Happened) → IsItem script i item → has_block item.line ≡ true → (h : Gone out i fabric) → out2.failed ≡ false
-      → Evented item.line names written faults out out2 (set_up_all bare script) h.lines fabric2 answer → Gone out2 (i + 1) fabric2
-  Going-event i item out out2 fabric fabric2 answer is has h fine done = record {
+  pub Going-event : (i : ℕ) (item : Numbered) (out out2 : Outbox K) (fabric fabric2 : Fabric) (what : Happened) → IsItem script i item → is_event item.line ≡ true → (h : Gone out i fabric) → out2.failed ≡ false
+      → Evented item.line names written faults out out2 (set_up_all bare script) h.lines fabric2 what → Gone out2 (i + 1) fabric2
+  Going-event i item out out2 fabric fabric2 what is has h fine done = record {
     lines = h.lines ++ Begun item.line ∷ done.block;
     told = Writes-lines names h.lines (Begun item.line ∷ done.block) h.told done.prints;
     fine = fine;
@@ -152,13 +148,13 @@ module _ {K : Type 0} (written : K → Option (List ℕ)) (faults : K → ℕ) (
   }
 
   -- and a write failed in it
-  pub Going-failed : (i : ℕ) (item : Numbered) (out out2 : Outbox K) (fabric fabric2 : Fabric) (answer : Happened) → IsItem script i item → has_block item.line ≡ true → (h : Gone out i fabric)
-      → Evented item.line names written faults out out2 (set_up_all bare script) h.lines fabric2 answer → Fronts out2
-  Going-failed i item out out2 fabric fabric2 answer is has h done =
+  pub Going-failed : (i : ℕ) (item : Numbered) (out out2 : Outbox K) (fabric fabric2 : Fabric) (what : Happened) → IsItem script i item → is_event item.line ≡ true → (h : Gone out i fabric)
+      → Evented item.line names written faults out out2 (set_up_all bare script) h.lines fabric2 what → Fronts out2
+  Going-failed i item out out2 fabric fabric2 what is has h done =
       told_blocks out2 (i + 1) (h.lines ++ Begun item.line ∷ done.block) (Writes-lines names h.lines (Begun item.line ∷ done.block) h.told done.prints) (blocks_with i item out fabric done.block is has h done.is)
 
   -- or memory ran out in it
-  pub Going-short : (i : ℕ) (item : Numbered) (out out2 : Outbox K) (fabric : Fabric) → IsItem script i item → has_block item.line ≡ true → (h : Gone out i fabric)
+  pub Going-short : (i : ℕ) (item : Numbered) (out out2 : Outbox K) (fabric : Fabric) → IsItem script i item → is_event item.line ≡ true → (h : Gone out i fabric)
       → CutShort item.line names written faults out out2 (set_up_all bare script) h.lines → Fronts out2
   Going-short i item out out2 fabric is has h short = record {
     lines = h.lines ++ short.front;
@@ -169,7 +165,7 @@ module _ {K : Type 0} (written : K → Option (List ℕ)) (faults : K → ℕ) (
   }
 
   -- or an event was acted on that was not sent
-  pub Going-unsent : (i : ℕ) (item : Numbered) (out out2 out3 : Outbox K) (fabric : Fabric) (port : PortRef) (event : Event) → IsItem script i item → has_block item.line ≡ true → (h : Gone out i fabric)
+  pub Going-unsent : (i : ℕ) (item : Numbered) (out out2 out3 : Outbox K) (fabric : Fabric) (port : PortRef) (event : Event) → IsItem script i item → is_event item.line ≡ true → (h : Gone out i fabric)
       → Exposed item.line names written faults out out2 (set_up_all bare script) h.lines port event → Writes written faults out2 out3 (trace_line_text names (Undetected item.number port event) ++ codes "\n")
       → Wholes out3 (Undetected item.number port event) (Some (record { port = port; event = event }))
   Going-unsent i item out out2 out3 fabric port event is has h exposed last =
@@ -319,7 +315,7 @@ module _ {K : Type 0} (written : K → Option (List ℕ)) (faults : K → ℕ) (
   ended_by : (out : Outbox K) (result end : ReplayEnd) → result ≡ end → IsEnded out end → IsEnded out result
   ended_by out result end is ended = subst (IsEnded out) (sym is) ended
 
-  pub Going-ended : (read : List (List ℕ)) (i : ℕ) (item : Numbered) (out out2 out3 : Outbox K) (fabric : Fabric) (end : EventEnd) (result : ReplayEnd) → read ≡ names → IsItem script i item → has_block item.line ≡ true → (h : Going written faults begun out names script i fabric)
+  pub Going-ended : (read : List (List ℕ)) (i : ℕ) (item : Numbered) (out out2 out3 : Outbox K) (fabric : Fabric) (end : EventEnd) (result : ReplayEnd) → read ≡ names → IsItem script i item → is_event item.line ≡ true → (h : Going written faults begun out names script i fabric)
       → EventEnds item.line names written faults out out2 (set_up_all bare script) h.lines end → EndsBy end item.number read written faults out2 out3 result → IsEnded out3 result
   Going-ended read i item out out2 out3 fabric (Early.Undetected port event) result same is has h ends told =
       ended_by out3 result (Ends.Undetected item.number port event) told.0
