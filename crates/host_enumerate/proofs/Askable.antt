@@ -4,7 +4,7 @@ use Rattle.std.specs.Option.{option_and_then}
 use Rattle.std.proofs.lemmas.Option.{same_Some}
 use Rattle.fabric_script.specs.declared.ports.PortRef.{PortRef}
 use Rattle.maint_registers.specs.Routes.{next_port}
-use Rattle.fabric_map.specs.Topology.{Topology, IsTopology, IsPort, port_at, ports_of, behind, along, followed, entered, node_at}
+use Rattle.fabric_map.specs.Topology.{Topology, IsTopology, port_at, ports_of, behind, along, followed, entered, node_at}
 use Rattle.fabric_map.specs.Walked.{Before, onward, Walked}
 use Rattle.fabric_map.specs.Routes.{Registers}
 use Rattle.fabric_map.specs.Ways.{IsOpened}
@@ -120,36 +120,6 @@ module _ (topology : Topology) (registers : Registers) (host_id : ℕ) where
           (same_end (first ∷ front) end last.0 ends) other
       other_by first front port end ends (inr inner) =
           opened.not_host first front inner.0 port end inner.1 ends
-
-along-port : (topology : Topology) (at last : PortRef) (path : List ℕ)
-    → IsTopology topology → IsPort topology at → along topology at path ≡ Some last
-    → IsPort topology last
-along-port topology at last [] proper is leads =
-    subst (λ p. IsPort topology p) (same_Some at last leads) is
-along-port topology at last (port ∷ path) proper is leads =
-    go (behind topology at.node port) refl leads
-    (λ next there on. along-port topology next last path proper there on)
-  where
-    go : (o : Option PortRef) → behind topology at.node port ≡ o
-        → option_and_then (λ next. along topology next path) o ≡ Some last
-        → ((next : PortRef) → IsPort topology next → along topology next path ≡ Some last
-        → IsPort topology last)
-        → IsPort topology last
-    go None is_next leads on = absurd (cc)
-    go (Some next) is_next leads on =
-        let link = behind-link topology at.node port next is_next in
-        on next (proper.ports next (port_at at.node port)
-        (proper.both_ways (port_at at.node port) next link.0)) leads
-
--- a path enters its device by one of its ports
-pub entered-port : (topology : Topology) (path : List ℕ) (at : PortRef)
-    → IsTopology topology → entered topology path ≡ Some at → IsPort topology at
-entered-port topology path at proper leads =
-    along-port topology (port_at topology.host 0) at path proper
-    (record { node = proper.host; port = subst (λ n. 0 < n) (sym one) (omega arith) }) leads
-  where
-    one : ports_of topology topology.host ≡ 1
-    one = ap (λ o. unwrap_or o 1) proper.host_is_endpoint
 
 module _ (topology : Topology) (paths : List (List ℕ)) (bound : List ℕ)
     (walked : Walked topology paths bound) where

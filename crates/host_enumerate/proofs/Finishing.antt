@@ -30,7 +30,7 @@ use Rattle.host_enumerate.specs.Underway.{given_below, HasTable, HasTableOf, IsU
 use Rattle.host_enumerate.specs.Ends.{IsFree}
 use Rattle.host_enumerate.proofs.Meeting.{underway-outside, underway-inside, member-not_foreign}
 use Rattle.host_enumerate.proofs.Stepping.{followed-ports}
-use Rattle.host_enumerate.proofs.Askable.{entered-port}
+use Rattle.fabric_map.proofs.Few.{entered-port}
 use Rattle.host_enumerate.proofs.Keeping.{next-home}
 use Rattle.host_enumerate.proofs.Asked.{host_kind}
 

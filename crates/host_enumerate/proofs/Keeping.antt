@@ -18,7 +18,7 @@ use Rattle.host_enumerate.specs.Asking.{AreSame, Becomes}
 use Rattle.host_enumerate.specs.Setting.{with_entry}
 use Rattle.host_enumerate.specs.Underway.{HasTableOf, IsHeld, IsUnderway}
 use Rattle.host_enumerate.proofs.Frames.{with_device-at, with_device-other}
-use Rattle.host_enumerate.proofs.Askable.{entered-port}
+use Rattle.fabric_map.proofs.Few.{entered-port}
 
 -- the next ports of a switch
 module _ (device : registers.Device) (is_switch : registers.is_switch device ≡ true)

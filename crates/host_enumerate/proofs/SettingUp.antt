@@ -13,7 +13,7 @@ use Rattle.fabric_map.proofs.Few.{entered-inside}
 use Rattle.host_enumerate.specs.Asking.{IsAskable, IsApart, IsWritable, AreSame, Becomes}
 use Rattle.host_enumerate.specs.Setting.{with_entry, IsSameBut, IsCleared, IsSetUp}
 use Rattle.host_enumerate.proofs.Frames.{with_device-itself}
-use Rattle.host_enumerate.proofs.Askable.{entered-port}
+use Rattle.fabric_map.proofs.Few.{entered-port}
 use Rattle.host_enumerate.proofs.Opening.{became}
 use Rattle.host_enumerate.proofs.Entries.{Leaves, becomes-twice, askable-written}
 use Rattle.host_enumerate.proofs.Clearing.{same_but-itself, same_but-entry, is_switch-kind, destinations_of}
