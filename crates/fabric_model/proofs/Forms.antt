@@ -84,7 +84,7 @@ step_lent net (ByDevice (Answer p packet response)) needs formed q = formed.lent
 
 -- ---- registers
 
-AreWithin-with : (devices : List Device) (n : ℕ) (change : Device → Device)
+pub AreWithin-with : (devices : List Device) (n : ℕ) (change : Device → Device)
     → ((device : Device) → IsWithin device → IsWithin (change device))
     → AllByRecursion IsWithin devices → AllByRecursion IsWithin (with_device devices n change)
 AreWithin-with [] n change keeps all = tt
@@ -143,7 +143,7 @@ empty_formed start empty within = record {
 
 -- ---- answers
 
-device_at : (devices : List Device) (n : ℕ) (device : Device) → slice_get devices n ≡ Some device
+pub device_at : (devices : List Device) (n : ℕ) (device : Device) → slice_get devices n ≡ Some device
     → AllByRecursion IsWithin devices → IsWithin device
 device_at [] n device is all = absurd (cc)
 device_at (other ∷ devices) zero device is all =

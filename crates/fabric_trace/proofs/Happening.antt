@@ -100,15 +100,22 @@ device_at known net n s within =
 -- ---- each line of set-up may stand behind those before it
 
 may_one : (known : Known) (new : List ℕ) (net : Network) (line : Line) → Stage known net → MayBe known new line → IsFree known line → MaySetUp net line
+may_one known new net (Endpoint name id) s may free = let id_in = may.fit.1.0.1 in omega arith
 may_one known new net (Switch name ports) s may free = may.fit.1.0
 may_one known new net (Link a b) s may free =
     let parts = or_parts (same_port a b) (is_linked known.links a || is_linked known.links b) (free PortTaken) in
     let ends = or_parts (is_linked known.links a) (is_linked known.links b) parts.1 in
     (parts.0, ap (λ links. peer_in links a) s.linked ∙ no_peer known.links a ends.0, ap (λ links. peer_in links b) s.linked ∙ no_peer known.links b ends.1)
 may_one known new net (Buffers port n) s may free = may.fit.1.0
-may_one known new net (Route node id p) s may free = switch_is_at known net node s may.fit.0 (free WrongKind)
-may_one known new net (Default node p) s may free = switch_is_at known net node s may.fit.0 (free WrongKind)
-may_one known new net (Lock node id) s may free = device_at known net node s may.fit.0
+may_one known new net (Route node id p) s may free =
+    let port_in = may.fit.1.1.0.1 in
+    (switch_is_at known net node s may.fit.0 (free WrongKind), omega arith)
+may_one known new net (Default node p) s may free =
+    let port_in = may.fit.1.0.1 in
+    (switch_is_at known net node s may.fit.0 (free WrongKind), omega arith)
+may_one known new net (Lock node id) s may free =
+    let id_in = may.fit.1.0.1 in
+    (device_at known net node s may.fit.0, omega arith)
 may_one known new net _ s may free = tt
 
 may_all : (known : Known) (names : List (List ℕ)) (net : Network) (lines : List Numbered) → Stage known net → PassesFrom known names lines → MaySetUpAll net lines

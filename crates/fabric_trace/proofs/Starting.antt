@@ -1,5 +1,6 @@
 -- What the lines of set-up give, and the laws of runs from there.
 use Rattle.std.proofs.Common.{◌≡◌, ◌≢◌, ℕ, ◌++◌, Bool, true, false, List, [], ◌∷◌, Some, None, refl, sym, ap, ◌∙◌, subst, arith, if◌then◌else◌}
+use Rattle.std.specs.List.{AllByRecursion}
 use Rattle.link_model.specs.Output as out
 use Rattle.link_port.specs.Ports.{new_port}
 use Rattle.link_sound.specs.Histories.{AreBuffers}
@@ -9,14 +10,18 @@ use Rattle.link_rest.specs.Acts.{Reached, At, Found as FoundAt, OnState, goes, a
 use Rattle.link_rest.specs.Rest.{IsSettled}
 use Rattle.link_rest.proofs.Settled.{settling_rests}
 use Rattle.link_machine.specs.Sound.{IsSoundLink}
-use Rattle.maint_registers.specs.Devices.{Device}
+use Rattle.maint_registers.specs.Devices.{Device, new_endpoint, new_switch, with_link}
+use Rattle.maint_registers.specs.Within.{IsWithin}
+use Rattle.maint_registers.proofs.WithinLaws.{new_endpoint_within, new_switch_within, lock_within, route_within, default_within, links_within}
 use Rattle.fabric_script.specs.declared.ports.PortRef.{PortRef}
 use Rattle.fabric_script.specs.declared.lines.Line.{Line}
 use Rattle.fabric_script.specs.declared.lines.Line.TheVariants.{Endpoint, Switch, Link, Buffers, Route, Default, Lock}
 use Rattle.fabric_script.specs.declared.lines.Numbered.{Numbered}
-use Rattle.fabric_model.specs.Network.{Network, same_port}
+use Rattle.fabric_model.specs.Network.{Network, same_port, with_device}
 use Rattle.fabric_model.specs.Steps.{Step, LegalFrom}
 use Rattle.fabric_model.specs.Laws.Lawful.{Lawful}
+use Rattle.fabric_model.proofs.Boards.{all-append}
+use Rattle.fabric_model.proofs.Forms.{AreWithin-with}
 use Rattle.fabric_model.proofs.Freeing.{freed_after_held}
 use Rattle.fabric_model.proofs.Holding.{holding_exactly}
 use Rattle.fabric_model.proofs.Leaving.{once, unchanged}
@@ -31,6 +36,7 @@ use Rattle.fabric_trace.specs.Blocks.{lines_of, IsSettle}
 use Rattle.fabric_trace.specs.Runs.{bare, set_up, set_up_all, begins, start, Runs}
 use Rattle.fabric_trace.specs.Links.{IsLink, AreLinks}
 use Rattle.fabric_trace.specs.Parts.{Made}
+use Rattle.fabric_trace.specs.Settings.{routed, defaulted, held_by, with_node, with_change, with_end}
 use Rattle.fabric_trace.specs.SetUps.{IsSetUp, MaySetUp, MaySetUpAll}
 use Rattle.link_model.specs.Places.{start as place_start}
 use Rattle.link_model.proofs.PlacesLaws.{place_after-none}
@@ -57,29 +63,44 @@ use Rattle.fabric_trace.proofs.Viewing.{is_link}
 buffers_if : (own : Bool) (n m : ℕ) → AreBuffers n → AreBuffers m → AreBuffers (if own then n else m)
 buffers_if own n m first second = elim own as (λ x. AreBuffers (if x then n else m)) [ true ↦ first | false ↦ second ]
 
--- nothing of this looks at the registers
-with_registers : (net : Network) (devices : List Device) → IsSetUp net → IsSetUp (record net { registers = devices })
-with_registers net devices is = record {
+-- other registers that are within
+with_registers : (net : Network) (devices : List Device) → IsSetUp net → AllByRecursion IsWithin devices → IsSetUp (record net { registers = devices })
+with_registers net devices is within = record {
   empty = record { received = is.empty.received; waiting = is.empty.waiting; lent = is.empty.lent; given = is.empty.given };
   proper = is.proper;
   buffers = is.buffers;
+  within = within;
 }
 
+-- one more device
+with_more : (net : Network) (device : Device) → IsSetUp net → IsWithin device → IsSetUp (with_node net device)
+with_more net device is within = with_registers net (net.registers ++ device ∷ []) is (all-append IsWithin net.registers (device ∷ []) is.within (within, tt))
+
+-- a change of one device
+changed_one : (net : Network) (node : ℕ) (change : Device → Device) → IsSetUp net → ((device : Device) → IsWithin device → IsWithin (change device)) → IsSetUp (with_change net node change)
+changed_one net node change is keeps = with_registers net (with_device net.registers node change) is (AreWithin-with net.registers node change keeps is.within)
+
+-- the port of a device has a link
+linked_one : (net : Network) (p : PortRef) → AllByRecursion IsWithin net.registers → AllByRecursion IsWithin (with_end net p).registers
+linked_one net p within = AreWithin-with net.registers p.node _ (λ device is. links_within device (with_link device.linked p.port) is) within
+
 set_up_one : (net : Network) (line : Line) → IsSetUp net → MaySetUp net line → IsSetUp (set_up net line)
-set_up_one net (Endpoint name id) is may = with_registers net _ is
-set_up_one net (Switch name ports) is may = with_registers net _ is
-set_up_one net (Route node id p) is may = with_registers net _ is
-set_up_one net (Default node p) is may = with_registers net _ is
-set_up_one net (Lock node id) is may = with_registers net _ is
+set_up_one net (Endpoint name id) is may = with_more net (new_endpoint id false) is (new_endpoint_within id false may)
+set_up_one net (Switch name ports) is may = with_more net (new_switch ports 0) is (new_switch_within ports 0 may.1)
+set_up_one net (Route node id p) is may = changed_one net node (routed id p) is (λ device within. route_within device id p within may.1)
+set_up_one net (Default node p) is may = changed_one net node (defaulted p) is (λ device within. default_within device p within may.1)
+set_up_one net (Lock node id) is may = changed_one net node (held_by id) is (λ device within. lock_within device id within may.1)
 set_up_one net (Link a b) is may = record {
   empty = record { received = is.empty.received; waiting = is.empty.waiting; lent = is.empty.lent; given = is.empty.given };
   proper = AreProper-append net.links a b is.proper may.0 may.1 may.2;
   buffers = is.buffers;
+  within = linked_one (with_end net a) b (linked_one net a is.within);
 }
 set_up_one net (Buffers port n) is may = record {
   empty = record { received = is.empty.received; waiting = is.empty.waiting; lent = is.empty.lent; given = is.empty.given };
   proper = is.proper;
   buffers = λ p. buffers_if (same_port p port) n (net.buffers p) may (is.buffers p);
+  within = is.within;
 }
 set_up_one net _ is may = is
 
@@ -93,6 +114,7 @@ set_up_bare script may =
       empty = record { received = λ p r. refl; waiting = λ p r. refl; lent = λ p. refl; given = refl };
       proper = tt;
       buffers = λ p. (omega arith, omega arith);
+      within = tt;
     }) may
 
 begins_link : (net : Network) (a b : PortRef) → IsSetUp net → IsLink (begins net) a b

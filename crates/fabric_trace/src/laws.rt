@@ -39,7 +39,8 @@ pub fn first_blocks_are_a_front()
 {}
 
 /// The lines of set-up give a network with no packet in it, in which each port stands in at most one link and has
-/// 4 to 30 receive buffers, if each line may stand behind those before it.
+/// 4 to 30 receive buffers, and each number of a device fits its register, if each line may stand behind those before
+/// it.
 pub fn set_up()
     ensures { (script : List Numbered) → MaySetUpAll bare script
         → IsSetUp (set_up_all bare script) }

@@ -55,7 +55,7 @@ pub index_mut-requires : goal.index_mut-requires
 index_mut-requires c =
     let may = c.requires.may in
     let there = (switch_of may.net c.args.self.now.devices.items c.in-Route.node may.plans.registers
-    (subst (MaySetUp may.net) c.in-Route.is may.may)).within in
+    (subst (MaySetUp may.net) c.in-Route.is may.may).0).within in
     grind (arith, there)
 
 pub set_route-requires : goal.set_route-requires
@@ -64,14 +64,14 @@ set_route-requires c =
     let devices = c.args.self.now.devices.items in
     let read = c.index_mut.result.now in
     (switch_of may.net devices c.in-Route.node may.plans.registers
-    (subst (MaySetUp may.net) c.in-Route.is may.may)).kind read
+    (subst (MaySetUp may.net) c.in-Route.is may.may).0).kind read
     (c.index_mut.ensures.value ∙ ap (λ n. get_or devices n read) c.from.ensures)
 
 pub index_mut-requires-in-Default : goal.index_mut-requires-in-Default
 index_mut-requires-in-Default c =
     let may = c.requires.may in
     let there = (switch_of may.net c.args.self.now.devices.items c.in-Default.node may.plans.registers
-    (subst (MaySetUp may.net) c.in-Default.is may.may)).within in
+    (subst (MaySetUp may.net) c.in-Default.is may.may).0).within in
     grind (arith, there)
 
 pub set_default-requires : goal.set_default-requires
@@ -80,7 +80,7 @@ set_default-requires c =
     let devices = c.args.self.now.devices.items in
     let read = c.index_mut-in-Default.result.now in
     (switch_of may.net devices c.in-Default.node may.plans.registers
-    (subst (MaySetUp may.net) c.in-Default.is may.may)).kind read
+    (subst (MaySetUp may.net) c.in-Default.is may.may).0).kind read
     (c.index_mut-in-Default.ensures.value ∙ ap (λ n. get_or devices n read) c.from-in-Default.ensures)
 
 pub returns-in-Route-clause-plans : goal.returns-in-Route-clause-plans
@@ -88,7 +88,7 @@ returns-in-Route-clause-plans c = λ net plans line_may.
     let old = c.args.self.now in
     let may = c.requires.may in
     let there = (switch_of may.net old.devices.items c.in-Route.node may.plans.registers
-    (subst (MaySetUp may.net) c.in-Route.is may.may)).within in
+    (subst (MaySetUp may.net) c.in-Route.is may.may).0).within in
     let at = c.from.ensures in
     let within : c.from.result < length old.devices.items = grind (arith, there, at) in
     subst (λ line. PlansFor (with_written old c.from.result c.set_route.new.self)
@@ -102,7 +102,7 @@ returns-in-Route-clause-counts c =
     let old = c.args.self.now in
     let may = c.requires.may in
     let there = (switch_of may.net old.devices.items c.in-Route.node may.plans.registers
-    (subst (MaySetUp may.net) c.in-Route.is may.may)).within in
+    (subst (MaySetUp may.net) c.in-Route.is may.may).0).within in
     let at = c.from.ensures in
     let within : c.from.result < length old.devices.items = grind (arith, there, at) in
     written_counts old c.in-Route.node c.from.result c.index_mut.result.now
@@ -114,7 +114,7 @@ returns-in-Default-clause-plans c = λ net plans line_may.
     let old = c.args.self.now in
     let may = c.requires.may in
     let there = (switch_of may.net old.devices.items c.in-Default.node may.plans.registers
-    (subst (MaySetUp may.net) c.in-Default.is may.may)).within in
+    (subst (MaySetUp may.net) c.in-Default.is may.may).0).within in
     let at = c.from-in-Default.ensures in
     let within : c.from-in-Default.result < length old.devices.items = grind (arith, there, at) in
     subst (λ line. PlansFor (with_written old c.from-in-Default.result c.set_default.new.self)
@@ -128,7 +128,7 @@ returns-in-Default-clause-counts c =
     let old = c.args.self.now in
     let may = c.requires.may in
     let there = (switch_of may.net old.devices.items c.in-Default.node may.plans.registers
-    (subst (MaySetUp may.net) c.in-Default.is may.may)).within in
+    (subst (MaySetUp may.net) c.in-Default.is may.may).0).within in
     let at = c.from-in-Default.ensures in
     let within : c.from-in-Default.result < length old.devices.items = grind (arith, there, at) in
     written_counts old c.in-Default.node c.from-in-Default.result c.index_mut-in-Default.result.now
@@ -140,7 +140,7 @@ returns-in-Lock-clause-plans c = λ net plans line_may.
     let old = c.args.self.now in
     let may = c.requires.may in
     let there = subst (λ (x : List Device). c.in-Lock.node < length x) may.plans.registers
-    (subst (MaySetUp may.net) c.in-Lock.is may.may) in
+    (subst (MaySetUp may.net) c.in-Lock.is may.may).0 in
     let at = c.from-in-Lock.ensures in
     let within : c.from-in-Lock.result < length old.devices.items = grind (arith, there, at) in
     subst (λ line. PlansFor (with_written old c.from-in-Lock.result c.set_lock.new.self)
@@ -154,7 +154,7 @@ returns-in-Lock-clause-counts c =
     let old = c.args.self.now in
     let may = c.requires.may in
     let there = subst (λ (x : List Device). c.in-Lock.node < length x) may.plans.registers
-    (subst (MaySetUp may.net) c.in-Lock.is may.may) in
+    (subst (MaySetUp may.net) c.in-Lock.is may.may).0 in
     let at = c.from-in-Lock.ensures in
     let within : c.from-in-Lock.result < length old.devices.items = grind (arith, there, at) in
     written_counts old c.in-Lock.node c.from-in-Lock.result c.index_mut-in-Lock.result.now
