@@ -128,7 +128,7 @@ StepNeeds net node (Answered port request response) = Passes response → Needs 
 StepNeeds net node Nothing = ⊤
 
 -- what is made if a test holds
-if_some : {X : Type 0} (test : Bool) (x y : X) → (if test then Some x else None) ≡ Some y → (test ≡ true) × (x ≡ y)
+pub if_some : {X : Type 0} (test : Bool) (x y : X) → (if test then Some x else None) ≡ Some y → (test ≡ true) × (x ≡ y)
 if_some true x y is = (refl, cc)
 if_some false x y is = absurd cc
 

@@ -17,6 +17,8 @@ pub mod SettingUp
 pub mod Starting
 pub mod RoundsRest
 pub mod RoundsEnd
+pub mod Forming
+pub mod Existing
 pub mod Happening
 pub mod Wiring
 pub mod Faith

@@ -45,14 +45,14 @@ found_later head link links proper found =
     rw (unlinked_apart links head.0 link.0 link.1 proper.1 peers.there, unlinked_apart links head.1 link.0 link.1 proper.2 peers.there) found
 
 -- each of these links is found among all
-abbrev AreFound : List (PortRef × PortRef) → List (PortRef × PortRef) → Type 0
+abbrev pub AreFound : List (PortRef × PortRef) → List (PortRef × PortRef) → Type 0
 AreFound all links = AllByRecursion (λ link. link_in all link.0 ≡ Some link) links
 
 found_behind : (head : PortRef × PortRef) (links more : List (PortRef × PortRef)) → AreProper (head ∷ links) → AreFound links more → AreFound (head ∷ links) more
 found_behind head links [] proper found = tt
 found_behind head links (link ∷ more) proper found = (found_later head link links proper found.0, found_behind head links more proper found.1)
 
-all_found : (links : List (PortRef × PortRef)) → AreProper links → AreFound links links
+pub all_found : (links : List (PortRef × PortRef)) → AreProper links → AreFound links links
 all_found [] proper = tt
 all_found (link ∷ links) proper = (rw (same_port-refl link.0) refl, found_behind link links links proper (all_found links proper.3))
 

@@ -38,9 +38,9 @@ pub fn first_blocks_are_a_front()
         → Begins script lines → Runs script all → IsFront lines all }
 {}
 
-/// The lines of set-up give a network with no packet in it, in which each port stands in at most one link and has
-/// 4 to 30 receive buffers, and each number of a device fits its register, if each line may stand behind those before
-/// it.
+/// The lines of set-up give a network with no packet in it, in which each port stands in at most
+/// one link and has 4 to 30 receive buffers, and each number of a device fits its register, if each
+/// line may stand behind those before it.
 pub fn set_up()
     ensures { (script : List Numbered) → MaySetUpAll bare script
         → IsSetUp (set_up_all bare script) }
@@ -100,6 +100,15 @@ pub fn rounds_leave_links_at_rest()
         → (seen (begins net) before).unfaithful ≡ None
         → Rounds IsSettle n (seen (begins net) before) block
         → Rounds (SettlesTo IsSettle) n (seen (begins net) before) block }
+{}
+
+/// From each state that a network comes to, a `run` has a block, if every event that was acted on
+/// was sent: each link has a way to settle, and the steps of each switch end.
+pub fn rounds_exist()
+    ensures { (net : Network) (n : ℕ) (lines : List TraceLine) → IsSetUp net
+        → Made (begins net) lines
+        → (seen (begins net) lines).unfaithful ≡ None
+        → (block : List TraceLine) × Rounds IsSettle n (seen (begins net) lines) block }
 {}
 
 /// The characters that a port got stood at the front of its peer's wire, as it was sent and as the script edited it.

@@ -1,0 +1,5 @@
+use Rattle.fabric_trace.proofs.Existing.{rounds_behind}
+use Rattle.fabric_trace.proofs.laws.rounds_exist.Goals as goal
+
+pub returns : goal.returns
+returns c = rounds_behind
