@@ -1,232 +1,181 @@
 -- What a call did that collects a packet at an endpoint.
-use Rattle.std.proofs.Common.{◌≡◌, ℕ, ◌<◌, false, List, [], ◌∷◌, ◌++◌, All, slice_get, Option, Some, None, ◌⊎◌, inl, inr, refl, sym, ap, ◌∙◌, subst, arith}
-use Rattle.std.proofs.lemmas.List.Elements.{All-append, All-head}
-use Rattle.std.specs.Option.{option_or}
-use Rattle.std.specs.List.{AllByRecursion}
+use Rattle.std.proofs.Common.{◌≡◌, ℕ, false, List, [], ◌∷◌, slice_get, slice_set, Option, Some, None, option_map, refl, sym, ap, ◌∙◌, subst}
 use Rattle.rio_chars.specs.Written.{Writes}
 use Rattle.rio_chars.specs.declared.outbox.Outbox.{Outbox}
-use Rattle.rio_packets.specs.Fields.{prio_of, is_request}
-use Rattle.link_buffers.specs.Queues.{popped}
+use Rattle.rio_packets.specs.Fields.{prio_of}
+use Rattle.rio_packets.specs.LinkForm.{Passes}
 use Rattle.link_port.specs.Ports.{PortState, AreAlike}
+use Rattle.maint_packets.specs.declared.request.Request.{Request}
 use Rattle.maint_packets.specs.Requests.{request_of}
-use Rattle.maint_registers.specs.Devices.{Device}
+use Rattle.maint_registers.specs.Devices.{Device, IsSameDevice, is_switch}
 use Rattle.switch_core.specs.declared.endpoint.Collected.{Collected}
 use Rattle.switch_core.specs.declared.endpoint.Collected.TheVariants as Collects
-use Rattle.switch_core.specs.EndpointSteps.{first_held, collected_of, collected_head, collected as collects, face_after}
-use Rattle.switch_core.specs.Faces.{Face}
-use Rattle.switch_core.specs.Order.{greatest_first}
+use Rattle.switch_core.specs.EndpointSteps.{collected as collects, face_after, answered_on_0, device_after}
+use Rattle.switch_core.specs.Faces.{with_packet}
 use Rattle.fabric_script.specs.declared.ports.PortRef.{PortRef}
-use Rattle.fabric_model.specs.Laws.Priorities.{ByPriority}
-use Rattle.fabric_model.specs.Network.{Item, Network, port_of, first_packet, in_turn, next_packet}
-use Rattle.fabric_model.specs.Steps.{Leave, AtNode}
-use Rattle.fabric_trace.specs.Blocks.{Leaves}
-use Rattle.fabric_trace.specs.Fold.{seen_line}
+use Rattle.fabric_model.specs.Network.{Network, port_of, same_port}
+use Rattle.fabric_model.specs.Serving.{device_after as answered_at}
+use Rattle.fabric_model.specs.Steps.{Leave, Answer, AtNode, ByDevice, without_first, item_of, after}
+use Rattle.fabric_trace.specs.Fold.{seen}
 use Rattle.fabric_trace.specs.Known.{Seen, port_at}
-use Rattle.fabric_trace.specs.Lines.{Empty as Nothing, Stepped, Lacked}
-use Rattle.fabric_trace.specs.Text.{trace_line_text}
-use Rattle.fabric_trace.specs.Views.{packets_in}
-use Rattle.fabric_ports.specs.declared.answers.Happened.TheVariants.{Left, Empty}
+use Rattle.fabric_trace.specs.Served.{face_in, collect_lines, HasResponseForm, IsCollect}
+use Rattle.fabric_trace.specs.Text.{trace_text}
+use Rattle.fabric_trace.proofs.Keeping.{few_prio}
+use Rattle.fabric_ports.specs.declared.answers.Happened.{Happened}
 use Rattle.fabric_ports.specs.declared.fabric.Fabric.{Fabric}
 use Rattle.fabric_ports.specs.Events.{Did, collected}
 use Rattle.fabric_ports.specs.Places.{IsEndpointAt}
 use Rattle.fabric_ports.specs.Showing.{ShowsFabric}
-use Rattle.fabric_ports.specs.Standing.{IsPlainItem, IsPlain}
-use Rattle.fabric_ports.proofs.NodeLaws.{left_view, left_elsewhere, HasPort, port_shows, alike_popped}
-use Rattle.fabric_ports.proofs.PlainLaws.{leave_plain}
-use Rattle.fabric_ports.proofs.SendLaws.{one_line}
+use Rattle.fabric_ports.proofs.Changes.{set-change}
+use Rattle.fabric_ports.proofs.FaceLaws.{without_own, without_other, more_own, more_other, face_of_port, port_faced, port_stays}
+use Rattle.fabric_ports.proofs.NodeLaws.{set_same, HasBoth, port_shows}
 
--- ---- which packet is held first
+-- its packets are ones in their link form
+abbrev pub AreForms : Collected → Type 0
+AreForms (Collects.Left packet) = Passes packet
+AreForms (Collects.Answered request response) = Passes request × Passes response
+AreForms Collects.Empty = Unit {0}
+AreForms Collects.Full = Unit {0}
 
--- the lists of a port, as a switch or an endpoint sees them
-abbrev pub face_at : PortState → Face
-face_at port = record { received = port.received.lists; queued = port.queued }
+has_form : (told : Collected) → AreForms told → HasResponseForm told
+has_form (Collects.Left packet) forms = tt
+has_form (Collects.Answered request response) forms = forms.1
+has_form Collects.Empty forms = tt
+has_form Collects.Full forms = tt
 
-first_or : (xs ys : List Item)
-    → first_packet (xs ++ ys) ≡ option_or (first_packet xs) (first_packet ys)
-first_or [] ys = refl
-first_or (x ∷ xs) ys = refl
+-- ---- the network afterwards
 
-head_is : (items : List Item) → slice_get (packets_in items) 0 ≡ first_packet items
-head_is [] = refl
-head_is (item ∷ items) = refl
+after_collect : Network → ℕ → Collected → Network
+after_collect net n (Collects.Left packet) = after net (AtNode (Leave n packet))
+after_collect net n (Collects.Answered request response) =
+    after net (ByDevice (Answer (port_of n) request response))
+after_collect net n Collects.Empty = net
+after_collect net n Collects.Full = net
 
-or_none : {X : Type 0} (o : Option X) → option_or o None ≡ o
-or_none None = refl
-or_none (Some x) = refl
+seen_after : (s : Seen) (n : ℕ) (told : Collected)
+    → seen s (collect_lines n told) ≡ record s { network = after_collect s.network n told }
+unfolding after_collect
+seen_after s n (Collects.Left packet) = refl
+seen_after s n (Collects.Answered request response) = refl
+seen_after s n Collects.Empty = refl
+seen_after s n Collects.Full = refl
 
-in_order : (lanes : ℕ → List Item)
-    → next_packet lanes ≡ option_or (first_packet (lanes 3))
-    (option_or (first_packet (lanes 2))
-    (option_or (first_packet (lanes 1)) (first_packet (lanes 0))))
-in_order lanes =
-    first_or (lanes 3) (lanes 2 ++ (lanes 1 ++ lanes 0))
-    ∙ ap (option_or (first_packet (lanes 3))) (first_or (lanes 2) (lanes 1 ++ lanes 0)
-    ∙ ap (option_or (first_packet (lanes 2))) (first_or (lanes 1) (lanes 0)))
+buffers_stay : (net : Network) (n : ℕ) (told : Collected)
+    → (after_collect net n told).buffers ≡ net.buffers
+unfolding after_collect
+buffers_stay net n (Collects.Left packet) = refl
+buffers_stay net n (Collects.Answered request response) = refl
+buffers_stay net n Collects.Empty = refl
+buffers_stay net n Collects.Full = refl
 
-pub held_is : (s : Seen) (p : PortRef)
-    → first_held (face_at (port_at s p)) ≡ next_packet (s.network.received p)
-unfolding greatest_first
-held_is s p =
-    let lanes = s.network.received p in
-    (λ i. option_or (head_is (lanes 3) i)
-    (option_or (head_is (lanes 2) i)
-    (option_or (head_is (lanes 1) i) (option_or (head_is (lanes 0) i) None))))
-    ∙ ap (λ o. option_or (first_packet (lanes 3))
-    (option_or (first_packet (lanes 2)) (option_or (first_packet (lanes 1)) o)))
-    (or_none (first_packet (lanes 0)))
-    ∙ sym (in_order lanes)
+links_stay : (net : Network) (n : ℕ) (told : Collected)
+    → (after_collect net n told).links ≡ net.links
+unfolding after_collect
+links_stay net n (Collects.Left packet) = refl
+links_stay net n (Collects.Answered request response) = refl
+links_stay net n Collects.Empty = refl
+links_stay net n Collects.Full = refl
 
-first_plain : (items : List Item) (packet : List ℕ) → All IsPlainItem items
-    → first_packet items ≡ Some packet → is_request packet ≡ false
-first_plain [] packet all is = absurd cc
-first_plain (item ∷ items) packet all is = let same : item.now ≡ packet = cc in
-    subst (λ p. is_request p ≡ false) same (All-head IsPlainItem item items all)
+collect_face : (net : Network) (n : ℕ) (told : Collected) → AreForms told
+    → face_in (after_collect net n told) (port_of n) ≡ face_after (face_in net (port_of n)) told
+unfolding after_collect
+collect_face net n (Collects.Left packet) forms =
+    without_own net (port_of n) (prio_of packet) (few_prio packet forms)
+collect_face net n (Collects.Answered request response) forms =
+    let p = port_of n in
+    let less = without_first net p (prio_of request) in
+    more_own less p (item_of less p response) (few_prio response forms.1)
+    ∙ ap (λ f. with_packet f response) (without_own net p (prio_of request)
+    (few_prio request forms.0))
+collect_face net n Collects.Empty forms = refl
+collect_face net n Collects.Full forms = refl
 
-held_plain : (net : Network) (p : PortRef) (packet : List ℕ) → IsPlain net
-    → next_packet (net.received p) ≡ Some packet → is_request packet ≡ false
-held_plain net p packet plain is =
-    let low = All-append IsPlainItem (net.received p 1) (net.received p 0) (plain.received p 1)
-    (plain.received p 0) in
-    let mid = All-append IsPlainItem (net.received p 2) (net.received p 1 ++ net.received p 0)
-    (plain.received p 2) low in
-    let all = All-append IsPlainItem (net.received p 3)
-    (net.received p 2 ++ (net.received p 1 ++ net.received p 0)) (plain.received p 3) mid in
-    first_plain (in_turn (net.received p)) packet all is
+collect_others : (net : Network) (n : ℕ) (told : Collected) (q : PortRef)
+    → same_port q (port_of n) ≡ false → face_in (after_collect net n told) q ≡ face_in net q
+unfolding after_collect
+collect_others net n (Collects.Left packet) q apart =
+    without_other net (port_of n) (prio_of packet) q apart
+collect_others net n (Collects.Answered request response) q apart =
+    let p = port_of n in
+    let less = without_first net p (prio_of request) in
+    more_other less p (prio_of response) (item_of less p response ∷ []) q apart
+    ∙ without_other net p (prio_of request) q apart
+collect_others net n Collects.Empty q apart = refl
+collect_others net n Collects.Full q apart = refl
 
--- ---- what is collected
+pub answered_is : (device : Device) (request : Option Request)
+    → answered_at 0 request device ≡ answered_on_0 device request
+answered_is device None = refl
+answered_is device (Some request) = refl
 
--- by the packet that is held first: it leaves, or there is none
-abbrev pub leaving : Option (List ℕ) → Collected
-leaving None = Collects.Empty
-leaving (Some packet) = Collects.Left packet
-
-none_asked : (packet : List ℕ) → is_request packet ≡ false → request_of packet ≡ None
-none_asked packet asks = rw asks refl
-
-pub collects_is : (device : Device) (s : Seen) (p : PortRef) → IsPlain s.network
-    → collects device (face_at (port_at s p)) ≡ leaving (next_packet (s.network.received p))
-collects_is device s p plain = ap (collected_head device (face_at (port_at s p))) (held_is s p)
-    ∙ by_held (next_packet (s.network.received p)) refl
-  where
-    by_held : (held : Option (List ℕ)) → next_packet (s.network.received p) ≡ held
-        → collected_head device (face_at (port_at s p)) held ≡ leaving held
-    by_held None is = refl
-    by_held (Some packet) is =
-        let asks = held_plain s.network p packet plain is in
-        ap (collected_of device (face_at (port_at s p)) packet) (none_asked packet asks)
-
-pub left_is : (held : Option (List ℕ)) (packet : List ℕ) → Collects.Left packet ≡ leaving held
-    → held ≡ Some packet
-left_is None packet is = absurd cc
-left_is (Some other) packet is = cc
-
-pub empty_is : (held : Option (List ℕ)) → Collects.Empty ≡ leaving held → held ≡ None
-empty_is None is = refl
-empty_is (Some other) is = absurd cc
-
-pub not_answered : (held : Option (List ℕ)) (request response : List ℕ)
-    → ¬ (Collects.Answered request response ≡ leaving held)
-not_answered None request response is = absurd cc
-not_answered (Some other) request response is = absurd cc
-
-pub not_full : (held : Option (List ℕ)) → ¬ (Collects.Full ≡ leaving held)
-not_full None is = absurd cc
-not_full (Some other) is = absurd cc
+collect_registers : (net : Network) (n : ℕ) (device : Device) (told : Collected)
+    → slice_get net.registers n ≡ Some device
+    → (after_collect net n told).registers ≡ slice_set net.registers n (device_after device told)
+unfolding after_collect
+collect_registers net n device (Collects.Left packet) stands =
+    sym (set_same net.registers n device stands)
+collect_registers net n device (Collects.Answered request response) stands =
+    sym (set-change net.registers n device (answered_at 0 (request_of request)) stands)
+    ∙ ap (slice_set net.registers n) (answered_is device (request_of request))
+collect_registers net n device Collects.Empty stands = sym (set_same net.registers n device stands)
+collect_registers net n device Collects.Full stands = sym (set_same net.registers n device stands)
 
 -- ---- afterwards
 
-module _ (names : List (List ℕ)) {K : Type 0} (written : K → Option (List ℕ)) (faults : K → ℕ)
-    (b b2 : Outbox K) (s : Seen) (old new : Fabric) (n : ℕ) (x y : PortState) where
-  -- a packet leaves
-  pub did_leave : (packet : List ℕ) → ShowsFabric old s → s.unfaithful ≡ None → IsPlain s.network
-      → prio_of packet < 4 → IsEndpointAt old.devices.items n
-      → next_packet (s.network.received (port_of n)) ≡ Some packet → port_at s (port_of n) ≡ x
-      → HasPort old new (port_of n) y
-      → AreAlike x y → face_at y ≡ face_after (face_at x) (Collects.Left packet)
-      → Writes written faults b b2
-      (trace_line_text names (Stepped (AtNode (Leave n packet))) ++ 10 ∷ [])
-      → Did (λ block. Leaves n (next_packet (s.network.received (port_of n))) block
-      × (Left packet ≡ collected block)) names written faults b b2 s new
-  did_leave packet shows sent plain few at held is has alike face prints =
-      let t = seen_line s (Stepped (AtNode (Leave n packet))) in
-      let lists = popped x.received.lists (prio_of packet) in
-      let becomes : port_at t (port_of n) ≡ y = left_view s n packet few
-      ∙ ap (λ (p : PortState).
-      record p {
-        received =
-            record p.received { lists = popped p.received.lists (prio_of packet) };
-      }) is
-      ∙ sym (alike_popped x y lists alike (ap (λ (f : Face). f.received) face)
-      (ap (λ (f : Face). f.queued) face)) in
-      record {
-        block = Stepped (AtNode (Leave n packet)) ∷ [];
-        prints = one_line names (Stepped (AtNode (Leave n packet))) prints;
-        is = (
-          subst (λ o. Leaves n o (Stepped (AtNode (Leave n packet)) ∷ [])) (sym held)
-              (held_plain s.network (port_of n) packet plain held, refl),
-          refl,
-        );
-        sent = sent;
-        shows = port_shows old new s t n y shows at has becomes (left_elsewhere s n packet) refl
-            refl refl;
-        plain = leave_plain s.network n packet plain;
-      }
+-- what was collected, as the call was told
+pub record WasCollected (device next : Device) (x y : PortState) (told : Collected) : Type 0 where
+  pub by_lists : told ≡ collects device (face_of_port x)
+  pub face : face_of_port y ≡ face_after (face_of_port x) told
+  pub registers : next ≡ device_after device told
+  pub same : IsSameDevice device next
+  pub alike : AreAlike x y
+  pub forms : AreForms told
 
-  -- nothing is held
-  pub did_empty : ShowsFabric old s → s.unfaithful ≡ None → IsPlain s.network
-      → IsEndpointAt old.devices.items n
-      → next_packet (s.network.received (port_of n)) ≡ None → port_at s (port_of n) ≡ x
-      → HasPort old new (port_of n) y
-      → AreAlike x y → face_at y ≡ face_after (face_at x) Collects.Empty
-      → Writes written faults b b2 (trace_line_text [] (Lacked Nothing) ++ 10 ∷ [])
-      → Did (λ block. Leaves n (next_packet (s.network.received (port_of n))) block
-      × (Empty ≡ collected block)) names written faults b b2 s new
-  did_empty shows sent plain at held is has alike face prints =
-      let same : x ≡ y =
-      sym (alike_popped x y x.received.lists alike (ap (λ (f : Face). f.received) face)
-      (ap (λ (f : Face). f.queued) face)) in
-      record {
-        block = Lacked Nothing ∷ [];
-        prints = one_line names (Lacked Nothing) prints;
-        is = (subst (λ o. Leaves n o (Lacked Nothing ∷ [])) (sym held) refl, refl);
-        sent = sent;
-        shows = port_shows old new s s n y shows at has (is ∙ same) (λ q apart. refl) refl refl
-            refl;
-        plain = plain;
-      }
-
--- the packet that is held first has one of four priorities
-pub held_prio : (net : Network) (p : PortRef) (packet : List ℕ) → ByPriority net
-    → next_packet (net.received p) ≡ Some packet → prio_of packet < 4
-held_prio net p packet by is =
-    third (first_of (net.received p 3) (net.received p 2 ++ (net.received p 1 ++ net.received p 0))
-    is)
-  where
-    at_prio : (items : List Item) (r : ℕ) → r < 4
-        → AllByRecursion (λ item. prio_of item.now ≡ r) items → first_packet items ≡ Some packet
-        → prio_of packet < 4
-    at_prio [] r few all here = absurd cc
-    at_prio (item ∷ items) r few all here = let same : item.now ≡ packet = cc in
-        subst (λ n. n < 4) (sym (ap prio_of (sym same) ∙ all.0)) few
-
-    first_of : (xs ys : List Item) → first_packet (xs ++ ys) ≡ Some packet
-        → (first_packet xs ≡ Some packet) ⊎ (first_packet ys ≡ Some packet)
-    first_of [] ys here = inr here
-    first_of (x ∷ xs) ys here = inl here
-
-    first : ((first_packet (net.received p 1) ≡ Some packet) ⊎
-        (first_packet (net.received p 0) ≡ Some packet)) → prio_of packet < 4
-    first (inl here) = at_prio (net.received p 1) 1 (omega arith) (by.received p 1) here
-    first (inr here) = at_prio (net.received p 0) 0 (omega arith) (by.received p 0) here
-
-    second : ((first_packet (net.received p 2) ≡ Some packet) ⊎
-        (first_packet (net.received p 1 ++ net.received p 0) ≡ Some packet)) → prio_of packet < 4
-    second (inl here) = at_prio (net.received p 2) 2 (omega arith) (by.received p 2) here
-    second (inr here) = first (first_of (net.received p 1) (net.received p 0) here)
-
-    third : ((first_packet (net.received p 3) ≡ Some packet) ⊎
-        (first_packet (net.received p 2 ++ (net.received p 1 ++ net.received p 0)) ≡ Some packet))
-        → prio_of packet < 4
-    third (inl here) = at_prio (net.received p 3) 3 (omega arith) (by.received p 3) here
-    third (inr here) =
-        second (first_of (net.received p 2) (net.received p 1 ++ net.received p 0) here)
+pub did_collect : (names : List (List ℕ)) {K : Type 0} (written : K → Option (List ℕ))
+    (faults : K → ℕ) (b b2 : Outbox K) (s : Seen) (old new : Fabric) (n : ℕ)
+    (device next : Device) (x y : PortState) (told : Collected) (happens : Happened)
+    → ShowsFabric old s → s.unfaithful ≡ None → IsEndpointAt old.devices.items n
+    → slice_get old.devices.items n ≡ Some device → port_at s (port_of n) ≡ x
+    → WasCollected device next x y told → HasBoth old new n next (port_of n) y
+    → happens ≡ collected (collect_lines n told)
+    → Writes written faults b b2 (trace_text names (collect_lines n told))
+    → Did (λ block. IsCollect s.network n block × (happens ≡ collected block)) names written faults b
+    b2 s new
+did_collect names written faults b b2 s old new n device next x y told happens shows sent at stands
+    is was has answers prints =
+    let net = s.network in
+    let p = port_of n in
+    let later = after_collect net n told in
+    let t : Seen = record s { network = later } in
+    let known = ap (λ (l : List Device). slice_get l n) shows.registers ∙ stands in
+    let whole : told ≡ collects device (face_in net p) =
+    was.by_lists ∙ ap (λ (z : PortState). collects device (face_of_port z)) (sym is) in
+    let own : face_of_port y ≡ face_in later p = was.face
+    ∙ ap (λ (z : PortState). face_after (face_of_port z) told) (sym is)
+    ∙ sym (collect_face net n told was.forms) in
+    let becomes : port_at t p ≡ y = port_faced s later p y (buffers_stay net n told)
+    (subst (λ z. AreAlike z y) (sym is) was.alike) own in
+    let showing : ShowsFabric new t = port_shows old new s t n device next y shows at stands
+    was.same has becomes
+    (λ q apart. port_stays s later q (buffers_stay net n told) (collect_others net n told q apart))
+    refl (links_stay net n told)
+    (collect_registers net n device told known
+    ∙ ap (slice_set net.registers n) (sym was.registers)) in
+    let seen_is = seen_after s n told in
+    record {
+      block = collect_lines n told;
+      prints = prints;
+      is = (
+        record {
+          endpoint = ap (λ (l : List Device). option_map is_switch (slice_get l n)) shows.registers
+              ∙ ap (option_map is_switch) at.stands ∙ ap Some at.kind;
+          device = device;
+          stands = known;
+          form = subst HasResponseForm whole (has_form told was.forms);
+          lines = ap (collect_lines n) whole;
+        },
+        answers,
+      );
+      sent = ap (λ (u : Seen). u.unfaithful) seen_is ∙ sent;
+      shows = subst (ShowsFabric new) (sym seen_is) showing;
+    }

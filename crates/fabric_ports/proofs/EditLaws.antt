@@ -34,7 +34,7 @@ use Rattle.fabric_ports.specs.Blocked.{Blocked, BlockedShort}
 use Rattle.fabric_ports.specs.Ends.{IsPlaceOf}
 use Rattle.fabric_ports.specs.Places.{place_of}
 use Rattle.fabric_ports.specs.Showing.{ShowsFabric}
-use Rattle.fabric_ports.specs.Standing.{IsPlain, Stands}
+use Rattle.fabric_ports.specs.Standing.{Stands}
 use Rattle.fabric_ports.specs.declared.actions.Acted.{Acted}
 use Rattle.fabric_ports.specs.declared.actions.Acted.TheVariants.{Done, Short, Early}
 use Rattle.fabric_ports.specs.declared.ends.LinkPlace.{LinkPlace}
@@ -236,8 +236,7 @@ edit_done written faults fabric port place p cable met edit wires becomes answer
       is = is_block;
       stands = stands_on net lines fabric new_fabric line block stands is_block
           (ap (λ (z : Seen). z.unfaithful) begun ∙ stands.sent)
-          (subst (ShowsFabric new_fabric) (sym begun) shows)
-          (subst (λ (z : Seen). IsPlain z.network) (sym begun) stands.plain);
+          (subst (ShowsFabric new_fabric) (sym begun) shows);
     })
 
 -- nothing of it is written

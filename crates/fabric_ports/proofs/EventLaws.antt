@@ -1,20 +1,17 @@
 -- What an event at a node needs, and what it did.
-use Rattle.std.proofs.Common.{◌≡◌, ℕ, ◌+◌, ◌<◌, true, false, not, inl, inr, List, [], ◌∷◌, ◌++◌, length, get_or, slice_get, Option, Some, None, IsSome, Result, Ok, Err, OnOk, IfOk, IfErr, option_map, unwrap_or, refl, sym, ap, ◌∙◌, subst, arith}
-use Rattle.std.proofs.lemmas.Bool.{true≢false, eq-eqb}
+use Rattle.std.proofs.Common.{◌≡◌, ℕ, true, List, [], ◌∷◌, ◌++◌, get_or, slice_get, Option, Some, None, IsSome, Result, Ok, Err, OnOk, IfOk, IfErr, option_map, unwrap_or, refl, sym, ap, ◌∙◌, subst}
 use Rattle.std.proofs.lemmas.Option.{slice_get_within, slice_get-get_or}
 use Rattle.rio_chars.specs.Written.{Writes}
 use Rattle.rio_chars.specs.declared.outbox.Outbox.{Outbox}
 use Rattle.rio_chars.proofs.WrittenLaws.{Writes-then}
-use Rattle.rio_packets.specs.Fields.{body_of, is_request}
-use Rattle.rio_packets.specs.LinkForm.{LinkForm, IsBadLength}
-use Rattle.rio_packets.proofs.FieldLaws.{is_request-link_form}
-use Rattle.maint_registers.specs.Devices.{Device}
+use Rattle.rio_packets.specs.LinkForm.{LinkForm}
+use Rattle.maint_registers.specs.Devices.{Device, is_switch}
 use Rattle.fabric_script.specs.declared.lines.Line.{Line}
 use Rattle.fabric_script.specs.declared.lines.Line.TheVariants.{Endpoint, Switch, Link, Buffers, Route, Default, Lock, Send, Read, Write, Pump, Deliver, Alter, Insert, Erase, Timeout, Settle, Move, Collect, Run}
 use Rattle.fabric_script.specs.Lines.{is_event}
-use Rattle.fabric_model.specs.Network.{Network, IsEndpoint, base_of, port_of, peer_in, next_packet}
-use Rattle.fabric_trace.specs.Blocks.{takes, Leaves, IsBlock}
-use Rattle.fabric_trace.specs.Events.{IsDataLength, HasLink}
+use Rattle.fabric_model.specs.Network.{Network, IsEndpoint, IsSwitch, base_of, peer_in}
+use Rattle.fabric_trace.specs.Blocks.{takes, IsBlock}
+use Rattle.fabric_trace.specs.Events.{HasLink, IsThere}
 use Rattle.fabric_trace.specs.Fold.{edit_of, edited_by, seen}
 use Rattle.fabric_trace.specs.Known.{Seen}
 use Rattle.fabric_trace.specs.Lines.{TraceLine, Begun}
@@ -28,10 +25,10 @@ use Rattle.fabric_ports.specs.declared.answers.Happened.TheVariants.{Other}
 use Rattle.fabric_ports.specs.Blocked.{Blocked, BlockEnds}
 use Rattle.fabric_ports.specs.Ends.{IsLinked}
 use Rattle.fabric_ports.specs.declared.fabric.Fabric.{Fabric}
-use Rattle.fabric_ports.specs.Events.{is_built, taken, collected, happened, other_of, Did, Evented, EventEnds, IsAtLink}
-use Rattle.fabric_ports.specs.Places.{IsEndpointAt}
+use Rattle.fabric_ports.specs.Events.{is_built, body_in, taken, happened, other_of, Did, Evented, EventEnds, IsAtLink}
+use Rattle.fabric_ports.specs.Places.{IsEndpointAt, IsSwitchAt}
 use Rattle.fabric_ports.specs.Showing.{ShowsFabric}
-use Rattle.fabric_ports.specs.Standing.{IsPlain, Stands}
+use Rattle.fabric_ports.specs.Standing.{Stands}
 use Rattle.fabric_ports.proofs.Cables.{seen_links}
 use Rattle.fabric_ports.proofs.StandLaws.{stands_on}
 
@@ -42,32 +39,23 @@ pub record IsEnd (fabric : Fabric) (node : ℕ) : Type 0 where
   pub device : IsEndpointAt fabric.devices.items node
   pub known : (s : Seen) → ShowsFabric fabric s → IsEndpoint s.network node
 
+pub switch_of : (fabric : Fabric) (s : Seen) (node : ℕ) → ShowsFabric fabric s
+    → IsSwitch s.network node → IsSwitchAt fabric.devices.items node
+switch_of fabric s node shows is = by_device (slice_get fabric.devices.items node) refl
+    (ap (λ (l : List Device). option_map is_switch (slice_get l node)) (sym shows.registers) ∙ is)
+  where
+    by_device : (o : Option Device) → slice_get fabric.devices.items node ≡ o
+        → option_map is_switch o ≡ Some true → IsSwitchAt fabric.devices.items node
+    by_device None stands kind = absurd cc
+    by_device (Some device) stands kind =
+        record { device = device; stands = stands; kind = cc }
+
 pub end_of : (fabric : Fabric) (s : Seen) (node : ℕ) → ShowsFabric fabric s
     → IsEndpoint s.network node → IsEnd fabric node
 end_of fabric s node shows is = record {
   device = shows.endpoints node is;
   known = λ t other. rw (other.registers, sym shows.registers) is;
 }
-
--- data of a length that a line may have makes a packet
-pub no_bad_length : (prio ftype dest source : ℕ) (hex : List ℕ) → IsDataLength ftype (length hex)
-    → ¬ IsBadLength (body_of prio ftype dest source hex)
-no_bad_length prio ftype dest source hex is (inl odd) =
-    let even = is.even in
-    let counted : length hex + 4 ≡ length (body_of prio ftype dest source hex) = omega arith in
-    omega (arith, even, odd, counted)
-no_bad_length prio ftype dest source hex is (inr long) =
-    let most = is.most in
-    let counted : length hex + 4 ≡ length (body_of prio ftype dest source hex) = omega arith in
-    omega (arith, most, long, counted)
-
--- a packet of another format type asks no registers
-pub asks_nothing : (prio ftype dest source : ℕ) (hex packet : List ℕ) → prio < 4 → ftype < 16
-    → is_built (Send 0 prio ftype dest hex) ≡ true
-    → LinkForm (body_of prio ftype dest source hex) packet → is_request packet ≡ false
-asks_nothing prio ftype dest source hex packet few small built form =
-    is_request-link_form prio ftype dest source hex packet form few small
-    (λ same. true≢false (sym built ∙ ap not (eq-eqb ftype 8 same)))
 
 -- the ID that was read of an endpoint is the one that is known
 pub base_is : (fabric : Fabric) (s : Seen) (node place : ℕ) (device : Device) → ShowsFabric fabric s
@@ -87,16 +75,16 @@ base_is fabric s node place device shows at same value =
 -- an event that edits no wire, by the lines of its block
 pub evented : (line : Line) (names : List (List ℕ)) {K : Type 0} (written : K → Option (List ℕ))
     (faults : K → ℕ) (b b2 b3 : Outbox K)
-    (net : Network) (lines : List TraceLine) (old new : Fabric) (answer : Happened)
+    (net : Network) (lines : List TraceLine) (old new : Fabric) (told : Happened)
     (Is : List TraceLine → Type 0)
     → edited_by (seen (begins net) lines) (edit_of line) ≡ seen (begins net) lines
     → Stands net lines old
     → Writes written faults b b2 (trace_line_text names (Begun line) ++ 10 ∷ [])
     → Did Is names written faults b2 b3 (seen (begins net) lines) new
     → ((block : List TraceLine) → Is block → IsBlock (seen (begins net) lines) line block
-    × (answer ≡ happened line block))
-    → Evented line names written faults b b3 net lines new answer
-evented line names written faults b b2 b3 net lines old new answer Is same stands begun did is =
+    × (told ≡ happened line block))
+    → Evented line names written faults b b3 net lines new told
+evented line names written faults b b2 b3 net lines old new told Is same stands begun did is =
     let s = seen (begins net) lines in
     let all = is did.block did.is in
     record {
@@ -106,26 +94,57 @@ evented line names written faults b b2 b3 net lines old new answer Is same stand
       is = all.0;
       stands = stands_on net lines old new line did.block stands all.0
           (subst (λ (t : Seen). (seen t did.block).unfaithful ≡ None) (sym same) did.sent)
-          (subst (λ (t : Seen). ShowsFabric new (seen t did.block)) (sym same) did.shows)
-          (subst (λ (t : Seen). IsPlain (seen t did.block).network) (sym same) did.plain);
+          (subst (λ (t : Seen). ShowsFabric new (seen t did.block)) (sym same) did.shows);
       answered = all.1;
     }
 
-pub sent_block : (s : Seen) (node prio ftype dest source : ℕ) (hex packet : List ℕ)
-    (answer : Happened) → IsEndpoint s.network node → is_request packet ≡ false
-    → source ≡ base_of s.network node → LinkForm (body_of prio ftype dest source hex) packet
-    → (block : List TraceLine) → (block ≡ takes s node packet) × (answer ≡ taken block)
-    → IsBlock s (Send node prio ftype dest hex) block
-    × (answer ≡ happened (Send node prio ftype dest hex) block)
-sent_block s node prio ftype dest source hex packet answer endpoint asks base form block is = (
-  record {
-    packet = packet;
-    endpoint = endpoint;
-    form = subst (λ n. LinkForm (body_of prio ftype dest n hex) packet) base form;
-    for_no_registers = asks;
-    lines = is.0;
-  },
-  is.1,
+-- the line has a packet taken at this node
+pub record IsTaken (line : Line) (node : ℕ) : Type 0 where
+  pub edits : edit_of line ≡ None
+  pub there : (net : Network) → IsThere net line → IsEndpoint net node
+  pub block : (s : Seen) (packet : List ℕ) (block : List TraceLine) → IsEndpoint s.network node
+      → LinkForm (body_in line (base_of s.network node)) packet → block ≡ takes s node packet
+      → IsBlock s line block
+  pub answers : (block : List TraceLine) → happened line block ≡ taken block
+
+pub is_send : (node prio ftype dest : ℕ) (hex : List ℕ)
+    → IsTaken (Send node prio ftype dest hex) node
+is_send node prio ftype dest hex = record {
+  edits = refl;
+  there = λ net is. is;
+  block = λ s packet block endpoint form is.
+      record { packet = packet; endpoint = endpoint; form = form; lines = is };
+  answers = λ block. refl;
+}
+
+pub is_read : (node prio dest hop tid offset : ℕ) → IsTaken (Read node prio dest hop tid offset) node
+is_read node prio dest hop tid offset = record {
+  edits = refl;
+  there = λ net is. is;
+  block = λ s packet block endpoint form is.
+      record { packet = packet; endpoint = endpoint; form = form; lines = is };
+  answers = λ block. refl;
+}
+
+pub is_write : (node prio dest hop tid offset value : ℕ)
+    → IsTaken (Write node prio dest hop tid offset value) node
+is_write node prio dest hop tid offset value = record {
+  edits = refl;
+  there = λ net is. is;
+  block = λ s packet block endpoint form is.
+      record { packet = packet; endpoint = endpoint; form = form; lines = is };
+  answers = λ block. refl;
+}
+
+pub sent_block : (s : Seen) (line : Line) (node source : ℕ) (packet : List ℕ) (told : Happened)
+    → IsTaken line node → IsEndpoint s.network node → source ≡ base_of s.network node
+    → LinkForm (body_in line source) packet
+    → (block : List TraceLine) → (block ≡ takes s node packet) × (told ≡ taken block)
+    → IsBlock s line block × (told ≡ happened line block)
+sent_block s line node source packet told takes_it endpoint base form block is = (
+  takes_it.block s packet block endpoint
+      (subst (λ n. LinkForm (body_in line n) packet) base form) is.0,
+  is.1 ∙ sym (takes_it.answers block),
 )
 
 -- ---- at a link
@@ -209,37 +228,36 @@ is_linked fabric net lines port stands has = record {
       (seen_links (begins net) lines) has;
 }
 
-pub collected_block : (s : Seen) (node : ℕ) (answer : Happened) → IsEndpoint s.network node
-    → (block : List TraceLine) → Leaves node (next_packet (s.network.received (port_of node))) block
-    × (answer ≡ collected block)
-    → IsBlock s (Collect node) block × (answer ≡ happened (Collect node) block)
-collected_block s node answer endpoint block is = ((endpoint, is.0), is.1)
-
--- an event that is built and is neither a `send` nor a `collect` is one at a link
+-- an event that is built, and has no packet taken, moved or collected, is one at a link
 pub at_link_is : (line : Line) → is_event line ≡ true → is_built line ≡ true
     → ((node prio ftype dest : ℕ) (hex : List ℕ) → line ≡ Send node prio ftype dest hex → ⊥)
-    → ((node : ℕ) → line ≡ Collect node → ⊥) → IsAtLink line
-at_link_is (Pump port n) event built send collect = tt
-at_link_is (Deliver port n) event built send collect = tt
-at_link_is (Alter port place ch) event built send collect = tt
-at_link_is (Erase port place n) event built send collect = tt
-at_link_is (Insert port place ch) event built send collect = tt
-at_link_is (Timeout port) event built send collect = tt
-at_link_is (Settle port) event built send collect = tt
-at_link_is (Send node prio ftype dest hex) event built send collect =
+    → ((node prio dest hop tid offset : ℕ) → line ≡ Read node prio dest hop tid offset → ⊥)
+    → ((node prio dest hop tid offset value : ℕ) → line ≡ Write node prio dest hop tid offset value
+    → ⊥)
+    → ((node : ℕ) → line ≡ Move node → ⊥) → ((node : ℕ) → line ≡ Collect node → ⊥) → IsAtLink line
+at_link_is (Pump port n) event built send read write move collect = tt
+at_link_is (Deliver port n) event built send read write move collect = tt
+at_link_is (Alter port place ch) event built send read write move collect = tt
+at_link_is (Erase port place n) event built send read write move collect = tt
+at_link_is (Insert port place ch) event built send read write move collect = tt
+at_link_is (Timeout port) event built send read write move collect = tt
+at_link_is (Settle port) event built send read write move collect = tt
+at_link_is (Send node prio ftype dest hex) event built send read write move collect =
     absurd (send node prio ftype dest hex refl)
-at_link_is (Collect node) event built send collect = absurd (collect node refl)
-at_link_is (Endpoint name id) event built send collect = absurd cc
-at_link_is (Link a b) event built send collect = absurd cc
-at_link_is (Buffers port n) event built send collect = absurd cc
-at_link_is (Switch name ports) event built send collect = absurd cc
-at_link_is (Route node id p) event built send collect = absurd cc
-at_link_is (Default node p) event built send collect = absurd cc
-at_link_is (Lock node id) event built send collect = absurd cc
-at_link_is (Read node prio dest hop tid offset) event built send collect = absurd cc
-at_link_is (Write node prio dest hop tid offset value) event built send collect = absurd cc
-at_link_is (Move node) event built send collect = absurd cc
-at_link_is (Run n) event built send collect = absurd cc
+at_link_is (Read node prio dest hop tid offset) event built send read write move collect =
+    absurd (read node prio dest hop tid offset refl)
+at_link_is (Write node prio dest hop tid offset value) event built send read write move collect =
+    absurd (write node prio dest hop tid offset value refl)
+at_link_is (Move node) event built send read write move collect = absurd (move node refl)
+at_link_is (Collect node) event built send read write move collect = absurd (collect node refl)
+at_link_is (Endpoint name id) event built send read write move collect = absurd cc
+at_link_is (Link a b) event built send read write move collect = absurd cc
+at_link_is (Buffers port n) event built send read write move collect = absurd cc
+at_link_is (Switch name ports) event built send read write move collect = absurd cc
+at_link_is (Route node id p) event built send read write move collect = absurd cc
+at_link_is (Default node p) event built send read write move collect = absurd cc
+at_link_is (Lock node id) event built send read write move collect = absurd cc
+at_link_is (Run n) event built send read write move collect = absurd cc
 
 pub other_happened : (line : Line) → IsAtLink line → (block : List TraceLine)
     → Other ≡ happened line block

@@ -34,7 +34,7 @@ use Rattle.fabric_ports.specs.Blocked.{Blocked, BlockedAt, BlockedShort}
 use Rattle.fabric_ports.specs.Ends.{IsPlaceOf}
 use Rattle.fabric_ports.specs.Places.{place_of}
 use Rattle.fabric_ports.specs.Showing.{ShowsFabric}
-use Rattle.fabric_ports.specs.Standing.{IsPlain, Stands}
+use Rattle.fabric_ports.specs.Standing.{Stands}
 use Rattle.fabric_ports.specs.declared.actions.Acted.{Acted}
 use Rattle.fabric_ports.specs.declared.actions.Acted.TheVariants.{Done}
 use Rattle.fabric_ports.specs.declared.actions.Action.{Action}
@@ -44,7 +44,6 @@ use Rattle.fabric_ports.specs.declared.fabric.Fabric.{Fabric}
 use Rattle.fabric_ports.proofs.BlockLaws.{block_of, lack_seen, begun_same, block_is, found_done}
 use Rattle.fabric_ports.proofs.Cables.{IsChanged, changed_shows, notes_registers}
 use Rattle.fabric_ports.proofs.EndLaws.{cable_shown}
-use Rattle.fabric_ports.proofs.PlainLaws.{notes_plain}
 use Rattle.fabric_ports.proofs.StandLaws.{stands_on}
 
 -- ---- the link, before
@@ -159,8 +158,6 @@ known_stands {net} {lines} {fabric} {new} {port} {place} {d} {x} {y} action all 
     (known_block action all k part)
     (ap (λ (z : Seen). z.unfaithful) same ∙ there.0)
     (subst (ShowsFabric new) (sym same) shows)
-    (subst (λ (z : Seen). IsPlain z.network) (sym same)
-    (notes_plain s d.a d.b (acts_notes (At l) all) k.stands.plain))
 
 -- the event that was not sent is known
 known_found : {net : Network} {lines : List TraceLine} {fabric : Fabric} {port : PortRef}

@@ -1,25 +1,27 @@
 -- What a call did that sends a packet at an endpoint.
-use Rattle.std.proofs.Common.{◌≡◌, ℕ, ◌<◌, true, false, List, [], ◌∷◌, ◌++◌, Option, None, refl, sym, ap, ◌∙◌, subst, append-nil, if◌then◌else◌}
+use Rattle.std.proofs.Common.{◌≡◌, ℕ, ◌<◌, true, false, List, [], ◌∷◌, ◌++◌, Option, None, refl, sym, ap, ◌∙◌, subst, append-nil, if◌then◌else◌, slice_get}
 use Rattle.rio_chars.specs.Written.{Writes}
 use Rattle.rio_chars.specs.declared.outbox.Outbox.{Outbox}
-use Rattle.rio_packets.specs.Fields.{prio_of, is_request}
+use Rattle.rio_packets.specs.Fields.{prio_of}
 use Rattle.link_buffers.specs.Queues.{appended}
 use Rattle.link_port.specs.Ports.{PortState, AreAlike}
+use Rattle.switch_core.specs.Faces.{with_packet}
 use Rattle.fabric_model.specs.Network.{port_of, room_out}
-use Rattle.fabric_model.specs.Steps.{Take, AtNode}
+use Rattle.fabric_model.specs.Steps.{Take, AtNode, item_of, after}
 use Rattle.fabric_trace.specs.Blocks.{takes}
 use Rattle.fabric_trace.specs.Fold.{seen_line}
 use Rattle.fabric_trace.specs.Known.{Seen, port_at}
 use Rattle.fabric_trace.specs.Lines.{TraceLine, Full as NoRoom, Stepped, Lacked}
+use Rattle.fabric_trace.specs.Served.{face_in}
 use Rattle.fabric_trace.specs.Text.{trace_line_text, trace_text}
 use Rattle.fabric_ports.specs.declared.answers.Happened.TheVariants.{Took, Full}
 use Rattle.fabric_ports.specs.declared.fabric.Fabric.{Fabric}
 use Rattle.fabric_ports.specs.Events.{Did, taken}
 use Rattle.fabric_ports.specs.Places.{IsEndpointAt}
 use Rattle.fabric_ports.specs.Showing.{ShowsFabric}
-use Rattle.fabric_ports.specs.Standing.{IsPlain}
-use Rattle.fabric_ports.proofs.NodeLaws.{taken_view, taken_elsewhere, HasPort, port_shows, alike_put}
-use Rattle.fabric_ports.proofs.PlainLaws.{take_plain}
+use Rattle.fabric_ports.proofs.DeviceLaws.{same_device}
+use Rattle.fabric_ports.proofs.FaceLaws.{more_own, more_other, face_of_port, port_faced, port_stays}
+use Rattle.fabric_ports.proofs.NodeLaws.{set_same, HasBoth, port_shows}
 
 -- the text of one line
 pub one_line : (names : List (List ℕ)) (line : TraceLine) {K : Type 0}
@@ -32,12 +34,12 @@ one_line names line {K} {written} {faults} {b} {b2} h =
 module _ (names : List (List ℕ)) {K : Type 0} (written : K → Option (List ℕ)) (faults : K → ℕ)
     (b b2 : Outbox K) (s : Seen) (old : Fabric) (n : ℕ) (packet : List ℕ) where
   -- there is no room for it
-  pub did_full : ShowsFabric old s → s.unfaithful ≡ None → IsPlain s.network
+  pub did_full : ShowsFabric old s → s.unfaithful ≡ None
       → room_out s.network (port_of n) (prio_of packet) ≡ false
       → Writes written faults b b2 (trace_line_text [] (Lacked NoRoom) ++ 10 ∷ [])
       → Did (λ block. (block ≡ takes s n packet) × (Full ≡ taken block)) names written faults b b2 s
       old
-  did_full shows sent plain none prints = record {
+  did_full shows sent none prints = record {
     block = Lacked NoRoom ∷ [];
     prints = one_line names (Lacked NoRoom) prints;
     is = (
@@ -47,26 +49,32 @@ module _ (names : List (List ℕ)) {K : Type 0} (written : K → Option (List �
     );
     sent = sent;
     shows = shows;
-    plain = plain;
   }
 
   -- it is taken
   pub did_take : (new : Fabric) (x y : PortState) → ShowsFabric old s → s.unfaithful ≡ None
-      → IsPlain s.network
       → room_out s.network (port_of n) (prio_of packet) ≡ true → prio_of packet < 4
-      → is_request packet ≡ false
-      → IsEndpointAt old.devices.items n → port_at s (port_of n) ≡ x → HasPort old new (port_of n) y
+      → (at : IsEndpointAt old.devices.items n) → port_at s (port_of n) ≡ x
+      → HasBoth old new n at.device (port_of n) y
       → AreAlike x y → y.queued ≡ appended x.queued (prio_of packet) packet
       → y.received.lists ≡ x.received.lists
       → Writes written faults b b2
       (trace_line_text names (Stepped (AtNode (Take n packet))) ++ 10 ∷ [])
       → Did (λ block. (block ≡ takes s n packet) × (Took ≡ taken block)) names written faults b b2 s
       new
-  did_take new x y shows sent plain room few asks at is has alike put same prints =
-      let becomes : port_at (seen_line s (Stepped (AtNode (Take n packet)))) (port_of n) ≡ y =
-      taken_view s n packet few
-      ∙ ap (λ (p : PortState). record p { queued = appended p.queued (prio_of packet) packet }) is
-      ∙ sym (alike_put x y (appended x.queued (prio_of packet) packet) alike put same) in
+  did_take new x y shows sent room few at is has alike put same prints =
+      let net = s.network in
+      let p = port_of n in
+      let next = after net (AtNode (Take n packet)) in
+      let t = seen_line s (Stepped (AtNode (Take n packet))) in
+      let face : face_of_port y ≡ with_packet (face_of_port x) packet =
+      λ i. record { received = same i; queued = put i } in
+      let own : face_of_port y ≡ face_in next p = face
+      ∙ ap (λ (z : PortState). with_packet (face_of_port z) packet) (sym is)
+      ∙ sym (more_own net p (item_of net p packet) few) in
+      let becomes : port_at t p ≡ y =
+      port_faced s next p y refl (subst (λ z. AreAlike z y) (sym is) alike) own in
+      let stands = ap (λ l. slice_get l n) shows.registers ∙ at.stands in
       record {
         block = Stepped (AtNode (Take n packet)) ∷ [];
         prints = one_line names (Stepped (AtNode (Take n packet))) prints;
@@ -76,7 +84,9 @@ module _ (names : List (List ℕ)) {K : Type 0} (written : K → Option (List �
           refl,
         );
         sent = sent;
-        shows = port_shows old new s (seen_line s (Stepped (AtNode (Take n packet)))) n y shows at
-            has becomes (taken_elsewhere s n packet) refl refl refl;
-        plain = take_plain s.network n packet asks plain;
+        shows = port_shows old new s t n at.device at.device y shows at at.stands
+            (same_device at.device) has becomes
+            (λ q apart. port_stays s next q refl
+            (more_other net p (prio_of packet) (item_of net p packet ∷ []) q apart))
+            refl refl (sym (set_same net.registers n at.device stands));
       }

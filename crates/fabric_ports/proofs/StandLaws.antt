@@ -15,7 +15,7 @@ use Rattle.fabric_trace.proofs.Running.{block_made}
 use Rattle.fabric_trace.proofs.Starting.{good_start}
 use Rattle.fabric_ports.specs.declared.fabric.Fabric.{Fabric}
 use Rattle.fabric_ports.specs.Showing.{ShowsFabric}
-use Rattle.fabric_ports.specs.Standing.{IsPlain, Stands}
+use Rattle.fabric_ports.specs.Standing.{Stands}
 
 -- what is known after the lines of an event, and the lines that it stands behind
 pub stands_on : (net : Network) (lines : List TraceLine) (old new : Fabric) (line : Line)
@@ -23,9 +23,8 @@ pub stands_on : (net : Network) (lines : List TraceLine) (old new : Fabric) (lin
     → IsBlock (seen (begins net) lines) line block
     → (seen (seen (begins net) lines) (Begun line ∷ block)).unfaithful ≡ None
     → ShowsFabric new (seen (seen (begins net) lines) (Begun line ∷ block))
-    → IsPlain (seen (seen (begins net) lines) (Begun line ∷ block)).network
     → Stands net (lines ++ Begun line ∷ block) new
-stands_on net lines old new line block stands is sent shows plain =
+stands_on net lines old new line block stands is sent shows =
     let s = seen (begins net) lines in
     let good = (made_keeps (good_start net stands.set_up) stands.made).good in
     let made = block_made line s block good stands.sent is in
@@ -38,5 +37,4 @@ stands_on net lines old new line block stands is sent shows plain =
           made);
       sent = ap (λ (t : Seen). t.unfaithful) joined ∙ sent;
       shows = subst (ShowsFabric new) (sym joined) shows;
-      plain = subst (λ (t : Seen). IsPlain t.network) (sym joined) plain;
     }

@@ -2,6 +2,11 @@
 use Rattle.std.specs.Prelude.{◌≡◌, ◌≢◌, ◌≤◌, ℕ, Bool, true, false, List, [], ◌∷◌, ◌++◌, length, Option, Some, None, Result, Ok, Err}
 use Rattle.rio_chars.specs.Written.{Writes}
 use Rattle.rio_chars.specs.declared.outbox.Outbox.{Outbox}
+use Rattle.rio_packets.specs.Fields.{body_of}
+use Rattle.maint_packets.specs.Requests.{request_body}
+use Rattle.maint_packets.specs.declared.request.Op.{Op}
+use Rattle.maint_packets.specs.declared.request.Op.TheVariants as Ops
+use Rattle.maint_packets.specs.declared.request.Request.{Request}
 use Rattle.link_model.specs.declared.event.Event.{Event}
 use Rattle.fabric_script.specs.Lines.{is_event}
 use Rattle.fabric_script.specs.declared.ports.PortRef.{PortRef}
@@ -42,6 +47,39 @@ pub record MayFollow (fabric : Fabric) (names : List (List ℕ)) (line : Line) :
   pub event : is_event line ≡ true
   pub built : is_built line ≡ true
   pub names_suffice : length fabric.devices.items ≤ length names
+
+-- the endpoint that has a packet taken by a line
+abbrev pub taker : Line → Option ℕ
+taker (Send node prio ftype dest hex) = Some node
+taker (Read node prio dest hop tid offset) = Some node
+taker (Write node prio dest hop tid offset value) = Some node
+taker _ = None
+
+-- the line writes a register
+abbrev pub IsWrite : Line → Type 0
+IsWrite (Write node prio dest hop tid offset value) = Unit {0}
+IsWrite _ = ⊥
+
+-- the request of a line, with this source ID
+abbrev pub request_by : ℕ → ℕ → ℕ → ℕ → ℕ → ℕ → Op → Request
+request_by source prio dest hop tid offset op = record {
+  prio = prio;
+  dest = dest;
+  source = source;
+  op = op;
+  tid = tid;
+  hop = hop;
+  offset = offset;
+}
+
+-- the body of the packet that a line has taken, with this source ID
+abbrev pub body_in : Line → ℕ → List ℕ
+body_in (Send node prio ftype dest hex) source = body_of prio ftype dest source hex
+body_in (Read node prio dest hop tid offset) source =
+    request_body (request_by source prio dest hop tid offset Ops.Read)
+body_in (Write node prio dest hop tid offset value) source =
+    request_body (request_by source prio dest hop tid offset (Ops.Write value))
+body_in _ source = []
 
 -- it is done at a link
 abbrev pub IsAtLink : Line → Type 0

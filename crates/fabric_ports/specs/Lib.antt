@@ -6,4 +6,5 @@ pub mod Ends
 pub mod Blocked
 pub mod Built
 pub mod Plans
+pub mod Switching
 pub mod Acting

@@ -1,18 +1,20 @@
 //! Events: what a line of a script does to a fabric.
-ghost use Rattle.std.specs.Prelude.{◌≡◌, List, IfOk, IfErr};
+ghost use Rattle.std.specs.Prelude.{◌≡◌, List, IsSome, IfOk, IfErr};
+ghost use Rattle.rio_packets.specs.LinkForm.{LinkForm};
 ghost use Rattle.fabric_model.specs.Network.{Network};
+ghost use Rattle.fabric_trace.specs.Events.{IsInRange};
 ghost use Rattle.fabric_trace.specs.Lines.{TraceLine};
-ghost use Rattle.fabric_ports.specs.Events.{MayFollow, Evented, EventEnds, other_of};
+ghost use Rattle.fabric_ports.specs.Events.{MayFollow, Evented, EventEnds, taker, IsWrite, body_in, other_of};
 ghost use Rattle.fabric_ports.specs.Standing.{Stands};
 
 use crate::answers::{EventEnd, Happened};
 use crate::fabric::Fabric;
 use fabric_script::{Line, Name};
-use rio_chars::{Outbox, Sink};
 use maint_packets::{Op, Request, write_request};
+use rio_chars::{Outbox, Sink};
 use rio_packets::{Header, Packet, build};
 use std::alloc::Global;
-use trace_lines::{write_begun, write_none};
+use trace_lines::write_begun;
 
 impl Fabric {
     /// Carries out an event, and writes its block of the trace: the line with which it begins, and
@@ -45,9 +47,7 @@ impl Fabric {
                 Ok(self.send(names, *node, packet, outbox))
             }
             Line::Move { node } => {
-                if !self.step(names, *node, outbox) {
-                    write_none(outbox);
-                }
+                self.step_or_none(names, *node, outbox);
                 Ok(Happened::Other)
             }
             Line::Collect { node } => Ok(self.collect(names, *node, outbox)),
@@ -59,6 +59,9 @@ impl Fabric {
 
 /// The packet of a line that has one taken, with this source ID.
 fn packet_of(line: &Line, source: u8) -> Packet
+    requires taken { IsSome (taker line.now) }
+    requires range { IsInRange line.now }
+    ensures { LinkForm (body_in line.now source) result }
 {
     match line {
         Line::Send {
@@ -96,25 +99,37 @@ fn packet_of(line: &Line, source: u8) -> Packet
             hop: *hop,
             offset: *offset,
         }),
-        Line::Write {
-            prio,
-            dest,
-            hop,
-            tid,
-            offset,
-            value,
-            ..
-        } => write_request(&Request {
-            prio: *prio,
-            dest: *dest,
-            source,
-            op: Op::Write { value: *value },
-            tid: *tid,
-            hop: *hop,
-            offset: *offset,
-        }),
-        _ => unreachable!(),
+        _ => written_packet(line, source),
     }
+}
+
+/// The packet of a line that writes a register.
+fn written_packet(line: &Line, source: u8) -> Packet
+    requires write { IsWrite line.now }
+    requires range { IsInRange line.now }
+    ensures { LinkForm (body_in line.now source) result }
+{
+    let Line::Write {
+        prio,
+        dest,
+        hop,
+        tid,
+        offset,
+        value,
+        ..
+    } = line
+    else {
+        unreachable!();
+    };
+    write_request(&Request {
+        prio: *prio,
+        dest: *dest,
+        source,
+        op: Op::Write { value: *value },
+        tid: *tid,
+        hop: *hop,
+        offset: *offset,
+    })
 }
 
 /// What an event at a link answers.

@@ -1,6 +1,8 @@
 //! What is sent and collected at an endpoint.
 ghost use Rattle.std.specs.Prelude.{◌≡◌, ◌<◌, length, None};
+ghost use Rattle.rio_packets.specs.LinkForm.{Passes};
 ghost use Rattle.fabric_model.specs.Laws.Priorities.{ByPriority};
+ghost use Rattle.fabric_trace.specs.Blocks.{takes};
 ghost use Rattle.fabric_trace.specs.Known.{Seen};
 ghost use Rattle.fabric_ports.specs.Events.{Did, taken, collected};
 ghost use Rattle.fabric_ports.specs.Places.{IsEndpointAt};
@@ -61,10 +63,13 @@ impl Fabric {
         let registers = &mut self.devices[usize::from(node)];
         match endpoint_collect(&mut self.ports[place], registers) {
             Collected::Left(packet) => {
+                show_form(&packet);
                 write_leave(outbox, names, node, &packet);
                 Happened::Left(packet)
             }
             Collected::Answered { request, response } => {
+                show_form(&request);
+                show_form(&response);
                 write_answer(outbox, names, port, &request, &response);
                 Happened::Answered
             }
@@ -78,4 +83,11 @@ impl Fabric {
             }
         }
     }
+}
+
+/// Says of a packet what is true of every one: it is in its link form.
+pub(crate) fn show_form(packet: &Packet)
+    ensures { Passes packet.now }
+{
+    let _ = packet.bytes();
 }

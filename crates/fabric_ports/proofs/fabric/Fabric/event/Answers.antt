@@ -1,62 +1,36 @@
-use Rattle.std.proofs.Common.{◌≡◌, ◌++◌, ◌∷◌, [], true, refl, sym, subst, ◌∙◌}
+use Rattle.std.proofs.Common.{◌++◌, ◌∷◌, [], inl, inr, refl, sym, ap, subst, ◌∙◌}
 use Rattle.rio_chars.specs.Written.{Writes}
 use Rattle.fabric_script.specs.declared.lines.Line.{Line}
-use Rattle.fabric_script.specs.declared.lines.Line.TheVariants.{Send, Collect}
-use Rattle.fabric_trace.specs.Events.{IsInRange, IsThere}
-use Rattle.fabric_trace.specs.Fold.{seen}
+use Rattle.fabric_script.specs.declared.lines.Line.TheVariants.{Move, Collect}
+use Rattle.fabric_trace.specs.Fold.{edited_by, seen}
 use Rattle.fabric_trace.specs.Lines.{Begun}
 use Rattle.fabric_trace.specs.Runs.{begins}
 use Rattle.fabric_trace.specs.Text.{trace_line_text}
-use Rattle.fabric_ports.specs.Events.{is_built, Evented}
+use Rattle.fabric_ports.specs.Events.{Evented}
+use Rattle.fabric_ports.specs.declared.answers.Happened.TheVariants.{Other}
 use Rattle.fabric_trace.proofs.Keeping.{good_by_priority, made_keeps}
 use Rattle.fabric_trace.proofs.Starting.{good_start}
-use Rattle.fabric_ports.proofs.EventLaws.{end_of, asks_nothing, base_is, evented, sent_block, collected_block, linked_done, linked_ended, at_link_is, other_happened}
+use Rattle.fabric_ports.proofs.EventLaws.{end_of, base_is, IsTaken, is_send, is_read, is_write, sent_block, evented, linked_done, linked_ended, at_link_is, other_happened}
 use Rattle.fabric_ports.proofs.fabric.Fabric.event.Goals as goal
 
-pub send-requires-clause-plain : goal.send-requires-clause-plain
-send-requires-clause-plain g c =
-    let range = subst IsInRange c.in-Send.is c.requires.may.happens.range in
-    let built = subst (λ l. is_built l ≡ true) c.in-Send.is c.requires.may.built in
-    asks_nothing c.in-Send.prio c.in-Send.ftype c.in-Send.dest _ c.in-Send.hex c.in-Ok.packet
-    range.0 range.1 built (rw (c.as_slice.ensures) at c.in-Ok.ensures.ok)
-
-pub returns-in-Ok-clause-done : goal.returns-in-Ok-clause-done
-returns-in-Ok-clause-done g c = λ net lines stands.
-    let may = c.requires.may in
-    let line = Send c.in-Send.node c.in-Send.prio c.in-Send.ftype c.in-Send.dest c.in-Send.hex in
+pub returns-in-Move-clause-done : goal.returns-in-Move-clause-done
+returns-in-Move-clause-done g c = λ net lines stands.
     let s = seen (begins net) lines in
-    let end = end_of c.args.self.now (seen (begins may.net) may.lines) c.in-Send.node
-    may.stands.shows
-    (subst (IsThere (seen (begins may.net) may.lines).network) c.in-Send.is
-    may.happens.there) in
-    let range = subst IsInRange c.in-Send.is may.happens.range in
-    let built = subst (λ l. is_built l ≡ true) c.in-Send.is may.built in
-    let form = rw (c.as_slice.ensures) at c.in-Ok.ensures.ok in
-    let asks = asks_nothing c.in-Send.prio c.in-Send.ftype c.in-Send.dest _ c.in-Send.hex
-    c.in-Ok.packet range.0 range.1 built form in
     let begun = subst
     (λ (l : Line). Writes g.K.Sink.written g.K.Sink.faults c.args.outbox.now
     c.write_begun.new.outbox (trace_line_text c.args.names.now (Begun l) ++ 10 ∷ []))
-    c.in-Send.is c.write_begun.ensures in
-    let base = c.base_id.ensures
-    ∙ base_is c.args.self.now s c.in-Send.node c.from.result c.index.result.now stands.shows
-    end.device c.from.ensures c.index.ensures in
+    c.in-Move.is c.write_begun.ensures in
+    let by = good_by_priority (made_keeps (good_start net stands.set_up) stands.made).good in
     subst (λ (l : Line). Evented l c.args.names.now g.K.Sink.written g.K.Sink.faults
-    c.args.outbox.now c.send.new.outbox net lines c.send.new.self c.send.result)
-    (sym c.in-Send.is)
-    (evented line c.args.names.now _ _ _ _ _ net lines c.args.self.now c.send.new.self c.send.result
-    _ refl stands begun (c.send.ensures s stands.shows stands.sent stands.plain)
-    (sent_block s c.in-Send.node c.in-Send.prio c.in-Send.ftype c.in-Send.dest _ c.in-Send.hex
-    c.in-Ok.packet c.send.result (end.known s stands.shows) asks base form))
+    c.args.outbox.now c.step_or_none.new.outbox net lines c.step_or_none.new.self Other)
+    (sym c.in-Move.is)
+    (evented (Move c.in-Move.node) c.args.names.now _ _ _ _ _ net lines c.args.self.now
+    c.step_or_none.new.self Other _ refl stands begun
+    (c.step_or_none.ensures s stands.shows stands.sent by) (λ block is. (is, refl)))
 
 pub returns-in-Collect-clause-done : goal.returns-in-Collect-clause-done
 returns-in-Collect-clause-done g c = λ net lines stands.
-    let may = c.requires.may in
     let s = seen (begins net) lines in
-    let end = end_of c.args.self.now (seen (begins may.net) may.lines) c.in-Collect.node
-    may.stands.shows
-    (subst (IsThere (seen (begins may.net) may.lines).network) c.in-Collect.is
-    may.happens.there) in
     let begun = subst
     (λ (l : Line). Writes g.K.Sink.written g.K.Sink.faults c.args.outbox.now
     c.write_begun.new.outbox (trace_line_text c.args.names.now (Begun l) ++ 10 ∷ []))
@@ -67,18 +41,12 @@ returns-in-Collect-clause-done g c = λ net lines stands.
     (sym c.in-Collect.is)
     (evented (Collect c.in-Collect.node) c.args.names.now _ _ _ _ _ net lines c.args.self.now
     c.collect.new.self c.collect.result _ refl stands begun
-    (c.collect.ensures s stands.shows stands.sent stands.plain by)
-    (collected_block s c.in-Collect.node c.collect.result (end.known s stands.shows)))
-
-pub at_link-requires-clause-link : goal.at_link-requires-clause-link
-at_link-requires-clause-link g c =
-    at_link_is c.args.line.now c.requires.may.event c.requires.may.built c.in_default.not-Send
-    c.in_default.not-Collect
+    (c.collect.ensures s stands.shows stands.sent by) (λ block is. is))
 
 pub returns-in_default : goal.returns-in_default
 returns-in_default g c =
     let link = at_link_is c.args.line.now c.requires.may.event c.requires.may.built
-    c.in_default.not-Send
+    c.in_default.not-Send c.in_default.not-Read c.in_default.not-Write c.in_default.not-Move
     c.in_default.not-Collect in
     record {
       done = linked_done c.args.line.now c.args.names.now _ _ _ _ _ c.args.self.now
@@ -89,3 +57,29 @@ returns-in_default g c =
           c.at_link.result c.other.result c.write_begun.ensures c.at_link.ensures.ended
           c.other.ensures;
     }
+
+pub returns-in-Send-clause-done : goal.returns-in-Send-clause-done
+returns-in-Send-clause-done g c = λ net lines stands.
+    let may = c.requires.may in
+    let s = seen (begins net) lines in
+    let takes_it : IsTaken c.args.line.now c.in-Send.node = elim c.in-Send.is [
+      | inl sends ↦ subst (λ (l : Line). IsTaken l c.in-Send.node) (sym sends.4)
+          (is_send c.in-Send.node sends.0 sends.1 sends.2 sends.3)
+      | inr asks ↦ elim asks [
+        | inl reads ↦ subst (λ (l : Line). IsTaken l c.in-Send.node) (sym reads.5)
+            (is_read c.in-Send.node reads.0 reads.1 reads.2 reads.3 reads.4)
+        | inr writes ↦ subst (λ (l : Line). IsTaken l c.in-Send.node) (sym writes.6)
+            (is_write c.in-Send.node writes.0 writes.1 writes.2 writes.3 writes.4 writes.5)
+      ]
+    ] in
+    let end = end_of c.args.self.now (seen (begins may.net) may.lines) c.in-Send.node
+    may.stands.shows
+    (takes_it.there (seen (begins may.net) may.lines).network may.happens.there) in
+    let base = c.base_id.ensures
+    ∙ base_is c.args.self.now s c.in-Send.node c.from.result c.index.result.now stands.shows
+    end.device c.from.ensures c.index.ensures in
+    evented c.args.line.now c.args.names.now _ _ _ _ _ net lines c.args.self.now c.send.new.self
+    c.send.result _ (ap (edited_by s) takes_it.edits) stands c.write_begun.ensures
+    (c.send.ensures s stands.shows stands.sent)
+    (sent_block s c.args.line.now c.in-Send.node _ c.packet_of-packet.result c.send.result takes_it
+    (end.known s stands.shows) base c.packet_of-packet.ensures)

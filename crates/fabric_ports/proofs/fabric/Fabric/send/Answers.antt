@@ -4,12 +4,13 @@ use Rattle.rio_packets.specs.Fields.{prio_of}
 use Rattle.link_buffers.specs.Queues.{list_at}
 use Rattle.link_port.specs.Ports.{PortState}
 use Rattle.fabric_model.specs.Network.{port_of, room_out}
-use Rattle.fabric_ports.proofs.NodeLaws.{with_port, has_port, port_read, room_shown}
+use Rattle.fabric_trace.proofs.Faces.{room_is}
+use Rattle.fabric_ports.proofs.NodeLaws.{with_port, has_port, port_read}
 use Rattle.fabric_ports.proofs.SendLaws.{did_full, did_take}
 use Rattle.fabric_ports.proofs.fabric.Fabric.send.Goals as goal
 
 pub returns-then-not-out_room : goal.returns-then-not-out_room
-returns-then-not-out_room g c = λ s shows sent plain.
+returns-then-not-out_room g c = λ s shows sent.
     let few : prio_of c.args.packet < 4 =
     subst (λ n. n < 4) c.prio.ensures.value c.prio.ensures.range in
     let at = port_read c.args.self.now s c.args.node c.place-place.result c.index.result.now shows
@@ -22,14 +23,14 @@ returns-then-not-out_room g c = λ s shows sent plain.
     let none : 16 ≤ length (list_at c.index.result.now.queued (prio_of c.args.packet)) =
     omega (arith, not_now) in
     let room : room_out s.network (port_of c.args.node) (prio_of c.args.packet) ≡ false =
-    room_shown s (port_of c.args.node) (prio_of c.args.packet) few
+    room_is s.network (port_of c.args.node) (prio_of c.args.packet) few
     ∙ ap (λ (p : PortState). nat_lt (length (list_at p.queued (prio_of c.args.packet))) 16) at
     ∙ le-ltb _ _ none in
-    did_full c.args.names.now _ _ _ _ s c.args.self.now c.args.node c.args.packet shows sent plain
-    room c.write_full.ensures
+    did_full c.args.names.now _ _ _ _ s c.args.self.now c.args.node c.args.packet shows sent room
+    c.write_full.ensures
 
 pub returns : goal.returns
-returns g c = λ s shows sent plain.
+returns g c = λ s shows sent.
     let few : prio_of c.args.packet < 4 =
     subst (λ n. n < 4) c.prio.ensures.value c.prio.ensures.range in
     let at = port_read c.args.self.now s c.args.node c.place-place.result c.index_mut.result.now
@@ -42,12 +43,13 @@ returns g c = λ s shows sent plain.
     (subst (λ n. length (list_at c.index.result.now.queued n) < 16) c.prio.ensures.value
     (c.out_room.ensures.exact.0 c.if-not-out_room.false)) in
     let room : room_out s.network (port_of c.args.node) (prio_of c.args.packet) ≡ true =
-    room_shown s (port_of c.args.node) (prio_of c.args.packet) few
+    room_is s.network (port_of c.args.node) (prio_of c.args.packet) few
     ∙ ap (λ (p : PortState). nat_lt (length (list_at p.queued (prio_of c.args.packet))) 16) at
     ∙ lt-ltb _ _ some in
     did_take c.args.names.now _ _ _ _ s c.args.self.now c.args.node c.args.packet
     (with_port c.args.self.now c.place-place.result c.out_put.new.self) c.index_mut.result.now
-    c.out_put.new.self shows sent plain room few c.requires.plain c.requires.endpoint at
-    (has_port c.args.self.now (port_of c.args.node) c.place-place.result c.out_put.new.self
-    c.place-place.ensures.place)
+    c.out_put.new.self shows sent room few c.requires.endpoint at
+    (has_port c.args.self.now (port_of c.args.node) c.args.node c.place-place.result
+    c.requires.endpoint.device c.out_put.new.self c.place-place.ensures.place
+    c.requires.endpoint.stands)
     c.out_put.ensures.alike c.out_put.ensures.queued c.out_put.ensures.received c.write_take.ensures

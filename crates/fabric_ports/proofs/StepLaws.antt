@@ -1,0 +1,370 @@
+-- What a call did that makes a step of a switch.
+use Rattle.std.proofs.Common.{◌≡◌, ◌≢◌, ℕ, zero, suc, ◌+◌, ◌<◌, ◌≤◌, Bool, true, false, List, [], ◌∷◌, ◌++◌, length, map, slice_get, slice_set, slice_index_or, Option, Some, None, option_map, refl, sym, ap, ◌∙◌, subst, arith}
+use Rattle.std.proofs.lemmas.List.{with_items_is}
+use Rattle.std.specs.Vec.{with_items}
+use Rattle.rio_chars.specs.Written.{Writes}
+use Rattle.rio_chars.specs.declared.outbox.Outbox.{Outbox}
+use Rattle.rio_chars.proofs.WrittenLaws.{Writes-then}
+use Rattle.rio_packets.specs.Fields.{prio_of}
+use Rattle.rio_packets.specs.LinkForm.{Passes}
+use Rattle.link_port.specs.Ports.{PortState, AreAlike}
+use Rattle.maint_packets.specs.declared.next_hop.Next.TheVariants.{Port}
+use Rattle.maint_packets.specs.declared.request.Request.{Request}
+use Rattle.maint_packets.specs.NextHops.{moved}
+use Rattle.maint_packets.specs.Requests.{request_of}
+use Rattle.maint_registers.specs.Devices.{Device, is_switch}
+use Rattle.switch_core.specs.Faces as faces
+use Rattle.switch_core.specs.Faces.{Face, face_at, put_at, taken_at}
+use Rattle.switch_core.specs.SwitchSteps.{step_of, faces_after, answered_by, device_after}
+use Rattle.switch_core.specs.declared.switch.Step as switch
+use Rattle.switch_core.specs.declared.switch.Step.TheVariants.{Moved, Dropped, Answered, Nothing}
+use Rattle.fabric_script.specs.declared.ports.PortRef.{PortRef}
+use Rattle.fabric_model.specs.Laws.Priorities.{ByPriority}
+use Rattle.fabric_model.specs.Network.{Network, IsSwitch}
+use Rattle.fabric_model.specs.Serving.{device_after as answered_at}
+use Rattle.fabric_model.specs.Steps.{Move, Drop, Answer, ByDevice, Needs, only_first, moved_item, without_first, with_waiting, item_of, after}
+use Rattle.fabric_model.proofs.Boards.{first_item}
+use Rattle.fabric_model.proofs.Moving.{moves_on, named_goes, sent_by}
+use Rattle.fabric_trace.specs.Fold.{seen}
+use Rattle.fabric_trace.specs.Known.{Seen, port_at}
+use Rattle.fabric_trace.specs.Lines.{TraceLine, NoStep, Lacked}
+use Rattle.fabric_trace.specs.Served.{face_in, faces_from, faces_in, step_lines, HasForm, IsMove}
+use Rattle.fabric_trace.specs.Text.{trace_line_text, trace_text}
+use Rattle.fabric_trace.proofs.Faces.{face_is, StepNeeds, step_needs}
+use Rattle.fabric_trace.proofs.Keeping.{few_prio}
+use Rattle.fabric_ports.specs.declared.fabric.Fabric.{Fabric}
+use Rattle.fabric_ports.specs.Events.{Did, IsStep}
+use Rattle.fabric_ports.specs.Showing.{ShowsFabric}
+use Rattle.fabric_ports.specs.Switching.{faces_at, own_ports, AreForms, MadeStep, is_step, written_lines}
+use Rattle.fabric_ports.proofs.Changes.{set-change}
+use Rattle.fabric_ports.proofs.DeviceLaws.{one_written}
+use Rattle.fabric_ports.proofs.FaceLaws.{without_other, more_other, nodes_differ, port, AreFacesOf, taken_faces, put_faces, face_of_port, port_faced, port_stays}
+use Rattle.fabric_ports.proofs.NodeLaws.{set_same, served_shows}
+use Rattle.fabric_ports.proofs.RowLaws.{row_within, row_set, replaced, length-replaced, get-own, own-length}
+use Rattle.fabric_ports.proofs.SendLaws.{one_line}
+
+has_form : (step : switch.Step) → AreForms step → HasForm step
+has_form (Moved from to packet) forms = tt
+has_form (Dropped from packet) forms = tt
+has_form (Answered at request response) forms = forms.1
+has_form Nothing forms = tt
+
+-- ---- the network afterwards
+
+after_step : Network → ℕ → switch.Step → Network
+after_step net node (Moved from to packet) =
+    after net (ByDevice (Move (port node from) (port node to) packet))
+after_step net node (Dropped from packet) = after net (ByDevice (Drop (port node from) packet))
+after_step net node (Answered at request response) =
+    after net (ByDevice (Answer (port node at) request response))
+after_step net node Nothing = net
+
+seen_after : (s : Seen) (node : ℕ) (step : switch.Step)
+    → seen s (written_lines node step) ≡ record s { network = after_step s.network node step }
+unfolding after_step
+seen_after s node (Moved from to packet) = refl
+seen_after s node (Dropped from packet) = refl
+seen_after s node (Answered at request response) = refl
+seen_after s node Nothing = refl
+
+buffers_stay : (net : Network) (node : ℕ) (step : switch.Step)
+    → (after_step net node step).buffers ≡ net.buffers
+unfolding after_step
+buffers_stay net node (Moved from to packet) = refl
+buffers_stay net node (Dropped from packet) = refl
+buffers_stay net node (Answered at request response) = refl
+buffers_stay net node Nothing = refl
+
+links_stay : (net : Network) (node : ℕ) (step : switch.Step)
+    → (after_step net node step).links ≡ net.links
+unfolding after_step
+links_stay net node (Moved from to packet) = refl
+links_stay net node (Dropped from packet) = refl
+links_stay net node (Answered at request response) = refl
+links_stay net node Nothing = refl
+
+-- the packet that was first moves to the port
+move_faces : (net : Network) (node n from to : ℕ) (packet : List ℕ) (lists : List Face)
+    → Passes packet → Needs net (ByDevice (Move (port node from) (port node to) packet))
+    → AreFacesOf net node n lists
+    → AreFacesOf (after net (ByDevice (Move (port node from) (port node to) packet))) node n
+    (put_at (taken_at lists from (prio_of packet)) to (moved packet))
+move_faces net node n from to packet lists passes needs are =
+    let p = port node from in
+    let q = port node to in
+    let r = prio_of packet in
+    let less = without_first net p r in
+    let first = first_item (net.received p r) packet needs.1 in
+    let sent = sent_by net p.node packet (Port q.port) needs.2 in
+    let on = moves_on packet passes (named_goes sent.device packet q.port sent.sends) in
+    let item = moved_item first.item in
+    let now : item.now ≡ moved packet = ap moved first.now in
+    let prio : prio_of item.now ≡ r = ap prio_of now ∙ on.prio in
+    let only : only_first (map moved_item (net.received p r)) ≡ item ∷ [] =
+    ap (λ xs. only_first (map moved_item xs)) first.whole in
+    let few : prio_of item.now < 4 = few_prio _ (subst Passes (sym now) on.passes) in
+    let taken = taken_faces net node n from r lists (few_prio packet passes) are in
+    let put = put_faces less node n to item (taken_at lists from r) few taken in
+    subst (λ (next : Network). AreFacesOf next node n (put_at (taken_at lists from r) to (moved packet)))
+    (λ i. with_waiting less q (prio i) (sym only i))
+    (subst (λ (x : List ℕ). AreFacesOf (with_waiting less q (prio_of item.now) (item ∷ [])) node n
+    (put_at (taken_at lists from r) to x)) now put)
+
+step_faces : (net : Network) (node n : ℕ) (step : switch.Step) (lists : List Face)
+    → AreForms step → StepNeeds net node step → AreFacesOf net node n lists
+    → AreFacesOf (after_step net node step) node n (faces_after lists step)
+unfolding after_step
+step_faces net node n (Moved from to packet) lists forms needs are =
+    move_faces net node n from to packet lists forms needs are
+step_faces net node n (Dropped from packet) lists forms needs are =
+    taken_faces net node n from (prio_of packet) lists (few_prio packet forms) are
+step_faces net node n (Answered at request response) lists forms needs are =
+    let less = without_first net (port node at) (prio_of request) in
+    put_faces less node n at (item_of less (port node at) response)
+    (taken_at lists at (prio_of request)) (few_prio response forms.1)
+    (taken_faces net node n at (prio_of request) lists (few_prio request forms.0) are)
+step_faces net node n Nothing lists forms needs are = are
+
+step_others : (net : Network) (node : ℕ) (step : switch.Step) (q : PortRef) → q.node ≢ node
+    → face_in (after_step net node step) q ≡ face_in net q
+unfolding after_step
+step_others net node (Moved from to packet) q apart =
+    more_other (without_first net (port node from) (prio_of packet)) (port node to) (prio_of packet)
+    (only_first (map moved_item (net.received (port node from) (prio_of packet)))) q
+    (nodes_differ (port node to) q apart)
+    ∙ without_other net (port node from) (prio_of packet) q (nodes_differ (port node from) q apart)
+step_others net node (Dropped from packet) q apart =
+    without_other net (port node from) (prio_of packet) q (nodes_differ (port node from) q apart)
+step_others net node (Answered at request response) q apart =
+    let less = without_first net (port node at) (prio_of request) in
+    more_other less (port node at) (prio_of response)
+    (item_of less (port node at) response ∷ []) q (nodes_differ (port node at) q apart)
+    ∙ without_other net (port node at) (prio_of request) q (nodes_differ (port node at) q apart)
+step_others net node Nothing q apart = refl
+
+answered_is : (device : Device) (at : ℕ) (request : Option Request)
+    → answered_at at request device ≡ answered_by device at request
+answered_is device at None = refl
+answered_is device at (Some request) = refl
+
+step_registers : (net : Network) (node : ℕ) (device : Device) (step : switch.Step)
+    → slice_get net.registers node ≡ Some device
+    → (after_step net node step).registers
+    ≡ slice_set net.registers node (device_after device step)
+unfolding after_step
+step_registers net node device (Moved from to packet) stands =
+    sym (set_same net.registers node device stands)
+step_registers net node device (Dropped from packet) stands =
+    sym (set_same net.registers node device stands)
+step_registers net node device (Answered at request response) stands =
+    sym (set-change net.registers node device (answered_at at (request_of request)) stands)
+    ∙ ap (slice_set net.registers node) (answered_is device at (request_of request))
+step_registers net node device Nothing stands =
+    sym (set_same net.registers node device stands)
+
+-- ---- the ports of the switch
+
+-- the lists of ports that are known
+faces_known : (ports : List PortState) (s : Seen) (node from n : ℕ) → length ports ≡ n
+    → ((j : ℕ) → j < n → slice_get ports j ≡ Some (port_at s (port node (from + j))))
+    → faces_at ports ≡ faces_from s.network node from n
+faces_known [] s node from zero many known = refl
+faces_known [] s node from (suc n) many known = absurd (omega (arith, many))
+faces_known (x ∷ ports) s node from zero many known = absurd (omega (arith, many))
+faces_known (x ∷ ports) s node from (suc n) many known =
+    let first : x ≡ port_at s (port node (from + 0)) = (let h = known 0 (omega arith) in cc) in
+    let here : from + 0 ≡ from = omega arith in
+    let rest = faces_known ports s node (suc from) n (omega (arith, many))
+    (λ j below. known (suc j) (omega (arith, below))
+    ∙ ap (λ k. Some (port_at s (port node k))) (omega arith)) in
+    λ i. face_of_port ((first ∙ ap (λ k. port_at s (port node k)) here) i) ∷ rest i
+
+-- a port that is alike to what it was
+record IsLike (ports : List PortState) (j : ℕ) (x : PortState) : Type 0 where
+  pub y : PortState
+  pub there : slice_get ports j ≡ Some y
+  pub alike : AreAlike x y
+  pub face : face_at (faces_at ports) j ≡ face_of_port y
+
+like_at : (old new : List PortState) (j : ℕ) (x : PortState) → faces.AreAlike AreAlike old new
+    → slice_get old j ≡ Some x → IsLike new j x
+like_at [] [] j x alike is = absurd cc
+like_at (a ∷ old) (b ∷ new) zero x alike is =
+    let same : a ≡ x = cc in
+    record { y = b; there = refl; alike = subst (λ z. AreAlike z b) same alike.0; face = refl }
+like_at (a ∷ old) (b ∷ new) (suc j) x alike is =
+    let rest = like_at old new j x alike.1 is in
+    record { y = rest.y; there = rest.there; alike = rest.alike; face = rest.face }
+like_at [] (b ∷ new) j x alike is = absurd alike
+like_at (a ∷ old) [] j x alike is = absurd alike
+
+like_many : (old new : List PortState) → faces.AreAlike AreAlike old new → length new ≡ length old
+like_many [] [] alike = refl
+like_many (a ∷ old) (b ∷ new) alike = ap suc (like_many old new alike.1)
+like_many [] (b ∷ new) alike = absurd alike
+like_many (a ∷ old) [] alike = absurd alike
+
+faces_many : (net : Network) (node from n : ℕ) → length (faces_from net node from n) ≡ n
+faces_many net node from zero = refl
+faces_many net node from (suc n) = ap suc (faces_many net node (suc from) n)
+
+-- ---- afterwards
+
+-- as many ports were returned as were lent
+pub ports_are : (fabric : Fabric) (first : ℕ) (device next : Device) (ports : List PortState)
+    (step : switch.Step) → first + device.ports ≤ length fabric.ports.items
+    → MadeStep first device next fabric.ports.items ports step
+    → (with_items fabric.ports ports).items ≡ ports
+ports_are fabric first device next ports step within made =
+    let many = like_many (own_ports fabric.ports.items first device.ports) made.own made.alike
+    ∙ own-length fabric.ports.items first device.ports within in
+    with_items_is fabric.ports ports (ap (λ (l : List PortState). length l) made.ports
+    ∙ length-replaced fabric.ports.items made.own first device.ports within many
+    ∙ sym fabric.ports.ok.0)
+
+-- the registers and the ports that a call returned
+pub record HasStepped (old new : Fabric) (node first : ℕ) (device next : Device) (step : switch.Step)
+    : Type 0 where
+  pub stands : slice_get old.devices.items node ≡ Some device
+  pub place : first ≡ slice_index_or old.firsts.items node 0
+  pub made : MadeStep first device next old.ports.items new.ports.items step
+  pub devices : new.devices.items ≡ slice_set old.devices.items node next
+  pub firsts : new.firsts.items ≡ old.firsts.items
+  pub cables : new.cables.items ≡ old.cables.items
+
+module _ (s : Seen) (old new : Fabric) (node first : ℕ) (device next : Device) (step : switch.Step)
+    (shows : ShowsFabric old s) (by : ByPriority s.network) (switches : is_switch device ≡ true)
+    (has : HasStepped old new node first device next step) (forms : AreForms step) where
+  net : Network
+  net = s.network
+
+  known : slice_get s.network.registers node ≡ Some device
+  known = ap (λ (l : List Device). slice_get l node) shows.registers ∙ has.stands
+
+  is_one : IsSwitch s.network node
+  is_one = ap (option_map is_switch) known ∙ ap Some switches
+
+  within : first + device.ports ≤ length old.ports.items
+  within =
+      let row = row_within 0 old.devices.items old.firsts.items node device shows.firsts has.stands in
+      let count = shows.count in
+      let place = has.place in
+      omega (arith, row, count, place)
+
+  own_known : (j : ℕ) → j < device.ports
+      → slice_get (own_ports old.ports.items first device.ports) j ≡ Some (port_at s (port node j))
+  own_known j below =
+      get-own old.ports.items first device.ports j within below
+      ∙ ap (λ n. slice_get old.ports.items (n + j)) has.place
+      ∙ shows.ports (port node j) (rw has.stands below)
+
+  lists_known : faces_at (own_ports old.ports.items first device.ports)
+      ≡ faces_in s.network node device
+  lists_known =
+      faces_known (own_ports old.ports.items first device.ports) s node 0 device.ports
+      (own-length old.ports.items first device.ports within)
+      (λ j below. own_known j below ∙ ap (λ k. Some (port_at s (port node k))) (omega arith))
+
+  step_is : step ≡ step_of device (faces_in s.network node device)
+  step_is = has.made.made ∙ ap (step_of device) lists_known
+
+  later : AreFacesOf (after_step s.network node step) node device.ports (faces_at has.made.own)
+  later =
+      let needs = subst (StepNeeds s.network node) (sym step_is)
+      (step_needs s.network node device by known is_one) in
+      let lists : faces_at has.made.own ≡ faces_after (faces_in s.network node device) step =
+      has.made.lists ∙ ap (λ l. faces_after l step) lists_known in
+      rw lists (step_faces s.network node device.ports step (faces_in s.network node device)
+      forms needs
+      (faces_many s.network node 0 device.ports, λ j below. sym (face_is s.network node device j below)))
+
+  own_later : (j : ℕ) → j < device.ports → slice_get has.made.own j
+      ≡ Some (port_at (record s { network = after_step s.network node step }) (port node j))
+  own_later j below =
+      let like = like_at (own_ports old.ports.items first device.ports) has.made.own j
+      (port_at s (port node j)) has.made.alike (own_known j below) in
+      like.there
+      ∙ ap Some (sym (port_faced s (after_step s.network node step) (port node j) like.y
+      (buffers_stay s.network node step) like.alike (sym like.face ∙ sym (later.1 j below))))
+
+  shows_later : ShowsFabric new (record s { network = after_step s.network node step })
+  shows_later =
+      let t : Seen = record s { network = after_step s.network node step } in
+      let many = like_many (own_ports old.ports.items first device.ports) has.made.own
+      has.made.alike ∙ own-length old.ports.items first device.ports within in
+      let ports = row_set old.devices.items old.firsts.items old.ports.items has.made.own s t node
+      device shows.firsts shows.count shows.ports has.stands many own_later
+      (λ q apart. port_stays s (after_step s.network node step) q (buffers_stay s.network node step)
+      (step_others s.network node step q apart)) in
+      let all : new.ports.items ≡ replaced old.ports.items has.made.own
+      (slice_index_or old.firsts.items node 0) device.ports =
+      has.made.ports ∙ ap (λ n. replaced old.ports.items has.made.own n device.ports) has.place in
+      served_shows old new s t shows
+      (record {
+        devices = rw has.devices
+            (one_written old.devices.items node device next has.stands has.made.same);
+        firsts = has.firsts;
+        count = ap (λ l. length l) has.made.ports
+            ∙ length-replaced old.ports.items has.made.own first device.ports within many;
+        cables = has.cables;
+      })
+      (rw all ports) refl (links_stay s.network node step)
+      (step_registers s.network node device step known
+      ∙ ap (slice_set s.network.registers node) (sym has.made.registers)
+      ∙ ap (λ (l : List Device). slice_set l node next) shows.registers ∙ sym has.devices)
+
+  is_move : (block : List TraceLine) → block ≡ step_lines node step → IsMove s.network node block
+  is_move block is = record {
+    switch = is_one;
+    device = device;
+    stands = known;
+    form = subst HasForm step_is (has_form step forms);
+    lines = is ∙ ap (step_lines node) step_is;
+  }
+
+is_step_by : (net : Network) (node : ℕ) (step : switch.Step)
+    → ((block : List TraceLine) → block ≡ step_lines node step → IsMove net node block)
+    → IsStep net node (is_step step) (written_lines node step)
+is_step_by net node (Moved from to packet) move = (move _ refl, λ same. absurd cc)
+is_step_by net node (Dropped from packet) move = (move _ refl, λ same. absurd cc)
+is_step_by net node (Answered at request response) move = (move _ refl, λ same. absurd cc)
+is_step_by net node Nothing move = (move _ refl, refl)
+
+pub did_step : (names : List (List ℕ)) {K : Type 0} (written : K → Option (List ℕ))
+    (faults : K → ℕ) (b b2 : Outbox K) (s : Seen) (old new : Fabric) (node first : ℕ)
+    (device next : Device) (step : switch.Step) (result : Bool)
+    → ShowsFabric old s → s.unfaithful ≡ None → ByPriority s.network → is_switch device ≡ true
+    → HasStepped old new node first device next step → AreForms step → result ≡ is_step step
+    → Writes written faults b b2 (trace_text names (written_lines node step))
+    → Did (IsStep s.network node result) names written faults b b2 s new
+did_step names written faults b b2 s old new node first device next step result shows sent by
+    switches has forms told prints =
+    let seen_is = seen_after s node step in
+    record {
+      block = written_lines node step;
+      prints = prints;
+      is = subst (λ r. IsStep s.network node r (written_lines node step)) (sym told)
+          (is_step_by s.network node step
+          (is_move s old new node first device next step shows by switches has forms));
+      sent = ap (λ (u : Seen). u.unfaithful) seen_is ∙ sent;
+      shows = subst (ShowsFabric new) (sym seen_is)
+          (shows_later s old new node first device next step shows by switches has forms);
+    }
+
+-- no step was made, and that is written
+pub did_none : (names : List (List ℕ)) {K : Type 0} (written : K → Option (List ℕ))
+    (faults : K → ℕ) (b b2 b3 : Outbox K) (s : Seen) (new : Fabric) (node : ℕ) (result : Bool)
+    → Did (IsStep s.network node result) names written faults b b2 s new → result ≡ false
+    → Writes written faults b2 b3 (trace_line_text [] (Lacked NoStep) ++ 10 ∷ [])
+    → Did (IsMove s.network node) names written faults b b3 s new
+did_none names written faults b b2 b3 s new node result did told prints =
+    let is = subst (λ r. IsStep s.network node r did.block) told did.is in
+    record {
+      block = Lacked NoStep ∷ [];
+      prints = Writes-then [] (trace_text names (Lacked NoStep ∷ []))
+          (subst (λ l. Writes written faults b b2 (trace_text names l)) is.1 did.prints)
+          (one_line names (Lacked NoStep) prints);
+      is = is.0;
+      sent = subst (λ l. (seen s l).unfaithful ≡ None) is.1 did.sent;
+      shows = subst (λ l. ShowsFabric new (seen s l)) is.1 did.shows;
+    }
