@@ -25,7 +25,7 @@ use Rattle.fabric_ports.specs.declared.answers.Happened.TheVariants.{Other}
 use Rattle.fabric_ports.specs.Blocked.{Blocked, BlockEnds}
 use Rattle.fabric_ports.specs.Ends.{IsLinked}
 use Rattle.fabric_ports.specs.declared.fabric.Fabric.{Fabric}
-use Rattle.fabric_ports.specs.Events.{is_built, body_in, taken, happened, other_of, Did, Evented, EventEnds, IsAtLink}
+use Rattle.fabric_ports.specs.Events.{body_in, taken, happened, other_of, Did, Evented, EventEnds, IsAtLink}
 use Rattle.fabric_ports.specs.Places.{IsEndpointAt, IsSwitchAt}
 use Rattle.fabric_ports.specs.Showing.{ShowsFabric}
 use Rattle.fabric_ports.specs.Standing.{Stands}
@@ -228,36 +228,37 @@ is_linked fabric net lines port stands has = record {
       (seen_links (begins net) lines) has;
 }
 
--- an event that is built, and has no packet taken, moved or collected, is one at a link
-pub at_link_is : (line : Line) → is_event line ≡ true → is_built line ≡ true
+-- an event of no other kind is one at a link
+pub at_link_is : (line : Line) → is_event line ≡ true
     → ((node prio ftype dest : ℕ) (hex : List ℕ) → line ≡ Send node prio ftype dest hex → ⊥)
     → ((node prio dest hop tid offset : ℕ) → line ≡ Read node prio dest hop tid offset → ⊥)
     → ((node prio dest hop tid offset value : ℕ) → line ≡ Write node prio dest hop tid offset value
     → ⊥)
-    → ((node : ℕ) → line ≡ Move node → ⊥) → ((node : ℕ) → line ≡ Collect node → ⊥) → IsAtLink line
-at_link_is (Pump port n) event built send read write move collect = tt
-at_link_is (Deliver port n) event built send read write move collect = tt
-at_link_is (Alter port place ch) event built send read write move collect = tt
-at_link_is (Erase port place n) event built send read write move collect = tt
-at_link_is (Insert port place ch) event built send read write move collect = tt
-at_link_is (Timeout port) event built send read write move collect = tt
-at_link_is (Settle port) event built send read write move collect = tt
-at_link_is (Send node prio ftype dest hex) event built send read write move collect =
+    → ((node : ℕ) → line ≡ Move node → ⊥) → ((node : ℕ) → line ≡ Collect node → ⊥)
+    → ((n : ℕ) → line ≡ Run n → ⊥) → IsAtLink line
+at_link_is (Pump port n) event send read write move collect run = tt
+at_link_is (Deliver port n) event send read write move collect run = tt
+at_link_is (Alter port place ch) event send read write move collect run = tt
+at_link_is (Erase port place n) event send read write move collect run = tt
+at_link_is (Insert port place ch) event send read write move collect run = tt
+at_link_is (Timeout port) event send read write move collect run = tt
+at_link_is (Settle port) event send read write move collect run = tt
+at_link_is (Send node prio ftype dest hex) event send read write move collect run =
     absurd (send node prio ftype dest hex refl)
-at_link_is (Read node prio dest hop tid offset) event built send read write move collect =
+at_link_is (Read node prio dest hop tid offset) event send read write move collect run =
     absurd (read node prio dest hop tid offset refl)
-at_link_is (Write node prio dest hop tid offset value) event built send read write move collect =
+at_link_is (Write node prio dest hop tid offset value) event send read write move collect run =
     absurd (write node prio dest hop tid offset value refl)
-at_link_is (Move node) event built send read write move collect = absurd (move node refl)
-at_link_is (Collect node) event built send read write move collect = absurd (collect node refl)
-at_link_is (Endpoint name id) event built send read write move collect = absurd cc
-at_link_is (Link a b) event built send read write move collect = absurd cc
-at_link_is (Buffers port n) event built send read write move collect = absurd cc
-at_link_is (Switch name ports) event built send read write move collect = absurd cc
-at_link_is (Route node id p) event built send read write move collect = absurd cc
-at_link_is (Default node p) event built send read write move collect = absurd cc
-at_link_is (Lock node id) event built send read write move collect = absurd cc
-at_link_is (Run n) event built send read write move collect = absurd cc
+at_link_is (Move node) event send read write move collect run = absurd (move node refl)
+at_link_is (Collect node) event send read write move collect run = absurd (collect node refl)
+at_link_is (Endpoint name id) event send read write move collect run = absurd cc
+at_link_is (Link a b) event send read write move collect run = absurd cc
+at_link_is (Buffers port n) event send read write move collect run = absurd cc
+at_link_is (Switch name ports) event send read write move collect run = absurd cc
+at_link_is (Route node id p) event send read write move collect run = absurd cc
+at_link_is (Default node p) event send read write move collect run = absurd cc
+at_link_is (Lock node id) event send read write move collect run = absurd cc
+at_link_is (Run n) event send read write move collect run = absurd (run n refl)
 
 pub other_happened : (line : Line) → IsAtLink line → (block : List TraceLine)
     → Other ≡ happened line block

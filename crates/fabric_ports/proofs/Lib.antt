@@ -15,9 +15,13 @@ pub mod NewLaws
 pub mod NodeLaws
 pub mod PlaceLaws
 pub mod PlanLaws
+pub mod RanLaws
+pub mod RoundLaws
 pub mod RowLaws
 pub mod Rows
 pub mod SendLaws
+pub mod ServeLaws
+pub mod SettlingLaws
 pub mod ShowLaws
 pub mod StandLaws
 pub mod StepLaws

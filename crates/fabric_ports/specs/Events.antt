@@ -32,21 +32,16 @@ use Rattle.fabric_ports.specs.Standing.{Stands}
 
 -- ---- before
 
--- whether a line is built: `run` is not yet
-abbrev pub is_built : Line → Bool
-is_built (Run n) = false
-is_built _ = true
-
 -- The fabric stands for some lines, and the event may follow them. Each device of the fabric has a
--- name.
+-- name, and a byte tells them apart.
 pub record MayFollow (fabric : Fabric) (names : List (List ℕ)) (line : Line) : Type 0 where
   pub net : Network
   pub lines : List TraceLine
   pub stands : Stands net lines fabric
   pub happens : MayHappen names (seen (begins net) lines).network line
   pub event : is_event line ≡ true
-  pub built : is_built line ≡ true
   pub names_suffice : length fabric.devices.items ≤ length names
+  pub few_names : length names ≤ 256
 
 -- the endpoint that has a packet taken by a line
 abbrev pub taker : Line → Option ℕ

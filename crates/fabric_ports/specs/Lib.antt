@@ -2,9 +2,9 @@ pub mod Places
 pub mod Showing
 pub mod Standing
 pub mod Events
+pub mod Ran
 pub mod Ends
 pub mod Blocked
-pub mod Built
 pub mod Plans
 pub mod Switching
 pub mod Acting

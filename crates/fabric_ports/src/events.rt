@@ -51,7 +51,8 @@ impl Fabric {
                 Ok(Happened::Other)
             }
             Line::Collect { node } => Ok(self.collect(names, *node, outbox)),
-            // Any other event that is built is one at a link.
+            Line::Run { n } => other(self.run(alloc, names, *n, outbox)),
+            // Any other event is one at a link.
             _ => other(self.at_link(alloc, names, line, outbox)),
         }
     }
@@ -132,7 +133,7 @@ fn written_packet(line: &Line, source: u8) -> Packet
     })
 }
 
-/// What an event at a link answers.
+/// What an event answers that takes no packet in or out.
 fn other(acted: Result<(), EventEnd>) -> Result<Happened, EventEnd>
     ensures { result ≡ other_of acted }
 {

@@ -13,7 +13,6 @@
 
 mod actions;
 mod answers;
-mod built;
 mod edits;
 mod ends;
 mod events;
@@ -23,8 +22,8 @@ mod nodes;
 #[cfg(test)]
 mod plan_tests;
 mod plans;
+mod rounds;
 mod switches;
 
 pub use answers::{EventEnd, Happened};
-pub use built::unbuilt;
 pub use fabric::Fabric;

@@ -1,8 +1,8 @@
-//! Fabrics are made of scripts, and lines that are not built are told.
+//! Fabrics are made of scripts.
 ghost use Rattle.std.specs.Prelude.{◌≤◌, length, IfOk};
 ghost use Rattle.fabric_script.specs.Scripts.{Passes};
 
-use crate::{Fabric, unbuilt};
+use crate::Fabric;
 use fabric_script::{Script, parse};
 use std::alloc::Global;
 use std::process::Abort;
@@ -16,14 +16,6 @@ const ENDS: &[u8] =
 /// with no link.
 const SWITCH: &[u8] = b"endpoint A 1\nswitch S 3\nendpoint B 2\nendpoint C 3\nlink A.0 S.0\n\
     link S.2 B.0\nroute S 2 2\ndefault S 0\nlock S 5\n";
-
-/// Each kind of line that asks for a switch or for registers.
-const BUILT: &[u8] = b"endpoint A 1\nswitch S 2\nlink A.0 S.1\nroute S 1 1\ndefault S 255\n\
-    lock S 1\nread A 0 2 0 0 000010\nwrite A 0 2 0 0 000068 00000001\n\
-    send A 0 8 2 000100000000\nmove S\ncollect A\n";
-
-/// A run in the fourth line.
-const RUNS: &[u8] = b"endpoint A 1\n# All is at rest.\n\nrun 1\n";
 
 fn script(alloc: Global, text: &[u8]) -> Result<Script, Fail>
     requires { length text.now ≤ 16777216 }
@@ -39,9 +31,6 @@ fn fabric(alloc: Global, text: &[u8]) -> Result<Fabric, Fail>
     requires { length text.now ≤ 16777216 }
 {
     let script = script(alloc, text)?;
-    if unbuilt(&script).is_some() {
-        return Err(Fail::from("not built"));
-    }
     match Fabric::new(alloc, &script) {
         Ok(fabric) => Ok(fabric),
         Err(_) => Err(Fail::from("not made")),
@@ -92,12 +81,5 @@ fn a_switch_has_its_routes_and_its_lock(rt: HostRuntime) -> Result<(), Fail> {
     assert_eq!(rt; switch.next_port(2), Some(2));
     assert_eq!(rt; switch.next_port(9), Some(0));
     assert_eq!(rt; switch.lock(), 5);
-    Ok(())
-}
-
-#[test]
-fn unbuilt_lines_are_told(rt: HostRuntime) -> Result<(), Fail> {
-    assert_eq!(rt; unbuilt(&script(rt.alloc(), BUILT)?), None);
-    assert_eq!(rt; unbuilt(&script(rt.alloc(), RUNS)?), Some(4));
     Ok(())
 }

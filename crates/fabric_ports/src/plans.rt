@@ -9,7 +9,6 @@ ghost use Rattle.fabric_script.specs.Scripts.{Passes};
 ghost use Rattle.fabric_trace.specs.Events.{ArePorts, counts_after};
 ghost use Rattle.fabric_trace.specs.Runs.{bare, set_up, set_up_all};
 ghost use Rattle.fabric_trace.specs.SetUps.{MaySetUp};
-ghost use Rattle.fabric_ports.specs.Built.{unbuilt_in};
 ghost use Rattle.fabric_ports.specs.Places.{IsPortOf, place_of};
 ghost use Rattle.fabric_ports.specs.Plans.{IsPlan, PlansFor, MayAdd, counts_of, with_end_at, is_new};
 ghost use Rattle.fabric_ports.specs.Standing.{Stands};
@@ -27,11 +26,10 @@ const BUFFERS: u8 = 8;
 
 impl Fabric {
     /// Makes the fabric that the set-up lines of a script make, with no packet in it and nothing on
-    /// its wires. The script passes, and none of its lines is unbuilt. All memory of the ports is
-    /// taken here; `NoMemory` is the only other answer.
+    /// its wires. The script passes. All memory of the ports is taken here; `NoMemory` is the only
+    /// other answer.
     pub fn new(alloc: Global, script: &Script) -> Result<Fabric, NoMemory>
         requires passes { Passes script.now.names.items script.now.lines.items }
-        requires built { unbuilt_in script.now.lines.items ≡ None }
         ensures stands { IfOk result (λ fabric.
             Stands (set_up_all bare script.now.lines.items) [] fabric) }
         ensures named { IfOk result (λ fabric.

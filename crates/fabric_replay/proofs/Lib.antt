@@ -1,4 +1,3 @@
-pub mod BuiltLaws
 pub mod Joining
 pub mod Cutting
 pub mod Naming

@@ -9,7 +9,9 @@ use Rattle.fabric_script.specs.declared.lines.Line.TheVariants.{Endpoint, Switch
 use Rattle.fabric_script.specs.declared.lines.Numbered.{Numbered}
 use Rattle.fabric_script.specs.Known.{Known, nothing, known_after}
 use Rattle.fabric_script.specs.Lines.{new_name}
+use Rattle.fabric_script.specs.Reading.{IsFree}
 use Rattle.fabric_script.specs.Scripts.{PassesFrom, Passes}
+use Rattle.fabric_script.proofs.KnownLaws.{within_nodes}
 use Rattle.fabric_model.specs.Network.{Network, same_port, peer_in}
 use Rattle.fabric_model.proofs.Peers.{port_is}
 use Rattle.fabric_trace.specs.Fold.{seen}
@@ -49,6 +51,23 @@ names_from : (known : Known) (names : List (List ℕ)) (net : Network) (lines : 
 names_from known names net [] few passes = subst (λ l. length net.registers ≤ length l) passes few
 names_from known names net (line ∷ lines) few passes =
     names_from (known_after known (new_name names line.line) line.line) names (set_up net line.line) lines (few_registers known (new_name names line.line) net line.line few) passes.2
+
+-- ---- there are few names
+
+-- the names with one more line
+more_names : (known : Known) (new : List ℕ) (line : Line) → IsFree known line → length known.names ≤ 64
+    → length (known_after known new line).names ≤ 64
+more_names known new (Endpoint name id) free few = let room = within_nodes known (Endpoint name id) free refl in omega (arith, room, length-append known.names (new ∷ []))
+more_names known new (Switch name ports) free few = let room = within_nodes known (Switch name ports) free refl in omega (arith, room, length-append known.names (new ∷ []))
+more_names known new _ free few = few
+
+few_from : (known : Known) (names : List (List ℕ)) (lines : List Numbered) → length known.names ≤ 64 → PassesFrom known names lines → length names ≤ 64
+few_from known names [] few passes = subst (λ l. length l ≤ 64) passes few
+few_from known names (line ∷ lines) few passes =
+    few_from (known_after known (new_name names line.line) line.line) names lines (more_names known (new_name names line.line) line.line passes.1 few) passes.2
+
+pub names_few : (names : List (List ℕ)) (script : List Numbered) → Passes names script → length names ≤ 256
+names_few names script passes = let few = few_from nothing names script (omega arith) passes in omega arith
 
 -- ---- ports of cables
 

@@ -28,7 +28,7 @@ use Rattle.fabric_trace.proofs.Folding.{seen-append}
 use Rattle.fabric_trace.proofs.Happening.{may_set_up, may_happen}
 use Rattle.fabric_trace.proofs.Shows.{runs_shown, fronts_shown, blocks_shown}
 use Rattle.fabric_trace.proofs.Unique.{runs_one, first_blocks_front}
-use Rattle.fabric_ports.specs.Events.{is_built, MayFollow, Evented, Exposed, CutShort, EventEnds}
+use Rattle.fabric_ports.specs.Events.{MayFollow, Evented, Exposed, CutShort, EventEnds}
 use Rattle.fabric_ports.specs.Standing.{Stands}
 use Rattle.fabric_ports.specs.declared.answers.EventEnd.{EventEnd}
 use Rattle.fabric_ports.specs.declared.answers.EventEnd.TheVariants as Early
@@ -39,11 +39,9 @@ use Rattle.fabric_replay.specs.declared.replaying.ReplayEnd.{ReplayEnd}
 use Rattle.fabric_replay.specs.declared.replaying.ReplayEnd.TheVariants as Ends
 use Rattle.fabric_replay.specs.Going.{Going, ToldFront, ToldWhole}
 use Rattle.fabric_replay.specs.Replaying.{Replayed, ReplayedWhole, ReplayedUnsent, ReplayedFront}
-use Rattle.fabric_ports.specs.Built.{unbuilt_in}
-use Rattle.fabric_replay.proofs.BuiltLaws.{built_lines}
 use Rattle.fabric_replay.proofs.Cutting.{cut_text, part_more}
 use Rattle.fabric_replay.proofs.Joining.{blocks-append, runs-append, one_block, one_last}
-use Rattle.fabric_replay.proofs.Naming.{names_suffice, found_named}
+use Rattle.fabric_replay.proofs.Naming.{names_suffice, names_few, found_named}
 
 -- ---- the items of a script
 
@@ -60,16 +58,16 @@ item_of script read i item same at within =
 of_item : (P : Numbered → Type 0) (script : List Numbered) (i : ℕ) (item : Numbered) → All P script → IsItem script i item → P item
 of_item P script i item all is = subst P (sym is.at) (all i item is.within)
 
-pub may_follow : (names : List (List ℕ)) (script : List Numbered) (i : ℕ) (item : Numbered) (lines : List TraceLine) (fabric : Fabric) → Passes names script → unbuilt_in script ≡ None → IsItem script i item → is_event item.line ≡ true
+pub may_follow : (names : List (List ℕ)) (script : List Numbered) (i : ℕ) (item : Numbered) (lines : List TraceLine) (fabric : Fabric) → Passes names script → IsItem script i item → is_event item.line ≡ true
     → Stands (set_up_all bare script) lines fabric → MayFollow fabric names item.line
-may_follow names script i item lines fabric passes none is event stands = record {
+may_follow names script i item lines fabric passes is event stands = record {
   net = set_up_all bare script;
   lines = lines;
   stands = stands;
   happens = happens_still names (set_up_all bare script) lines item.line (of_item (λ line. is_event line.line ≡ true → MayHappen names (set_up_all bare script) line.line) script i item (may_happen names script passes) is event);
   event = event;
-  built = of_item (λ line. is_built line.line ≡ true) script i item (built_lines script none) is;
   names_suffice = names_suffice names script lines fabric passes stands;
+  few_names = names_few names script passes;
 }
 
 -- the items up to one, with it

@@ -1,15 +1,11 @@
-//! Scripts over ports and links: `replay` carries one out and writes its trace.
+//! Scripts over devices, ports and links: `replay` carries one out and writes its trace.
 //!
 //! Promised: what is written is the one trace of the script, of which all laws of `fabric_trace`
 //! hold; or a front of it, and then it is said which whole lines, and the laws hold of those.
 //!
-//! Left out: switches and registers. `unbuilt` answers the first line of a script that needs them.
-//!
 //! - `replay` and [`ReplayEnd`]: the trace of a script, and why it ended early
-//! - `unbuilt`: the first line that is not carried out yet
 #![tactic(auto)]
 
 mod replaying;
 
-pub use fabric_ports::unbuilt;
 pub use replaying::{ReplayEnd, replay};

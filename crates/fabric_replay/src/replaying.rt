@@ -7,7 +7,6 @@ ghost use Rattle.fabric_trace.specs.Lines.{Ended, Undetected as UnsentLine};
 ghost use Rattle.fabric_trace.specs.Runs.{bare, set_up_all};
 ghost use Rattle.fabric_ports.specs.Standing.{Stands};
 ghost use Rattle.link_model.specs.declared.event.Event.{Event as LinkEvent};
-ghost use Rattle.fabric_ports.specs.Built.{unbuilt_in};
 ghost use Rattle.fabric_replay.specs.Replaying.{ReplayedWhole, ReplayedUnsent, ReplayedFront};
 ghost use Rattle.fabric_replay.specs.Going.{ToldFront, ToldWhole};
 ghost use Rattle.fabric_replay.specs.Ending.{IsNamed, EndsBy};
@@ -45,8 +44,7 @@ impl From<rio_chars::NoMemory> for ReplayEnd {
 }
 
 /// Carries out the events of a script in order and writes its trace, in pieces of kilobytes. The
-/// script passes, as each that `parse` of `fabric_script` answers does, and none of its lines is
-/// unbuilt.
+/// script passes, as each that `parse` of `fabric_script` answers does.
 ///
 /// The trace ends with the line `end`, or with the line `undetected` that names the first event
 /// that a port acted on and that was not sent; then the answer is Undetected. WriteFault comes only
@@ -55,7 +53,6 @@ impl From<rio_chars::NoMemory> for ReplayEnd {
 /// carried out after the event in which a write failed.
 pub fn replay<K: Sink>(alloc: Global, script: &Script, sink: &mut K) -> Result<(), ReplayEnd>
     requires passes { Passes script.now.names.items script.now.lines.items }
-    requires built { unbuilt_in script.now.lines.items ≡ None }
     ensures done { OnOk result (ReplayedWhole script.now.names.items script.now.lines.items
         (K.written sink.old) (K.written sink.new)) }
     ensures undetected { (line : ℕ) (port : Port) (event : LinkEvent)
@@ -88,7 +85,6 @@ fn write_trace<K: Sink>(
     outbox: &mut Outbox<K>,
 ) -> Result<(), ReplayEnd>
     requires passes { Passes script.now.names.items script.now.lines.items }
-    requires built { unbuilt_in script.now.lines.items ≡ None }
     requires stands { Stands (set_up_all bare script.now.lines.items) [] fabric.old }
     requires fine { outbox.old.failed ≡ false }
     requires empty { outbox.old.buffer.now ≡ [] }
@@ -126,7 +122,6 @@ fn tell_trace<K: Sink>(
     outbox: &mut Outbox<K>,
 ) -> Result<(), ReplayEnd>
     requires passes { Passes script.now.names.items script.now.lines.items }
-    requires built { unbuilt_in script.now.lines.items ≡ None }
     requires stands { Stands (set_up_all bare script.now.lines.items) [] fabric.old }
     requires fine { outbox.old.failed ≡ false }
     ensures front { ToldFront K.written K.faults outbox.old outbox.new

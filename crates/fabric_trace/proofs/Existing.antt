@@ -83,7 +83,8 @@ settle_exists s a b good none peers =
     let settles : IsSettle s a b lines = record { acts = way.0; settles = way.1; lines = refl } in
     record { lines = lines; is = settles; made = link_made s a b lines good none peers settles }
 
-settles_from : (links all : List (PortRef × PortRef)) (s : Seen) → IsGood s → s.unfaithful ≡ None → s.network.links ≡ all → AreFound all links → Exists s (SettleAll IsSettle links s)
+-- of links that are all found, one after another
+pub settles_from : (links all : List (PortRef × PortRef)) (s : Seen) → IsGood s → s.unfaithful ≡ None → s.network.links ≡ all → AreFound all links → Exists s (SettleAll IsSettle links s)
 settles_from [] all s good none same found = record { lines = []; is = refl; made = Done refl }
 settles_from (link ∷ links) all s good none same found =
     let peers = link_peers s.network.links link.0 link good.proper (ap (λ l. link_in l link.0) same ∙ found.0) in

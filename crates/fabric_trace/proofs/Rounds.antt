@@ -80,7 +80,7 @@ module _ (Link Known : AtLink)
       (λ first own. (serves_made good own, own)) (λ t rest g still links more. (nodes_made devices (suc node) t rest g more, more)) joined).0)
       (λ more. nodes_made devices (suc node) s lines good more) serves
 
-  settle_all_come : (links all : List (PortRef × PortRef)) (s : Seen) (lines : List TraceLine) → IsGood s → s.unfaithful ≡ None → s.network.links ≡ all → AreFound all links
+  pub settle_all_come : (links all : List (PortRef × PortRef)) (s : Seen) (lines : List TraceLine) → IsGood s → s.unfaithful ≡ None → s.network.links ≡ all → AreFound all links
       → SettleAll Link links s lines → Made s lines × SettleAll Known links s lines
   settle_all_come [] all s lines good none same found is = (Done is, is)
   settle_all_come (link ∷ links) all s lines good none same found settle =
@@ -89,7 +89,7 @@ module _ (Link Known : AtLink)
       (λ first own. links_come s link.0 link.1 first good none peers own)
       (λ t rest g still kept more. settle_all_come links all t rest g still (kept ∙ same) found.1 more) settle
 
-  round_come : (s : Seen) (lines : List TraceLine) → IsGood s → s.unfaithful ≡ None → Round Link s lines → Made s lines × Round Known s lines
+  pub round_come : (s : Seen) (lines : List TraceLine) → IsGood s → s.unfaithful ≡ None → Round Link s lines → Made s lines × Round Known s lines
   round_come s lines good none round =
       let links = s.network.links in
       joined_come s (SettleAll Link links s) (SettleAll Known links s) (λ t rest. ServeNodes 0 t.network.registers t rest) (λ t rest. ServeNodes 0 t.network.registers t rest) lines good

@@ -1,4 +1,4 @@
-//! What a trace over ports is, for any number of endpoints and links, and the laws of what a run shows.
+//! What a trace over ports is, for any number of endpoints, switches and links, and the laws of what a run shows.
 //!
 //! The crate has no running code. `specs` has the definitions:
 //!
@@ -31,8 +31,8 @@ mod scripts;
 pub use examples::{laws_can_fail, small_run, small_run_with_a_switch, two_ports_in_order};
 pub use laws::{
     a_trace_ends, acted_events_were_sent, first_blocks_are_a_front, links_stay_sound, one_trace,
-    rounds_leave_links_at_rest, runs_are_made, set_up, settling_leaves_a_link_at_rest,
-    steps_are_legal, what_a_port_frees_was_acknowledged, what_a_port_got_was_on_the_wire,
-    what_a_port_holds_came_to_it, what_a_trace_shows,
+    rounds_exist, rounds_leave_links_at_rest, runs_are_made, set_up,
+    settling_leaves_a_link_at_rest, steps_are_legal, what_a_port_frees_was_acknowledged,
+    what_a_port_got_was_on_the_wire, what_a_port_holds_came_to_it, what_a_trace_shows,
 };
 pub use scripts::{events_may_happen, ports_are_there, scripts_may_set_up};

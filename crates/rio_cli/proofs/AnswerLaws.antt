@@ -1,14 +1,10 @@
 -- What the answers of a call say, status by status.
 use Rattle.std.proofs.Common.{◌≡◌, ◌≢◌, ℕ, ◌+◌, ◌<◌, ◌≤◌, List, [], ◌++◌, length, length-append, Option, Some, None, refl, sym, ap, ◌∙◌, subst, arith, append-nil, ◌⊎◌, inl, inr, Bool, Decides, get_or, map, ◌∷◌, MatchOption}
-use Rattle.std.proofs.lemmas.Option.{none-some, same_Some}
 use Rattle.std.specs.Io.KnownBytes.{Appends, Consumes, IsAtEnd, Keeps}
 use Rattle.rio_chars.specs.Faults.{Rose}
 use Rattle.rio_chars.specs.Fronts.{AppendsFront}
 use Rattle.rio_chars.specs.Takings.{ConsumesJust, ConsumesUpTo}
-use Rattle.fabric_script.proofs.ScriptLaws.{not_refused, refused_once, script_once}
-use Rattle.fabric_script.specs.Scripts.{IsScript}
-use Rattle.fabric_script.specs.declared.lines.Numbered.{Numbered}
-use Rattle.fabric_ports.specs.Built.{unbuilt_in}
+use Rattle.fabric_script.proofs.ScriptLaws.{not_refused, refused_once}
 use Rattle.rio_cli.specs.declared.command.Command.{Command}
 use Rattle.rio_cli.specs.declared.command.Command.TheVariants.{Replay, Decode}
 use Rattle.rio_cli.specs.Words.{Asks, AreUnknown}
@@ -17,7 +13,7 @@ use Rattle.rio_cli.proofs.WordLaws.{no_bad_word, bad_word_once}
 use Rattle.rio_cli.specs.declared.status.Status.{Status}
 use Rattle.rio_cli.specs.declared.status.Status.TheVariants.{Done, Words, Script, ReadFault, WriteFault, NoMemory, Undetected, TooLong, Locked}
 use Rattle.rio_cli.specs.Inputs.{most_input}
-use Rattle.rio_cli.specs.Outputs.{SpellsBuilt, RefusesScript, IsAccepted, IsRefused, Completes, Exposes, RunsOut, Declines, Gave, OfInput, refusal_text}
+use Rattle.rio_cli.specs.Outputs.{IsAccepted, IsRefused, Completes, Exposes, RunsOut, Declines, Gave, OfInput, refusal_text}
 use Rattle.rio_cli.specs.Answers.{Answers, SaysOfBytes, SaysOfInput, Refuses, RefusesInput, RefusesBytes}
 
 -- a source that told its bytes gave just these
@@ -116,39 +112,11 @@ module _ (command : Command) (l l2 : Option (List ℕ)) (r r' : ℕ) (w : Option
 
 -- ---- the commands
 
--- a script has one first line that is not built, or none
-same_unbuilt : (bytes : List ℕ) (names names2 : List (List ℕ)) (script script2 : List Numbered)
-    → IsScript bytes names script → IsScript bytes names2 script2
-    → unbuilt_in script ≡ unbuilt_in script2
-same_unbuilt bytes names names2 script script2 h k =
-    ap unbuilt_in (script_once bytes names names2 script script2 h k).1
-
-built_not_refused : (bytes : List ℕ) (line reason : ℕ) → SpellsBuilt bytes
-    → RefusesScript bytes line reason → ⊥
-built_not_refused bytes line reason is (inl refused) =
-    not_refused bytes is.0 is.1 line reason is.2 refused
-built_not_refused bytes line reason is (inr h) =
-    none-some line (sym is.3 ∙ same_unbuilt bytes is.0 h.0.0 is.1 h.0.1 is.2 h.0.2 ∙ h.0.3)
-
-script_refused_once : (bytes : List ℕ) (line reason line2 reason2 : ℕ)
-    → RefusesScript bytes line reason → RefusesScript bytes line2 reason2
-    → (line ≡ line2) × (reason ≡ reason2)
-script_refused_once bytes line reason line2 reason2 (inl h) (inl k) =
-    refused_once bytes line reason line2 reason2 h k
-script_refused_once bytes line reason line2 reason2 (inl h) (inr k) =
-    absurd (not_refused bytes k.0.0 k.0.1 line reason k.0.2 h)
-script_refused_once bytes line reason line2 reason2 (inr h) (inl k) =
-    absurd (not_refused bytes h.0.0 h.0.1 line2 reason2 h.0.2 k)
-script_refused_once bytes line reason line2 reason2 (inr h) (inr k) = (
-  same_Some _ _ (sym h.0.3 ∙ same_unbuilt bytes h.0.0 k.0.0 h.0.1 k.0.1 h.0.2 k.0.2 ∙ k.0.3),
-  h.1
-      ∙ sym k.1,
-)
-
 -- what is carried out is not refused: a row for each command
 pub not_refused_too : (command : Command) (bytes : List ℕ) (line reason : ℕ)
     → IsAccepted command bytes → IsRefused command bytes line reason → ⊥
-not_refused_too Replay bytes line reason is refused = built_not_refused bytes line reason is refused
+not_refused_too Replay bytes line reason is refused =
+    not_refused bytes is.0 is.1 line reason is.2 refused
 not_refused_too Decode bytes line reason is refused = no_bad_word bytes is.0 line is.1 refused.0
 
 -- a refused input has one line and one reason: a row for each command
@@ -156,20 +124,20 @@ pub refused_once_too : (command : Command) (bytes : List ℕ) (line reason line2
     → IsRefused command bytes line reason → IsRefused command bytes line2 reason2
     → (line ≡ line2) × (reason ≡ reason2)
 refused_once_too Replay bytes line reason line2 reason2 h k =
-    script_refused_once bytes line reason line2 reason2 h k
+    refused_once bytes line reason line2 reason2 h k
 refused_once_too Decode bytes line reason line2 reason2 h k =
     (bad_word_once bytes line line2 h.0 k.0, h.1 ∙ sym k.1)
 
 -- what an input is of which the whole output was written
 completed : (command : Command) (bytes : List ℕ) (w w' : Option (List ℕ))
     → Completes command bytes w w' → IsAccepted command bytes
-completed Replay bytes w w' h = (h.names, h.script, h.spells, h.built)
+completed Replay bytes w w' h = (h.names, h.script, h.spells)
 completed Decode bytes w w' h = (h.decoded.chars, h.decoded.spells)
 
 -- what an input is of which all was written up to an event that was not sent
 exposed : (command : Command) (bytes : List ℕ) (w w' : Option (List ℕ))
     → Exposes command bytes w w' → IsAccepted command bytes
-exposed Replay bytes w w' h = (h.names, h.script, h.spells, h.built)
+exposed Replay bytes w w' h = (h.names, h.script, h.spells)
 exposed Decode bytes w w' h = absurd h
 
 pub accepted_stays : (command : Command) (bytes : List ℕ) (w w' : Option (List ℕ))

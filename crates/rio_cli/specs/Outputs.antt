@@ -7,7 +7,6 @@ use Rattle.link_model.specs.declared.event.Event.{Event}
 use Rattle.fabric_script.specs.declared.lines.Numbered.{Numbered}
 use Rattle.fabric_script.specs.declared.ports.PortRef.{PortRef}
 use Rattle.fabric_script.specs.Scripts.{IsScript, RefusedAt}
-use Rattle.fabric_ports.specs.Built.{unbuilt_in}
 use Rattle.fabric_replay.specs.Replaying.{ReplayedWhole, ReplayedUnsent, ReplayedFront}
 use Rattle.rio_chars.specs.declared.chars.Char.{Char}
 use Rattle.rio_cli.specs.Decoding.{SpellsChars, BadWordAt, Decodes, DecodesFront}
@@ -27,62 +26,47 @@ refused_words = codes "refused words\n"
 abbrev pub refused_length : List ℕ
 refused_length = codes "refused length\n"
 
--- The bytes spell a script of which all is built. The text of its trace was written, and every event that a port acted
+-- The bytes spell a script. The text of its trace was written, and every event that a port acted
 -- on was sent.
 pub record Traces (bytes : List ℕ) (written written_after : Option (List ℕ)) : Type 0 where
   pub names : List (List ℕ)
   pub script : List Numbered
   pub spells : IsScript bytes names script
-  pub built : unbuilt_in script ≡ None
   pub replayed : ReplayedWhole names script written written_after
 
--- The bytes spell a script of which all is built. The text of its trace was written, up to the line that names the first
+-- The bytes spell a script. The text of its trace was written, up to the line that names the first
 -- event that a port acted on and that was not sent.
 pub record TracesUnsent (bytes : List ℕ) (written written_after : Option (List ℕ)) : Type 0 where
   pub names : List (List ℕ)
   pub script : List Numbered
   pub spells : IsScript bytes names script
-  pub built : unbuilt_in script ≡ None
   pub line : ℕ
   pub port : PortRef
   pub event : Event
   pub replayed : ReplayedUnsent names script line port event written written_after
 
--- The bytes spell a script of which all is built, and a front of its trace was written.
+-- The bytes spell a script, and a front of its trace was written.
 pub record TracesFront (bytes : List ℕ) (written written_after : Option (List ℕ)) : Type 0 where
   pub names : List (List ℕ)
   pub script : List Numbered
   pub spells : IsScript bytes names script
-  pub built : unbuilt_in script ≡ None
   pub front : ReplayedFront names script written written_after
 
--- the bytes spell a script of which all is built
-abbrev pub SpellsBuilt : List ℕ → Type 0
-SpellsBuilt bytes = (names : List (List ℕ)) × (script : List Numbered) × IsScript bytes names script
-    × (unbuilt_in script ≡ None)
-
--- the bytes spell a script, of which this line is the first that is not built
-abbrev pub SpellsUnbuilt : List ℕ → ℕ → Type 0
-SpellsUnbuilt bytes line = (names : List (List ℕ)) × (script : List Numbered)
-    × IsScript bytes names script × (unbuilt_in script ≡ Some line)
-
--- A script is refused in two ways: the bytes spell none, and this is their first bad line and the
--- least reason that hits it; or they spell one with a line that is not built, and then that is
--- reason 1.
-abbrev pub RefusesScript : List ℕ → ℕ → ℕ → Type 0
-RefusesScript bytes line reason =
-    RefusedAt bytes line reason ⊎ (SpellsUnbuilt bytes line × (reason ≡ 1))
+-- the bytes spell a script
+abbrev pub SpellsScript : List ℕ → Type 0
+SpellsScript bytes =
+    (names : List (List ℕ)) × (script : List Numbered) × IsScript bytes names script
 
 -- ---- what each command makes of an input that was read whole, a row each
 
 -- the input is carried out
 abbrev pub IsAccepted : Command → List ℕ → Type 0
-IsAccepted Replay = SpellsBuilt
+IsAccepted Replay = SpellsScript
 IsAccepted Decode = λ bytes. (chars : List Char) × SpellsChars bytes chars
 
 -- the input is refused, at this line and for this reason
 abbrev pub IsRefused : Command → List ℕ → ℕ → ℕ → Type 0
-IsRefused Replay = RefusesScript
+IsRefused Replay = RefusedAt
 IsRefused Decode = λ bytes line reason. BadWordAt bytes line × (reason ≡ 1)
 
 -- the input is carried out, and all was written that the command writes of it

@@ -17,7 +17,7 @@ pub enum Status {
     WriteFault,
     /// Memory ran out.
     NoMemory,
-    /// A link took up a character that was corrupted and not detected. It never comes yet.
+    /// A port acted on an event that was not sent: a corruption that no check has found.
     Undetected,
     /// The input is too long.
     TooLong,

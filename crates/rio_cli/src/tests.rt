@@ -3,7 +3,7 @@
 ghost use Rattle.std.specs.Prelude.{◌≤◌};
 
 use crate::{Status, rio};
-use fabric_replay::{replay, unbuilt};
+use fabric_replay::replay;
 use fabric_script::parse;
 use rio_chars::{MemSink, MemSource};
 use std::alloc::Global;
@@ -252,7 +252,6 @@ fn a_parsed_script_is_replayed(rt: HostRuntime) -> Result<(), Fail> {
     let Ok(mut sink) = MemSink::new(rt.alloc(), 4096, 16, vec![in rt.alloc(); CALLS]?) else {
         return Err(Fail::from("no memory"));
     };
-    assert!(rt; unbuilt(&script).is_none());
     assert!(rt; replay(rt.alloc(), &script, &mut sink).is_ok());
     assert!(rt; sink.written() == work.wanted.as_slice());
     Ok(())

@@ -13,7 +13,7 @@ use crate::command::{Command, command_of};
 use crate::decode::{DecodeEnd, decode_chars};
 use crate::status::Status;
 use crate::words::{CharsEnd, read_chars};
-use fabric_replay::{ReplayEnd, replay, unbuilt};
+use fabric_replay::{ReplayEnd, replay};
 use fabric_script::{ScriptEnd, parse};
 use rio_chars::{ReadEnd, Sink, Source, read_all, write_all};
 use std::alloc::Global;
@@ -105,7 +105,7 @@ fn run_bytes<K: Sink>(alloc: Global, command: Command, bytes: &[u8], sink: &mut 
     }
 }
 
-/// Replays the script that the bytes spell, if all of it is built.
+/// Replays the script that the bytes spell.
 fn replay_bytes<K: Sink>(alloc: Global, bytes: &[u8], sink: &mut K) -> Answer
     requires { length bytes.now ≤ most_input }
     ensures says { SaysOfBytes Replay result.status bytes.now
@@ -127,14 +127,6 @@ fn replay_bytes<K: Sink>(alloc: Global, bytes: &[u8], sink: &mut K) -> Answer
         }
         Err(ScriptEnd::NoMemory) => return Answer::ended(Status::NoMemory),
     };
-    if let Some(line) = unbuilt(&script) {
-        let refusal = Refusal {
-            command: Command::Replay,
-            line,
-            reason: 1,
-        };
-        return refuse_line(alloc, refusal, sink);
-    }
     match replay(alloc, &script, sink) {
         Ok(()) => Answer::ended(Status::Done),
         Err(ReplayEnd::Undetected { .. }) => Answer::ended(Status::Undetected),

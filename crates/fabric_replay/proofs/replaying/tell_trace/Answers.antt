@@ -11,7 +11,7 @@ event-requires g c =
     let names = c.args.script.now.names.items in
     let script = c.args.script.now.lines.items in
     let is = item_of script _ c.loop-numbered.numbered-index c.numbered-item.result c.deref-numbered-items.ensures.value c.numbered-item.is c.loop-numbered-test.true in
-    let follows = may_follow names script _ c.numbered-item.result c.loop-numbered.invariant.lines c.loop-numbered.fabric c.requires.passes c.requires.built is (sym c.is_event.ensures ∙ c.if-is_event.true) c.loop-numbered.invariant.stands in
+    let follows = may_follow names script _ c.numbered-item.result c.loop-numbered.invariant.lines c.loop-numbered.fabric c.requires.passes is (sym c.is_event.ensures ∙ c.if-is_event.true) c.loop-numbered.invariant.stands in
     record { may = subst (λ n. MayFollow c.loop-numbered.fabric n c.numbered-item.result.line) (sym c.deref.ensures.value) follows }
 
 pub tell_end-requires : goal.tell_end-requires

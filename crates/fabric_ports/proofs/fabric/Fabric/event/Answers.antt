@@ -1,12 +1,15 @@
-use Rattle.std.proofs.Common.{◌++◌, ◌∷◌, [], inl, inr, refl, sym, ap, subst, ◌∙◌}
+use Rattle.std.proofs.Common.{◌++◌, ◌∷◌, [], List, IfOk, IfErr, inl, inr, refl, sym, ap, subst, ◌∙◌}
 use Rattle.rio_chars.specs.Written.{Writes}
 use Rattle.fabric_script.specs.declared.lines.Line.{Line}
-use Rattle.fabric_script.specs.declared.lines.Line.TheVariants.{Move, Collect}
+use Rattle.fabric_script.specs.declared.lines.Line.TheVariants.{Move, Collect, Run}
 use Rattle.fabric_trace.specs.Fold.{edited_by, seen}
-use Rattle.fabric_trace.specs.Lines.{Begun}
+use Rattle.fabric_trace.specs.Lines.{TraceLine, Begun}
 use Rattle.fabric_trace.specs.Runs.{begins}
 use Rattle.fabric_trace.specs.Text.{trace_line_text}
-use Rattle.fabric_ports.specs.Events.{Evented}
+use Rattle.fabric_model.specs.Network.{Network}
+use Rattle.fabric_ports.specs.Events.{Evented, EventEnds}
+use Rattle.fabric_ports.specs.Standing.{Stands}
+use Rattle.fabric_ports.proofs.RoundLaws.{run_done, run_ended}
 use Rattle.fabric_ports.specs.declared.answers.Happened.TheVariants.{Other}
 use Rattle.fabric_trace.proofs.Keeping.{good_by_priority, made_keeps}
 use Rattle.fabric_trace.proofs.Starting.{good_start}
@@ -45,17 +48,44 @@ returns-in-Collect-clause-done g c = λ net lines stands.
 
 pub returns-in_default : goal.returns-in_default
 returns-in_default g c =
-    let link = at_link_is c.args.line.now c.requires.may.event c.requires.may.built
+    let link = at_link_is c.args.line.now c.requires.may.event
     c.in_default.not-Send c.in_default.not-Read c.in_default.not-Write c.in_default.not-Move
-    c.in_default.not-Collect in
+    c.in_default.not-Collect c.in_default.not-Run in
     record {
       done = linked_done c.args.line.now c.args.names.now _ _ _ _ _ c.args.self.now
           c.at_link.new.self
-          c.at_link.result c.other.result (other_happened c.args.line.now link)
-          c.write_begun.ensures c.at_link.ensures.done c.other.ensures;
+          c.at_link.result c.other-in_default.result (other_happened c.args.line.now link)
+          c.write_begun.ensures c.at_link.ensures.done c.other-in_default.ensures;
       ended = linked_ended c.args.line.now c.args.names.now _ _ _ _ _ c.args.self.now
-          c.at_link.result c.other.result c.write_begun.ensures c.at_link.ensures.ended
-          c.other.ensures;
+          c.at_link.result c.other-in_default.result c.write_begun.ensures c.at_link.ensures.ended
+          c.other-in_default.ensures;
+    }
+
+pub returns-in-Run : goal.returns-in-Run
+returns-in-Run g c =
+    let n = c.in-Run.n in
+    let begun = subst
+    (λ (l : Line). Writes g.K.Sink.written g.K.Sink.faults c.args.outbox.now
+    c.write_begun.new.outbox (trace_line_text c.args.names.now (Begun l) ++ 10 ∷ []))
+    c.in-Run.is c.write_begun.ensures in
+    let done = run_done g.K.Sink.written g.K.Sink.faults c.args.names.now c.write_begun.new.outbox
+    c.run.new.outbox n c.args.self.now c.run.new.self c.run.result c.run.ensures.done in
+    let ended = run_ended g.K.Sink.written g.K.Sink.faults c.args.names.now
+    c.write_begun.new.outbox c.run.new.outbox n c.args.self.now c.run.new.self c.run.result
+    c.run.ensures.ended in
+    record {
+      done = subst (λ (l : Line). IfOk c.other.result (λ answer. (net : Network)
+          (lines : List TraceLine) → Stands net lines c.args.self.now → Evented l c.args.names.now
+          g.K.Sink.written g.K.Sink.faults c.args.outbox.now c.run.new.outbox net lines
+          c.run.new.self answer)) (sym c.in-Run.is)
+          (linked_done (Run n) c.args.names.now _ _ _ _ _ c.args.self.now c.run.new.self
+          c.run.result c.other.result (λ block. refl) begun done c.other.ensures);
+      ended = subst (λ (l : Line). IfErr c.other.result (λ end. (net : Network)
+          (lines : List TraceLine) → Stands net lines c.args.self.now → EventEnds l
+          c.args.names.now g.K.Sink.written g.K.Sink.faults c.args.outbox.now c.run.new.outbox net
+          lines end)) (sym c.in-Run.is)
+          (linked_ended (Run n) c.args.names.now _ _ _ _ _ c.args.self.now c.run.result
+          c.other.result begun ended c.other.ensures);
     }
 
 pub returns-in-Send-clause-done : goal.returns-in-Send-clause-done

@@ -1,0 +1,290 @@
+-- A switch that makes one step after another.
+use Rattle.std.proofs.Common.{◌≡◌, ◌≢◌, ℕ, zero, suc, ◌+◌, ◌<◌, ◌≤◌, Bool, true, false, List, [], ◌∷◌, ◌++◌, map, length, Option, Some, None, option_map, slice_get, refl, sym, ap, ◌∙◌, subst, arith, append-nil, append_assoc, length-append}
+use Rattle.std.proofs.lemmas.List.{length-map}
+use Rattle.std.proofs.lemmas.Option.{slice_get-map}
+use Rattle.rio_chars.specs.declared.outbox.Outbox.{Outbox}
+use Rattle.link_port.specs.Ports.{PortState}
+use Rattle.maint_registers.specs.Access.{value_at, written_at}
+use Rattle.maint_registers.specs.Devices.{Device}
+use Rattle.maint_registers.proofs.SameLaws.{written_same}
+use Rattle.maint_packets.specs.Answers.{after_read, after_write, answered_to, answered}
+use Rattle.maint_packets.specs.Requests.{request_of}
+use Rattle.maint_packets.specs.declared.request.Op.{Op}
+use Rattle.maint_packets.specs.declared.request.Op.TheVariants.{Read, Write, BadRead, BadWrite}
+use Rattle.maint_packets.specs.declared.request.Request.{Request}
+use Rattle.switch_core.specs.SwitchSteps.{step_of}
+use Rattle.switch_core.specs.declared.switch.Step as switch
+use Rattle.switch_core.specs.declared.switch.Step.TheVariants.{Moved, Dropped, Answered, Nothing}
+use Rattle.fabric_script.specs.declared.ports.PortRef.{PortRef}
+use Rattle.fabric_model.specs.Network.{Item, Network, in_turn, with_device}
+use Rattle.fabric_model.specs.Serving.{device_after}
+use Rattle.fabric_model.specs.Steps.{DeviceStep, Move, Drop, Answer, ByDevice, after}
+use Rattle.fabric_model.proofs.Devices.{map-with_device}
+use Rattle.fabric_model.proofs.Emptying.{packets_at}
+use Rattle.fabric_trace.specs.Fold.{seen}
+use Rattle.fabric_trace.specs.Known.{Seen, port_at}
+use Rattle.fabric_trace.specs.Lines.{NoStep, TraceLine, Stepped, Lacked}
+use Rattle.fabric_trace.specs.Parts.{Made, Done}
+use Rattle.fabric_trace.specs.Rounds.{ServesAll, Rests, Goes}
+use Rattle.fabric_trace.specs.Runs.{begins}
+use Rattle.fabric_trace.specs.Served.{faces_in, step_lines, IsMove}
+use Rattle.fabric_trace.specs.Views.{lists_in}
+use Rattle.fabric_trace.proofs.Folding.{seen-append}
+use Rattle.fabric_trace.proofs.Keeping.{IsGood}
+use Rattle.fabric_trace.proofs.Making.{made-append}
+use Rattle.fabric_trace.proofs.RoundsEnd.{move_empties}
+use Rattle.fabric_trace.proofs.Running.{move_made}
+use Rattle.fabric_ports.specs.Events.{Did, IsStep}
+use Rattle.fabric_ports.specs.Places.{place_of}
+use Rattle.fabric_ports.specs.Ran.{Kind, Ran, Serves}
+use Rattle.fabric_ports.specs.Showing.{ShowsFabric}
+use Rattle.fabric_ports.specs.Standing.{Stands}
+use Rattle.fabric_ports.specs.declared.fabric.Fabric.{Fabric}
+use Rattle.fabric_ports.proofs.FaceLaws.{port}
+use Rattle.fabric_ports.proofs.RanLaws.{Nothing as NoLines, ran_nothing, ran_as, ran_joined}
+use Rattle.fabric_ports.proofs.SettlingLaws.{good_behind}
+
+-- ---- how many packets the ports of a node hold
+
+abbrev pub packets_in : List (List (List ℕ)) → ℕ
+packets_in [] = 0
+packets_in (packets ∷ lists) = length packets + packets_in lists
+
+abbrev pub held_in : Option PortState → ℕ
+held_in None = 0
+held_in (Some port) = packets_in port.received.lists
+
+abbrev pub held_from : Fabric → ℕ → ℕ → ℕ
+held_from fabric node zero = 0
+held_from fabric node (suc n) =
+    held_in (slice_get fabric.ports.items (place_of fabric.firsts.items (port node n)))
+    + held_from fabric node n
+
+abbrev pub ports_in : Option Device → ℕ
+ports_in None = 0
+ports_in (Some device) = device.ports
+
+abbrev pub held_by : Fabric → ℕ → ℕ
+held_by fabric node = held_from fabric node (ports_in (slice_get fabric.devices.items node))
+
+held_lanes : (lanes : ℕ → List Item) → packets_in (lists_in lanes) ≡ length (in_turn lanes)
+held_lanes lanes =
+    let zeroth = length-map (lanes 0) (λ (item : Item). item.now) in
+    let first = length-map (lanes 1) (λ (item : Item). item.now) in
+    let second = length-map (lanes 2) (λ (item : Item). item.now) in
+    let third = length-map (lanes 3) (λ (item : Item). item.now) in
+    let low = length-append (lanes 1) (lanes 0) in
+    let mid = length-append (lanes 2) (lanes 1 ++ lanes 0) in
+    let high = length-append (lanes 3) (lanes 2 ++ (lanes 1 ++ lanes 0)) in
+    omega (arith, zeroth, first, second, third, low, mid, high)
+
+held_is : (fabric : Fabric) (s : Seen) (node n : ℕ) (device : Device) → ShowsFabric fabric s
+    → slice_get fabric.devices.items node ≡ Some device → n ≤ device.ports
+    → held_from fabric node n ≡ packets_at s.network.received node n
+held_is fabric s node zero device shows stands within = refl
+held_is fabric s node (suc n) device shows stands within =
+    let below : n < device.ports = omega (arith, within) in
+    let here : held_in (slice_get fabric.ports.items (place_of fabric.firsts.items (port node n)))
+    ≡ length (in_turn (s.network.received (port node n))) =
+    ap held_in (shows.ports (port node n) (rw stands below))
+    ∙ held_lanes (s.network.received (port node n)) in
+    let rest = held_is fabric s node n device shows stands (omega (arith, within)) in
+    λ i. here i + rest i
+
+-- ---- a device keeps its ports
+
+write_ports : (device : Device) (request : Request) (offset value : ℕ)
+    → (after_write device request (written_at device offset value)).device.ports ≡ device.ports
+write_ports device request offset value = go (written_at device offset value) refl
+  where
+    go : (next : Option Device) → written_at device offset value ≡ next
+        → (after_write device request next).device.ports ≡ device.ports
+    go None is = refl
+    go (Some next) is = (written_same device next offset value is).ports
+
+read_ports : (device : Device) (request : Request) (o : Option ℕ)
+    → (after_read device request o).device.ports ≡ device.ports
+read_ports device request None = refl
+read_ports device request (Some value) = refl
+
+answer_ports : (device : Device) (request : Request) (at : ℕ)
+    → (answered device request at).device.ports ≡ device.ports
+answer_ports device request at = by_op request.op
+  where
+    by_op : (op : Op) → (answered_to device request at op).device.ports ≡ device.ports
+    by_op Read = read_ports device request (value_at device request.offset at)
+    by_op (Write value) = write_ports device request request.offset value
+    by_op BadRead = refl
+    by_op BadWrite = refl
+
+device_ports : (at : ℕ) (request : Option Request) (device : Device)
+    → (device_after at request device).ports ≡ device.ports
+device_ports at None device = refl
+device_ports at (Some request) device = answer_ports device request at
+
+abbrev count_ports : Device → ℕ
+count_ports device = device.ports
+
+ports_stay : (net : Network) (step : DeviceStep) (n : ℕ)
+    → option_map count_ports (slice_get (after net (ByDevice step)).registers n)
+    ≡ option_map count_ports (slice_get net.registers n)
+ports_stay net (Move p q packet) n = refl
+ports_stay net (Drop p packet) n = refl
+ports_stay net (Answer p packet response) n =
+    let change = device_after p.port (request_of packet) in
+    sym (slice_get-map count_ports (with_device net.registers p.node change) n)
+    ∙ ap (λ (l : List ℕ). slice_get l n)
+    (map-with_device count_ports net.registers p.node change
+    (device_ports p.port (request_of packet)))
+    ∙ slice_get-map count_ports net.registers n
+
+counted : (o : Option Device) (n : ℕ) → option_map count_ports o ≡ Some n
+    → (device : Device) × (o ≡ Some device) × (device.ports ≡ n)
+counted None n is = absurd cc
+counted (Some device) n is = (device, refl, cc)
+
+-- ---- a step leaves fewer
+
+-- the lines of a step that was made
+one_step : (node : ℕ) (made : switch.Step) (block : List TraceLine) → block ≡ step_lines node made
+    → block ≢ Lacked NoStep ∷ []
+    → (step : DeviceStep) × (block ≡ Stepped (ByDevice step) ∷ [])
+one_step node (Moved from to packet) block is other =
+    (Move (port node from) (port node to) packet, is)
+one_step node (Dropped from packet) block is other = (Drop (port node from) packet, is)
+one_step node (Answered at request response) block is other =
+    (Answer (port node at) request response, is)
+one_step node Nothing block is other = absurd (other is)
+
+pub held_fewer : (s : Seen) (old new : Fabric) (node : ℕ) (block : List TraceLine) → IsGood s
+    → ShowsFabric old s → ShowsFabric new (seen s block) → IsMove s.network node block
+    → block ≢ Lacked NoStep ∷ [] → held_by new node < held_by old node
+held_fewer s old new node block good shows later move other =
+    let own = one_step node (step_of move.device (faces_in s.network node move.device)) block
+    move.lines other in
+    let step = own.0 in
+    let moved = subst (IsMove s.network node) own.1 move in
+    let next = subst (λ (b : List TraceLine). ShowsFabric new (seen s b)) own.1 later in
+    let device = moved.device in
+    let same : device.ports ≤ device.ports = omega arith in
+    let fewer = move_empties s node device.ports step good moved same in
+    let here : slice_get old.devices.items node ≡ Some device =
+    ap (λ (l : List Device). slice_get l node) (sym shows.registers) ∙ moved.stands in
+    let there = counted (slice_get new.devices.items node) device.ports
+    (ap (λ (l : List Device). option_map count_ports (slice_get l node)) (sym next.registers)
+    ∙ ports_stay s.network step node ∙ ap (option_map count_ports) moved.stands) in
+    let before : held_by old node ≡ packets_at s.network.received node device.ports =
+    ap (λ (o : Option Device). held_from old node (ports_in o)) here
+    ∙ held_is old s node device.ports device shows here same in
+    let after_it : held_by new node
+    ≡ packets_at (after s.network (ByDevice step)).received node device.ports =
+    ap (λ (o : Option Device). held_from new node (ports_in o)) there.1
+    ∙ held_is new (seen s (Stepped (ByDevice step) ∷ [])) node there.0.ports there.0 next there.1
+    (omega arith)
+    ∙ ap (λ n. packets_at (after s.network (ByDevice step)).received node n) there.2 in
+    omega (arith, fewer, before, after_it)
+
+-- ---- steps, of which the last need not be the last of all
+
+-- if the rest of a switch's steps stand behind, they are all its steps
+abbrev pub ServesFirst : ℕ → Kind
+ServesFirst node s block = (rest : List TraceLine) → ServesAll (seen s block) node rest
+    → ServesAll s node (block ++ rest)
+
+-- a step that was made
+abbrev pub One : ℕ → Kind
+One node s block = IsMove s.network node block × (block ≢ Lacked NoStep ∷ [])
+
+-- no step can be made
+abbrev pub Last : ℕ → Kind
+Last node s block = IsMove s.network node (Lacked NoStep ∷ []) × (block ≡ [])
+
+first_begins : (node : ℕ) (s : Seen) (block : List TraceLine) → NoLines s block
+    → ServesFirst node s block
+first_begins node s block none =
+    subst (λ (b : List TraceLine). ServesFirst node s b) (sym none) (λ rest own. own)
+
+first_more : (node : ℕ) (s : Seen) (first second : List TraceLine) → ServesFirst node s first
+    → One node (seen s first) second → ServesFirst node s (first ++ second)
+first_more node s first second own one = λ rest more.
+    let t = seen s first in
+    let move = one.0 in
+    let made = one_step node (step_of move.device (faces_in t.network node move.device)) second
+    move.lines one.1 in
+    let behind : ServesAll (seen t (Stepped (ByDevice made.0) ∷ [])) node rest =
+    subst (λ (b : List TraceLine). ServesAll (seen t b) node rest) made.1
+    (subst (λ (u : Seen). ServesAll u node rest) (seen-append s first second) more) in
+    let goes : ServesAll t node (second ++ rest) =
+    Goes made.0 rest (subst (IsMove t.network node) made.1 move)
+    (ap (λ (l : List TraceLine). l ++ rest) made.1) behind in
+    subst (ServesAll s node) (sym (append_assoc first second rest)) (own (second ++ rest) goes)
+
+all_served : (node : ℕ) (s : Seen) (first second : List TraceLine) → ServesFirst node s first
+    → Last node (seen s first) second → Serves node s (first ++ second)
+all_served node s first second own last =
+    own second (Rests last.0 last.1)
+
+-- ---- what was written
+
+module _ {K : Type 0} (written : K → Option (List ℕ)) (faults : K → ℕ) (names : List (List ℕ)) where
+  did_ran : (Is : List TraceLine → Type 0) (Q : Kind) (b c : Outbox K) (net : Network)
+      (lines : List TraceLine) (mid new : Fabric) → Stands net lines mid
+      → ((block : List TraceLine) → Is block → Q (seen (begins net) lines) block
+      × Made (seen (begins net) lines) block)
+      → Did Is names written faults b c (seen (begins net) lines) new
+      → Ran Q names written faults b c net lines new
+  did_ran Is Q b c net lines mid new stands gives did =
+      let own = gives did.block did.is in
+      let joined = seen-append (begins net) lines did.block in
+      record {
+        block = did.block;
+        prints = did.prints;
+        is = own.0;
+        stands = record {
+          set_up = stands.set_up;
+          made = made-append stands.made own.1;
+          sent = ap (λ (t : Seen). t.unfaithful) joined ∙ did.sent;
+          shows = subst (ShowsFabric new) (sym joined) did.shows;
+        };
+      }
+
+  pub serves_begin : (a : Outbox K) (net : Network) (lines : List TraceLine) (fabric : Fabric)
+      (node : ℕ) → Stands net lines fabric
+      → Ran (ServesFirst node) names written faults a a net lines fabric
+  serves_begin a net lines fabric node stands =
+      ran_as written faults names NoLines (ServesFirst node) a a net lines fabric
+      (λ block none. first_begins node (seen (begins net) lines) block none)
+      (ran_nothing written faults names a net lines fabric stands)
+
+  pub serves_more : (a b c : Outbox K) (net : Network) (lines : List TraceLine) (mid new : Fabric)
+      (node : ℕ) (result : Bool) → result ≡ true
+      → (first : Ran (ServesFirst node) names written faults a b net lines mid)
+      → Did (IsStep (seen (begins net) (lines ++ first.block)).network node result) names written
+      faults b c (seen (begins net) (lines ++ first.block)) new
+      → Ran (ServesFirst node) names written faults a c net lines new
+  serves_more a b c net lines mid new node result told first did =
+      let s = seen (begins net) (lines ++ first.block) in
+      let good = good_behind first.stands.set_up first.stands.made in
+      ran_joined written faults names (ServesFirst node) (One node) (ServesFirst node) a b c net
+      lines mid new
+      (λ x y own still one. first_more node (seen (begins net) lines) x y own one) first
+      (did_ran (IsStep s.network node result) (One node) b c net (lines ++ first.block) mid new
+      first.stands
+      (λ block is. (let own = subst (λ r. IsStep s.network node r block) told is in
+      (own, move_made s node block good own.0))) did)
+
+  pub serves_end : (a b c : Outbox K) (net : Network) (lines : List TraceLine) (mid new : Fabric)
+      (node : ℕ) (result : Bool) → result ≡ false
+      → (first : Ran (ServesFirst node) names written faults a b net lines mid)
+      → Did (IsStep (seen (begins net) (lines ++ first.block)).network node result) names written
+      faults b c (seen (begins net) (lines ++ first.block)) new
+      → Ran (Serves node) names written faults a c net lines new
+  serves_end a b c net lines mid new node result told first did =
+      let s = seen (begins net) (lines ++ first.block) in
+      ran_joined written faults names (ServesFirst node) (Last node) (Serves node) a b c net lines
+      mid new
+      (λ x y own still last. all_served node (seen (begins net) lines) x y own last) first
+      (did_ran (IsStep s.network node result) (Last node) b c net (lines ++ first.block) mid new
+      first.stands
+      (λ block is. (let own = subst (λ r. IsStep s.network node r block) told is in
+      (own, Done own.1))) did)

@@ -1,0 +1,72 @@
+use Rattle.std.proofs.Common.{◌≡◌, ◌≤◌, ◌++◌, List, length, arith}
+use Rattle.fabric_model.specs.Network.{Network}
+use Rattle.fabric_trace.specs.Blocks.{IsSettle}
+use Rattle.fabric_trace.specs.Lines.{TraceLine}
+use Rattle.fabric_trace.specs.Rounds.{Rounds}
+use Rattle.fabric_ports.specs.Ran.{RanEnds}
+use Rattle.fabric_ports.specs.Standing.{Stands}
+use Rattle.fabric_ports.proofs.RanLaws.{handed_on, ran_nothing}
+use Rattle.fabric_ports.proofs.RoundLaws.{ran_more, ran_short, ran_all}
+use Rattle.fabric_ports.proofs.SettlingLaws.{devices_stay}
+use Rattle.fabric_ports.proofs.fabric.Fabric.run.Goals as goal
+
+pub loop-init : goal.loop-init
+loop-init g c = λ net lines stands.
+    ran_nothing g.K.Sink.written g.K.Sink.faults c.args.names.now c.args.outbox.now net lines
+    c.args.self.now stands
+
+pub settle_all-requires-clause-stands : goal.settle_all-requires-clause-stands
+settle_all-requires-clause-stands g c =
+    let known = c.requires.stands in
+    let ran = c.loop.invariant known.0 known.1 known.2 in
+    (known.0, known.1 ++ ran.block, ran.stands)
+
+pub settle_all-requires-clause-named : goal.settle_all-requires-clause-named
+settle_all-requires-clause-named g c =
+    let known = c.requires.stands in
+    let same = devices_stay known.2 (c.loop.invariant known.0 known.1 known.2).stands in
+    let named = c.requires.named in
+    omega (arith, same, named)
+
+pub returns-in_err-settle_all-clause-ended : goal.returns-in_err-settle_all-clause-ended
+returns-in_err-settle_all-clause-ended g c =
+    handed_on c.from_residual.result c.in_err-settle_all.field-0.0
+    (λ end. (net : Network) (lines : List TraceLine) → Stands net lines c.args.self.now
+    → RanEnds (Rounds IsSettle c.args.rounds) c.args.names.now g.K.Sink.written g.K.Sink.faults
+    c.args.outbox.now c.settle_all.new.outbox net lines end)
+    c.from_residual.ensures.1
+    (λ net lines stands.
+    ran_short g.K.Sink.written g.K.Sink.faults c.args.names.now c.args.outbox.now c.loop.outbox
+    c.settle_all.new.outbox net lines c.args.self.now c.loop.self c.loop.counter c.args.rounds
+    c.in_err-settle_all.field-0.0 c.loop-test.true stands (c.loop.invariant net lines stands)
+    (c.in_err-settle_all.ensures.ended net))
+
+pub serve_all-requires-clause-stands : goal.serve_all-requires-clause-stands
+serve_all-requires-clause-stands g c =
+    let known = c.requires.stands in
+    let ran = c.loop.invariant known.0 known.1 known.2 in
+    let settled = c.in_ok-settle_all.ensures.done known.0 (known.1 ++ ran.block) ran.stands in
+    (known.0, (known.1 ++ ran.block) ++ settled.block, settled.stands)
+
+pub serve_all-requires-clause-named : goal.serve_all-requires-clause-named
+serve_all-requires-clause-named g c =
+    let known = c.requires.stands in
+    let ran = c.loop.invariant known.0 known.1 known.2 in
+    let settled = c.in_ok-settle_all.ensures.done known.0 (known.1 ++ ran.block) ran.stands in
+    let same = devices_stay known.2 settled.stands in
+    let named = c.requires.named in
+    omega (arith, same, named)
+
+pub loop-preserved : goal.loop-preserved
+loop-preserved g c = λ net lines stands.
+    ran_more g.K.Sink.written g.K.Sink.faults c.args.names.now c.args.outbox.now c.loop.outbox
+    c.settle_all.new.outbox c.serve_all.new.outbox net lines c.args.self.now c.loop.self
+    c.settle_all.new.self c.serve_all.new.self c.loop.counter stands
+    (c.loop.invariant net lines stands) (c.in_ok-settle_all.ensures.done net)
+    (c.serve_all.ensures net)
+
+pub returns-clause-done : goal.returns-clause-done
+returns-clause-done g c = λ net lines stands.
+    ran_all g.K.Sink.written g.K.Sink.faults c.args.names.now c.args.outbox.now c.loop.outbox net
+    lines c.loop.self c.loop.counter c.args.rounds (omega arith)
+    (c.loop.invariant net lines stands)

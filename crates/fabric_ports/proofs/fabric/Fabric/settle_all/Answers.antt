@@ -1,0 +1,93 @@
+use Rattle.std.proofs.Common.{◌≡◌, ◌<◌, ◌≤◌, ◌++◌, List, length, take, rules, arith, vec_len, sym, ap, ◌∙◌}
+use Rattle.std.proofs.lemmas.List.{take_all, length-map}
+use Rattle.fabric_model.specs.Network.{Network}
+use Rattle.fabric_trace.specs.Lines.{TraceLine}
+use Rattle.fabric_ports.specs.Ran.{RanEnds, LinksSettle}
+use Rattle.fabric_ports.specs.Showing.{ends_of}
+use Rattle.fabric_ports.specs.Standing.{Stands}
+use Rattle.fabric_ports.proofs.EndLaws.{links_stand}
+use Rattle.fabric_ports.proofs.RanLaws.{handed_on}
+use Rattle.fabric_ports.proofs.SettlingLaws.{devices_stay, cables_stay, next_link, is_linked, settled_more, settled_short, settled_all}
+use Rattle.fabric_ports.proofs.fabric.Fabric.settle_all.Goals as goal
+
+pub index-requires : goal.index-requires
+index-requires g c =
+    let known = c.requires.stands in
+    let same = cables_stay known.2 (c.loop-place.invariant known.0 known.1 known.2).stands in
+    let end = c.len-place-end.ensures in
+    let test = c.loop-place-test.true in
+    let counted : vec_len c.args.self.now.cables ≡ length c.args.self.now.cables.items =
+    search rules in
+    let here : c.loop-place.place < length c.loop-place.self.cables.items =
+    omega (arith, same, end, test, counted) in
+    search rules
+
+pub act-requires-clause-linked : goal.act-requires-clause-linked
+act-requires-clause-linked g c =
+    let known = c.requires.stands in
+    let ran = c.loop-place.invariant known.0 known.1 known.2 in
+    let same = cables_stay known.2 ran.stands in
+    let end = c.len-place-end.ensures in
+    let test = c.loop-place-test.true in
+    let counted : vec_len c.args.self.now.cables ≡ length c.args.self.now.cables.items =
+    search rules in
+    is_linked c.loop-place.place (ends_of c.index.result.now) ran.stands
+    (next_link c.loop-place.place c.index.result.now ran.stands c.index.ensures
+    (omega (arith, same, end, test, counted)))
+
+pub act-requires-clause-named : goal.act-requires-clause-named
+act-requires-clause-named g c =
+    let known = c.requires.stands in
+    let same = devices_stay known.2 (c.loop-place.invariant known.0 known.1 known.2).stands in
+    let named = c.requires.named in
+    omega (arith, same, named)
+
+pub returns-in_err-act-clause-ended : goal.returns-in_err-act-clause-ended
+returns-in_err-act-clause-ended g c =
+    handed_on c.from_residual.result c.in_err-act.field-0.0
+    (λ end. (net : Network) (lines : List TraceLine) → Stands net lines c.args.self.now
+    → RanEnds LinksSettle c.args.names.now g.K.Sink.written g.K.Sink.faults c.args.outbox.now
+    c.act.new.outbox net lines end)
+    c.from_residual.ensures.1
+    (λ net lines stands.
+    (let ran = c.loop-place.invariant net lines stands in
+    let same = cables_stay stands ran.stands in
+    let end = c.len-place-end.ensures in
+    let test = c.loop-place-test.true in
+    let counted : vec_len c.args.self.now.cables ≡ length c.args.self.now.cables.items =
+    search rules in
+    settled_short g.K.Sink.written g.K.Sink.faults c.args.names.now c.args.outbox.now
+    c.loop-place.outbox c.act.new.outbox net lines c.args.self.now c.loop-place.self
+    c.loop-place.place (ends_of c.index.result.now) c.in_err-act.field-0.0 stands
+    (next_link c.loop-place.place c.index.result.now ran.stands c.index.ensures
+    (omega (arith, same, end, test, counted))) ran
+    (c.in_err-act.ensures.ended net (lines ++ ran.block) ran.stands)))
+
+pub loop-place-preserved : goal.loop-place-preserved
+loop-place-preserved g c = λ net lines stands.
+    let ran = c.loop-place.invariant net lines stands in
+    let same = cables_stay stands ran.stands in
+    let end = c.len-place-end.ensures in
+    let test = c.loop-place-test.true in
+    let counted : vec_len c.args.self.now.cables ≡ length c.args.self.now.cables.items =
+    search rules in
+    settled_more g.K.Sink.written g.K.Sink.faults c.args.names.now c.args.outbox.now
+    c.loop-place.outbox c.act.new.outbox net lines c.args.self.now c.loop-place.self c.act.new.self
+    c.loop-place.place (ends_of c.index.result.now) stands
+    (next_link c.loop-place.place c.index.result.now ran.stands c.index.ensures
+    (omega (arith, same, end, test, counted))) ran
+    (c.in_ok-act.ensures.done net (lines ++ ran.block) ran.stands)
+
+pub returns-clause-done : goal.returns-clause-done
+returns-clause-done g c = λ net lines stands.
+    let end = c.len-place-end.ensures in
+    let test = c.loop-place-test.false in
+    let counted : vec_len c.args.self.now.cables ≡ length c.args.self.now.cables.items =
+    search rules in
+    let many : length net.links ≡ length c.args.self.now.cables.items =
+    sym (ap (λ l. length l) (links_stand stands))
+    ∙ length-map c.args.self.now.cables.items ends_of in
+    settled_all g.K.Sink.written g.K.Sink.faults c.args.names.now c.args.outbox.now
+    c.loop-place.outbox net lines c.loop-place.self (take c.loop-place.place net.links)
+    (take_all c.loop-place.place net.links (omega (arith, end, test, counted, many)))
+    (c.loop-place.invariant net lines stands)

@@ -1,0 +1,95 @@
+//! Rounds: what `run` has a fabric do.
+ghost use Rattle.std.specs.Prelude.{◌≡◌, ◌≤◌, ◌<◌, List, length, OnOk, IfErr};
+ghost use Rattle.fabric_model.specs.Network.{Network};
+ghost use Rattle.fabric_trace.specs.Blocks.{IsSettle};
+ghost use Rattle.fabric_trace.specs.Lines.{TraceLine};
+ghost use Rattle.fabric_trace.specs.Rounds.{Rounds};
+ghost use Rattle.fabric_ports.specs.Places.{IsSwitchAt};
+ghost use Rattle.fabric_ports.specs.Ran.{Ran, RanEnds, LinksSettle, SwitchesServe, Serves};
+ghost use Rattle.fabric_ports.specs.Standing.{Stands};
+
+use crate::actions::Action;
+use crate::answers::EventEnd;
+use crate::fabric::Fabric;
+use fabric_script::Name;
+use rio_chars::{Outbox, Sink};
+use std::alloc::Global;
+
+impl Fabric {
+    /// Makes so many rounds. In each, every link settles in order, and then every switch in order
+    /// makes steps until no packet of it can go.
+    pub(crate) fn run<K: Sink>(
+        &mut self,
+        alloc: Global,
+        names: &[Name],
+        rounds: u32,
+        outbox: &mut Outbox<K>,
+    ) -> Result<(), EventEnd>
+        requires stands { (net : Network) × (lines : List TraceLine) × Stands net lines self.old }
+        requires named { length self.old.devices.items ≤ length names.now }
+        requires few { length names.now ≤ 256 }
+        ensures done { OnOk result ((net : Network) (lines : List TraceLine)
+            → Stands net lines self.old → Ran (Rounds IsSettle rounds) names.now
+            K.written K.faults outbox.old outbox.new net lines self.new) }
+        ensures ended { IfErr result (λ end. (net : Network) (lines : List TraceLine)
+            → Stands net lines self.old → RanEnds (Rounds IsSettle rounds) names.now
+            K.written K.faults outbox.old outbox.new net lines end) }
+    {
+        for _ in 0..rounds {
+            self.settle_all(alloc, names, outbox)?;
+            self.serve_all(names, outbox);
+        }
+        Ok(())
+    }
+
+    /// Every link settles, in the order of the links.
+    fn settle_all<K: Sink>(
+        &mut self,
+        alloc: Global,
+        names: &[Name],
+        outbox: &mut Outbox<K>,
+    ) -> Result<(), EventEnd>
+        requires stands { (net : Network) × (lines : List TraceLine) × Stands net lines self.old }
+        requires named { length self.old.devices.items ≤ length names.now }
+        ensures done { OnOk result ((net : Network) (lines : List TraceLine)
+            → Stands net lines self.old → Ran LinksSettle names.now
+            K.written K.faults outbox.old outbox.new net lines self.new) }
+        ensures ended { IfErr result (λ end. (net : Network) (lines : List TraceLine)
+            → Stands net lines self.old → RanEnds LinksSettle names.now
+            K.written K.faults outbox.old outbox.new net lines end) }
+    {
+        for place in 0..self.cables.len() {
+            let port = self.cables[place].a;
+            self.act(alloc, names, port, Action::Settle, outbox)?;
+        }
+        Ok(())
+    }
+
+    /// Every switch makes steps until no packet of it can go, in the order of the devices.
+    fn serve_all<K: Sink>(&mut self, names: &[Name], outbox: &mut Outbox<K>)
+        requires stands { (net : Network) × (lines : List TraceLine) × Stands net lines self.old }
+        requires named { length self.old.devices.items ≤ length names.now }
+        requires few { length names.now ≤ 256 }
+        ensures { (net : Network) (lines : List TraceLine) → Stands net lines self.old
+            → Ran SwitchesServe names.now K.written K.faults outbox.old outbox.new net lines
+            self.new }
+    {
+        for node in 0..self.devices.len() {
+            if self.devices[node].is_switch() {
+                self.serve(names, node as u8, outbox);
+            }
+        }
+    }
+
+    /// A switch makes steps until no packet of it can go. Each step takes a received packet away.
+    fn serve<K: Sink>(&mut self, names: &[Name], node: u8, outbox: &mut Outbox<K>)
+        requires stands { (net : Network) × (lines : List TraceLine) × Stands net lines self.old }
+        requires named { node < length names.now }
+        requires switch { IsSwitchAt self.old.devices.items node }
+        ensures { (net : Network) (lines : List TraceLine) → Stands net lines self.old
+            → Ran (Serves node) names.now K.written K.faults outbox.old outbox.new net lines
+            self.new }
+    {
+        while self.step(names, node, outbox) {}
+    }
+}
