@@ -12,7 +12,7 @@ use Rattle.rio_cli.specs.declared.status.Status.TheVariants.{Done, Words, Script
 abbrev pub script_reasons : List (List ℕ)
 script_reasons =
     codes "this line is refused"
-    ∷ codes "this line has none of the forms that are carried out"
+    ∷ codes "no kind of line has this form"
     ∷ codes "a number is misspelled or out of range"
     ∷ codes "a name is misspelled"
     ∷ codes "a node of an earlier line has this name"

@@ -64,7 +64,7 @@ fn script_reason(reason: u8) -> &'static [u8]
     ensures { result.now ≡ reason_text_of Command.Replay reason }
 {
     match reason {
-        1 => b"this line has none of the forms that are carried out",
+        1 => b"no kind of line has this form",
         2 => b"a number is misspelled or out of range",
         3 => b"a name is misspelled",
         4 => b"a node of an earlier line has this name",
