@@ -3,3 +3,4 @@ pub mod Flowing
 pub mod Turning
 pub mod Machine
 pub mod Serving
+pub mod Ways

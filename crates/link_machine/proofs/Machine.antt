@@ -36,7 +36,7 @@ round_keeps s l = record {
   sound = exchanged s.a s.b s.wire_a.kept s.wire_b.kept l.sound;
 }
 
-from_end_keeps : (side : Side) (s : LinkState) → IsSoundLink s → IsSoundLink (from_end side s)
+pub from_end_keeps : (side : Side) (s : LinkState) → IsSoundLink s → IsSoundLink (from_end side s)
 from_end_keeps A s l = l
 from_end_keeps B s l = round_keeps s l
 

@@ -1,5 +1,6 @@
 pub mod States
 pub mod Calls
+pub mod OnTheWay
 pub mod Sound
 pub mod Queues
 pub mod Layer

@@ -10,6 +10,7 @@ ghost use Rattle.link_wires.specs.Deliveries.{undetected};
 ghost use Rattle.link_wires.specs.declared.edits.Edit.{Edit};
 ghost use Rattle.link_machine.specs.Calls.{pumped, delivery_from, delivered_from, delivery_notes, edited_from, timed_out_at};
 ghost use Rattle.link_machine.specs.Layer.{IsServed, with_port};
+ghost use Rattle.link_machine.specs.OnTheWay.{reached_within};
 ghost use Rattle.link_machine.specs.Queues.{Queues, queues_of, Walks, steps_of};
 ghost use Rattle.link_machine.specs.Runs.{IsRun};
 ghost use Rattle.link_machine.specs.Sound.{IsSoundLink};
@@ -85,4 +86,11 @@ pub fn nothing_else_moves()
 pub fn no_sender_fails()
     ensures { (s : LinkState) → IsSoundLink s → (s.a.output ≢ out.Output.Failed)
         × (s.b.output ≢ out.Output.Failed) }
+{}
+
+/// Nor does one fail within a delivery to a port of a sound link, after any of its events, also if
+/// it ends with an event that was not sent. That event itself is not counted.
+pub fn no_sender_fails_within_a_delivery()
+    ensures { (from : Side) (count events : ℕ) (s : LinkState) → IsSoundLink s
+        → (reached_within from count events s).output ≢ out.Output.Failed }
 {}

@@ -31,6 +31,14 @@ completed_events (completed.Packet ack symbol) packet = Pkt ack packet ∷ Ctl s
 completed_events (completed.NoPacket cause symbol) packet = Bad cause ∷ Ctl symbol ∷ []
 completed_events (completed.Bad cause) packet = Bad cause ∷ []
 
+-- what the slot holds after events of one character: the packet, if one was completed, or what it
+-- held before
+abbrev pub slot_after : List Event → List ℕ → List ℕ
+slot_after [] packet = packet
+slot_after (Ctl symbol ∷ events) packet = packet
+slot_after (Pkt ack came ∷ events) packet = came
+slot_after (Bad cause ∷ events) packet = packet
+
 -- where a packet ended, the framer has its event
 abbrev pub HasEnded : Told → Option Event → Type 0
 HasEnded told.Nothing ended = Unit {0}

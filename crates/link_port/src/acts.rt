@@ -1,5 +1,5 @@
 //! Events in a port.
-ghost use Rattle.std.specs.Prelude.{◌≡◌, ◌++◌, [], false, IfSome};
+ghost use Rattle.std.specs.Prelude.{◌≡◌, ◌++◌, [], false, IfSome, is_some};
 ghost use Rattle.rio_framer.specs.Giving.{listed, IsPaired};
 ghost use Rattle.link_port.specs.Steps.{acts, acts_all, acts_symbol, acts_packet, acts_bad, is_acted, first_acted, after_hearing, acknowledged, obeyed};
 ghost use Rattle.link_port.specs.Acts.{acts_first, acts_second, held_of, held_by, is_first_acted};
@@ -46,6 +46,7 @@ impl Port {
         requires empty { freed.old.items ≡ [] }
         ensures state { self.new ≡ (acts self.old event.now).port }
         ensures held { held_of event.now result.held ≡ (acts self.old event.now).held }
+        ensures accepted { result.held ≡ is_some (acts self.old event.now).held }
         ensures reply { result.reply ≡ (acts self.old event.now).reply }
         ensures freed { freed.new.items ≡ (acts self.old event.now).freed }
         ensures port { IsPort self.new }
@@ -184,6 +185,7 @@ impl Port {
         ensures state { self.new ≡ (acts_packet self.old ack packet.now).port }
         ensures held { held_of (Pkt ack packet.now) result.held
             ≡ (acts_packet self.old ack packet.now).held }
+        ensures accepted { result.held ≡ is_some (acts_packet self.old ack packet.now).held }
         ensures reply { result.reply ≡ (acts_packet self.old ack packet.now).reply }
     {
         // The half is moved out and led on; the placeholder is never read.

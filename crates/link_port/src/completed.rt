@@ -1,7 +1,7 @@
 //! What a run of characters completed.
 ghost use Rattle.std.specs.Prelude.{◌≡◌};
 ghost use Rattle.rio_framer.specs.Giving.{listed, events_by};
-ghost use Rattle.link_port.specs.Runs.{completed_events, HasEnded};
+ghost use Rattle.link_port.specs.Runs.{completed_events, slot_after, HasEnded};
 
 use rio_framer::{Framer, Told};
 use rio_packets::{Cause, Packet};
@@ -26,8 +26,9 @@ pub enum Completed {
 /// What a framer told, with the packet that ended, if one did, in the slot.
 pub(crate) fn complete(framer: &Framer, told: Told, packet: &mut Packet) -> Completed
     requires ended { HasEnded told framer.now.ended }
-    ensures { completed_events result packet.new
+    ensures events { completed_events result packet.new
         ≡ listed (events_by told framer.now.ended).first (events_by told framer.now.ended).second }
+    ensures slot { packet.new ≡ slot_after (completed_events result packet.new) packet.old }
 {
     match told {
         Told::Nothing => Completed::Nothing,

@@ -6,7 +6,7 @@ ghost use Rattle.link_port.specs.States.{prios_of, has_asked};
 ghost use Rattle.link_port.specs.Halves.{out_kind_of, in_kind_of};
 ghost use Rattle.link_port.specs.Ports.{AreAlike, IsPort, new_port};
 ghost use Rattle.link_port.specs.Steps.{read, takes, first_acted};
-ghost use Rattle.link_port.specs.Runs.{front_of, after_front, takes_run, completed_events};
+ghost use Rattle.link_port.specs.Runs.{front_of, after_front, takes_run, completed_events, slot_after};
 ghost use Rattle.link_port.specs.Turns.{turns_to, turn_sends, timed_out, waiting_in};
 ghost use Rattle.rio_framer.specs.Giving.{listed, IsPaired};
 
@@ -127,12 +127,15 @@ impl Port {
 
     /// Reads characters up to and with the first that completes an event, or all where none does,
     /// and answers their number and what they complete, of which nothing is done yet: [`Port::act`]
-    /// and the like do it. A packet that was completed is put into the slot.
+    /// and the like do it. A packet that was completed is put into the slot. Otherwise the slot
+    /// stays as it was.
     pub fn read(&mut self, chars: &[Char], packet: &mut Packet) -> (usize, Completed)
         ensures count { result.0 ≡ (front_of self.old chars.now).count }
         ensures state { self.new ≡ after_front self.old chars.now }
         ensures events { completed_events result.1 packet.new
             ≡ (front_of self.old chars.now).step.gives }
+        ensures slot { packet.new
+            ≡ slot_after (front_of self.old chars.now).step.gives packet.old }
         ensures within { result.0 ≤ length chars.now }
         ensures some { 0 < length chars.now → 0 < result.0 }
         ensures port { IsPort self.new }

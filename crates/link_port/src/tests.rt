@@ -142,68 +142,54 @@ fn after_symbol(
     Some((output(&port), port.in_kind(), parts(&reply)))
 }
 
-/// Each stype0 with each stype1, link-requests with cmd 3 and 4, in each state of the output half
-/// beside each of the input half.
+/// The state of the output half after a symbol with this stype0 and ackID 0, and whether it has
+/// asked.
+fn wanted_output(before: OutState, s0: u8) -> (OutKind, bool) {
+    match (before, s0) {
+        (OutState::Failed, _) => (OutKind::Failed, false),
+        (OutState::Asked, 6) => (OutKind::Ok, false),
+        (OutState::Asked, _) => (OutKind::ErrorStopped, true),
+        (OutState::ErrorStopped, _) | (_, 0..=2) => (OutKind::ErrorStopped, false),
+        (OutState::Ok, _) => (OutKind::Ok, false),
+        (OutState::RetryStopped, _) => (OutKind::RetryStopped, false),
+    }
+}
+
+/// The state of the input half after a symbol with this stype1 and cmd, and its reply:
+/// restart-from-retry and link-request input-status alone do anything.
+fn wanted_input(before: InKind, s1: u8, cmd: u8) -> (InKind, Option<Parts>) {
+    match (s1, cmd, before) {
+        (3, _, InKind::Ok) => (InKind::ErrorStopped, Some((2, 1, 31))),
+        (3, _, InKind::RetryStopped) => (InKind::Ok, None),
+        (4, 4, InKind::Ok) => (InKind::Ok, Some((6, 1, 16))),
+        (4, 4, InKind::RetryStopped) => (InKind::Ok, Some((6, 1, 4))),
+        (4, 4, InKind::ErrorStopped) => (InKind::Ok, Some((6, 1, 5))),
+        _ => (before, None),
+    }
+}
+
+/// Each stype0 with each stype1 and cmd 3 and 4, in two states.
+fn each_symbol_does_as_wanted(rt: HostRuntime, states: (OutState, InKind)) -> bool {
+    (0..128u8).all(|n| {
+        let (s0, s1, cmd) = (n / 16, n / 2 % 8, 3 + n % 2);
+        let (input, reply) = wanted_input(states.1, s1, cmd);
+        after_symbol(rt, states, (s0, s1), cmd) == Some((wanted_output(states.0, s0), input, reply))
+    })
+}
+
+/// In each state of the output half beside each of the input half.
 #[test]
 fn each_symbol_meets_each_state(rt: HostRuntime) {
-    let good = (OutKind::Ok, false);
-    let retry = (OutKind::RetryStopped, false);
-    let error = (OutKind::ErrorStopped, false);
-    let asked = (OutKind::ErrorStopped, true);
-    let failed = (OutKind::Failed, false);
-    let outputs = [
-        (
-            OutState::Ok,
-            [error, error, error, good, good, good, good, good],
-        ),
-        (
-            OutState::RetryStopped,
-            [error, error, error, retry, retry, retry, retry, retry],
-        ),
-        (
-            OutState::ErrorStopped,
-            [error, error, error, error, error, error, error, error],
-        ),
-        (
-            OutState::Asked,
-            [asked, asked, asked, asked, asked, asked, good, asked],
-        ),
-        (
-            OutState::Failed,
-            [
-                failed, failed, failed, failed, failed, failed, failed, failed,
-            ],
-        ),
-    ];
-    let good = InKind::Ok;
-    let retry = InKind::RetryStopped;
-    let error = InKind::ErrorStopped;
-    // The state and the reply after restart-from-retry, and after a link-request.
-    let inputs = [
-        (good, (error, Some((2, 1, 31))), (good, Some((6, 1, 16)))),
-        (retry, (good, None), (good, Some((6, 1, 4)))),
-        (error, (error, None), (good, Some((6, 1, 5)))),
-    ];
-    for (before, row) in outputs {
-        for (input, restarted, requested) in inputs {
-            let states = (before, input);
-            for s0 in 0..8 {
-                let wanted = row[usize::from(s0)];
-                for s1 in 0..8 {
-                    let (after, reply) = if s1 == 3 { restarted } else { (input, None) };
-                    assert_eq!(rt;
-                        after_symbol(rt, states, (s0, s1), 3),
-                        Some((wanted, after, reply)),
-                        "states {states:?}, stypes {s0} {s1}"
-                    );
-                }
-                let (after, reply) = requested;
-                assert_eq!(rt;
-                    after_symbol(rt, states, (s0, 4), 4),
-                    Some((wanted, after, reply)),
-                    "states {states:?}, stype0 {s0}, link-request"
-                );
-            }
+    for output in [
+        OutState::Ok,
+        OutState::RetryStopped,
+        OutState::ErrorStopped,
+        OutState::Asked,
+        OutState::Failed,
+    ] {
+        for input in [InKind::Ok, InKind::RetryStopped, InKind::ErrorStopped] {
+            let states = (output, input);
+            assert!(rt; each_symbol_does_as_wanted(rt, states), "{states:?}");
         }
     }
 }

@@ -17,3 +17,6 @@ pub mod Counts
 pub mod DrainCounts
 pub mod Rounds
 pub mod Ends
+pub mod Bursting
+pub mod Calming
+pub mod OneWay

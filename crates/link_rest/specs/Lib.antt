@@ -4,3 +4,4 @@ pub mod Acts
 pub mod Settling
 pub mod Rest
 pub mod Counts
+pub mod Calm

@@ -2,9 +2,13 @@
 
 ghost use Rattle.std.specs.Prelude.{◌≡◌, ℕ, ◌<◌, ◌≤◌, true, List, [], length};
 ghost use Rattle.rio_chars.specs.declared.chars.Char.{Char};
+ghost use Rattle.link_port.specs.Ports.{new_port};
 ghost use Rattle.link_port.specs.Prelude.{Pending, PortState, expected_of};
+ghost use Rattle.link_machine.specs.Layer.{IsServed, with_port};
 ghost use Rattle.link_machine.specs.Prelude.{Side, IsSoundLink, LinkState, from_end};
+ghost use Rattle.link_machine.specs.States.{link, empty_wires};
 ghost use Rattle.link_rest.specs.Acts.{Act, Reached, At, goes, OnState};
+ghost use Rattle.link_rest.specs.Calm.{IsCalm, IsStillCalm};
 ghost use Rattle.link_rest.specs.Counts.{fires};
 ghost use Rattle.link_rest.specs.Led.{answered, chars_of};
 ghost use Rattle.link_rest.specs.Rest.{IsQuiet, IsSettled, IsRound};
@@ -51,9 +55,29 @@ pub fn settling_ends()
     ensures { (s : LinkState) → IsSoundLink s → (all : List Act) × Settles (At s) all }
 {}
 
+/// There is at most one way to settle a link.
+pub fn one_way_to_settle()
+    ensures { (from : Reached) (one other : List Act) → Settles from one → Settles from other
+        → one ≡ other }
+{}
+
 /// Settling ends at rest, from every sound state, whatever stood on the wires and however the
 /// framers stood, if every event that was acted on was sent.
 pub fn settling_ends_at_rest()
     ensures { (s : LinkState) (all : List Act) → IsSoundLink s → Settles (At s) all
         → OnState (λ m. IsSoundLink m × IsSettled m) (goes (At s) all) }
+{}
+
+/// Without an edit no event is ever unsent. A link is calm if what its wires say was sent in this
+/// order and is not acted on yet, and nothing is in progress behind it. A new link is calm, and one
+/// that is quiet, whatever came before. Whatever turns, deliveries and time-outs come on a sound
+/// and calm link, each event that is acted on was sent, and the link is sound and calm again. The
+/// layer above keeps it so.
+pub fn nothing_unsent_without_an_edit()
+    ensures begins { (m n : ℕ) → IsCalm (link empty_wires (new_port m) (new_port n)) }
+    ensures quiet { (s : LinkState) → IsQuiet s → IsCalm s }
+    ensures layer { (side : Side) (next : PortState) (s : LinkState)
+        → IsServed (from_end side s).a next → IsCalm s → IsCalm (with_port side next s) }
+    ensures acts { (s : LinkState) (acts : List Act) → IsSoundLink s → IsCalm s
+        → IsStillCalm (goes (At s) acts) }
 {}

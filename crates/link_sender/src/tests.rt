@@ -34,51 +34,53 @@ type Packets = [usize; 3];
 /// sent, and the ackIDs begin with 30. A link-response and other symbols are ignored, and have no
 /// call.
 #[test]
-fn an_output_that_is_ok_answers_each_event(rt: HostRuntime) -> Result<(), Fail> {
-    let starts = |ack, prio, place| Some(Started { ack, prio, place });
-    for (count, started) in [
-        (0, starts(30, 3, 0)),
-        (1, starts(31, 3, 1)),
-        (2, starts(0, 0, 0)),
-        (3, starts(1, 0, 1)),
-        (4, None),
-    ] {
+fn an_output_that_is_ok_starts_the_next_packet(rt: HostRuntime) -> Result<(), Fail> {
+    for (count, ack, prio, place) in [(0, 30, 3, 0), (1, 31, 3, 1), (2, 0, 0, 0), (3, 1, 0, 1)] {
+        let started = Some(Started { ack, prio, place });
         assert_eq!(rt; turned(rt.alloc(), 2, count)?, started, "after {count}");
     }
+    assert_eq!(rt; turned(rt.alloc(), 2, 4)?, None);
     // No more than 31 are outstanding, also where a packet waits.
-    assert_eq!(rt; turned(rt.alloc(), 16, 30)?, starts(28, 0, 14));
+    let last = Some(Started {
+        ack: 28,
+        prio: 0,
+        place: 14,
+    });
+    assert_eq!(rt; turned(rt.alloc(), 16, 30)?, last);
     assert_eq!(rt; turned(rt.alloc(), 16, 31)?, None);
+    Ok(())
+}
 
-    let stopped = State::ErrorStopped(false, 30, 3);
-    for (ack, state, packets) in [
-        (30, State::Sending(31, 2), [1, 1, 2]),
-        (31, stopped, [0, 2, 2]),
-        (0, stopped, [0, 2, 2]),
-        (1, stopped, [0, 2, 2]),
-        (29, stopped, [0, 2, 2]),
-    ] {
-        assert_eq!(rt; accepted(rt.alloc(), 3, ack)?, (state, packets), "at {ack}");
-    }
-    for (ack, state) in [
-        (30, State::RetryStopped(30, 3)),
-        (31, stopped),
-        (1, stopped),
-        (29, stopped),
-    ] {
-        assert_eq!(rt; retried(rt.alloc(), 3, ack)?, state, "at {ack}");
-    }
-    // With nothing outstanding no ackID is expected.
+/// With nothing outstanding no ackID is expected.
+#[test]
+fn an_output_that_is_ok_hears_of_its_oldest_packet(rt: HostRuntime) -> Result<(), Fail> {
     let none = State::ErrorStopped(false, 30, 0);
+    let stopped = State::ErrorStopped(false, 30, 3);
+    let sending = State::Sending(31, 2);
+    let retry = State::RetryStopped(30, 3);
+    assert_eq!(rt; accepted(rt.alloc(), 3, 30)?, (sending, [1, 1, 2]));
+    assert_eq!(rt; retried(rt.alloc(), 3, 30)?, retry);
+    for ack in [31, 0, 1, 29] {
+        assert_eq!(rt;
+            accepted(rt.alloc(), 3, ack)?,
+            (stopped, [0, 2, 2]),
+            "at {ack}"
+        );
+        assert_eq!(rt; retried(rt.alloc(), 3, ack)?, stopped, "at {ack}");
+    }
     assert_eq!(rt; accepted(rt.alloc(), 0, 30)?, (none, [0, 2, 2]));
     assert_eq!(rt; retried(rt.alloc(), 0, 30)?, none);
+    Ok(())
+}
 
-    for (count, state) in [(0, none), (3, stopped)] {
+#[test]
+fn an_output_that_is_ok_stops_at_an_error(rt: HostRuntime) -> Result<(), Fail> {
+    for count in [0, 3] {
+        let stopped = State::ErrorStopped(false, 30, count);
         let store = filled(rt.alloc(), 2)?;
-        assert_eq!(rt;
-            error_stopped(&sending(count, &store).not_accepted()),
-            state
-        );
-        assert_eq!(rt; error_stopped(&sending(count, &store).time_out()), state);
+        let after = sending(count, &store).not_accepted();
+        assert_eq!(rt; error_stopped(&after), stopped);
+        assert_eq!(rt; error_stopped(&sending(count, &store).time_out()), stopped);
     }
     Ok(())
 }

@@ -7,7 +7,6 @@ use rio_chars::{Char, NoMemory, read_char};
 use rio_packets::{Cause, check};
 use rio_symbols::{Symbol, from_bytes};
 use std::alloc::Global;
-use std::process::Abort;
 use std::test::Fail;
 
 /// An event as a table writes it: a symbol by its fields, a packet by its ackID and its bytes.
@@ -28,16 +27,15 @@ const PACKET: [u8; 8] = [0x00, 0x0f, 0x02, 0x01, 0xde, 0xb2, 0x00, 0x00];
 
 #[test]
 fn symbols_are_read_and_changed_ones_are_bad(rt: HostRuntime) -> Result<(), Fail> {
-    let good = chars_of(rt.alloc(), "k1c d80 dff d0f")?;
     assert!(rt;
-        tells(
-            &rt,
+        reads(
             rt.alloc(),
-            good.as_slice(),
+            "k1c d80 dff d0f",
             &[(3, Wanted::Symbol(NOP))],
             true
         )?
     );
+    let bad = [(3, Wanted::Bad(Cause::BadSymbol))];
     for text in [
         "k1c d00 dff d0f",
         "k1c d81 dff d0f",
@@ -45,17 +43,7 @@ fn symbols_are_read_and_changed_ones_are_bad(rt: HostRuntime) -> Result<(), Fail
         "k1c d80 dfe d0f",
         "k1c d80 dff d2f",
     ] {
-        let bad = chars_of(rt.alloc(), text)?;
-        assert!(rt;
-            tells(
-                &rt,
-                rt.alloc(),
-                bad.as_slice(),
-                &[(3, Wanted::Bad(Cause::BadSymbol))],
-                true
-            )?,
-            "at {text}"
-        );
+        assert!(rt; reads(rt.alloc(), text, &bad, true)?, "at {text}");
     }
     Ok(())
 }
@@ -63,79 +51,67 @@ fn symbols_are_read_and_changed_ones_are_bad(rt: HostRuntime) -> Result<(), Fail
 #[test]
 fn a_packet_goes_on_behind_a_symbol_that_stands_in_it(rt: HostRuntime) -> Result<(), Fail> {
     let text = "k7c d80 df8 d1f d00 d0f d02 d01 k1c d80 dff d0f dde db2 d00 d00 k7c d80 dfa d18";
-    let chars = chars_of(rt.alloc(), text)?;
     let told = [
         (3, Wanted::Symbol(START)),
         (11, Wanted::Symbol(NOP)),
         (19, Wanted::Packet(0, PACKET)),
         (19, Wanted::Symbol(END)),
     ];
-    assert!(rt; tells(&rt, rt.alloc(), chars.as_slice(), &told, true)?);
+    assert!(rt; reads(rt.alloc(), text, &told, true)?);
     Ok(())
 }
 
 #[test]
 fn data_and_idles_out_of_place_are_bad(rt: HostRuntime) -> Result<(), Fail> {
-    let outside = chars_of(rt.alloc(), "d00")?;
+    let bad = Wanted::Bad(Cause::BadChar);
+    let start = Wanted::Symbol(START);
+    assert!(rt; reads(rt.alloc(), "d00", &[(0, bad)], true)?);
     assert!(rt;
-        tells(
-            &rt,
+        reads(
             rt.alloc(),
-            outside.as_slice(),
-            &[(0, Wanted::Bad(Cause::BadChar))],
+            "k7c d80 df8 d1f d00 kbc",
+            &[(3, start), (5, bad)],
             true
         )?
     );
-    let idle = chars_of(rt.alloc(), "k7c d80 df8 d1f d00 kbc")?;
-    let told = [(3, Wanted::Symbol(START)), (5, Wanted::Bad(Cause::BadChar))];
-    assert!(rt; tells(&rt, rt.alloc(), idle.as_slice(), &told, true)?);
+    assert!(rt; reads(rt.alloc(), "kbc kfd kfb", &[], true)?);
+    assert!(rt; reads(rt.alloc(), "inv", &[(0, bad)], true)?);
     Ok(())
 }
 
 #[test]
-fn each_kind_of_broken_text_is_told(rt: HostRuntime) -> Result<(), Fail> {
+fn a_symbol_is_broken_off_by_what_is_no_data(rt: HostRuntime) -> Result<(), Fail> {
     let bad = Wanted::Bad(Cause::BadChar);
+    let start = Wanted::Symbol(START);
+    let nop = Wanted::Symbol(NOP);
+    assert!(rt; reads(rt.alloc(), "k1c d80 dff", &[], false)?);
+    let other = "k1c d80 k7c d80 df8 d1f";
+    assert!(rt; reads(rt.alloc(), other, &[(2, bad), (5, start)], false)?);
+    let idle = "k1c d80 dff kbc k1c d80 dff d0f";
+    assert!(rt; reads(rt.alloc(), idle, &[(3, bad), (7, nop)], true)?);
+    let stray = "k1c k00 d01 inv kbc d00";
+    assert!(rt; reads(rt.alloc(), stray, &[(1, bad), (5, bad)], true)?);
+    Ok(())
+}
+
+/// NOP behind PD, start-of-packet behind SC, end-of-packet behind SC in a packet; and
+/// restart-from-retry, which ends a packet.
+#[test]
+fn symbols_come_behind_their_delimiters(rt: HostRuntime) -> Result<(), Fail> {
     let general = Wanted::Bad(Cause::General);
-    let restart = Wanted::Symbol([4, 0, 31, 3, 0]);
-    let rows: [(&str, &[(usize, Wanted)], bool); 10] = [
-        ("kbc kfd kfb", &[], true),
-        ("inv", &[(0, bad)], true),
-        ("k1c d80 dff", &[], false),
-        (
-            "k1c d80 k7c d80 df8 d1f",
-            &[(2, bad), (5, Wanted::Symbol(START))],
-            false,
-        ),
-        (
-            "k1c d80 dff kbc k1c d80 dff d0f",
-            &[(3, bad), (7, Wanted::Symbol(NOP))],
-            true,
-        ),
-        ("k1c k00 d01 inv kbc d00", &[(1, bad), (5, bad)], true),
-        ("k7c d80 dff d0f", &[(3, general)], true),
-        ("k1c d80 df8 d1f", &[(3, general)], true),
-        (
-            "k7c d80 df8 d1f k7c d80 dfa d18",
-            &[
-                (3, Wanted::Symbol(START)),
-                (7, general),
-                (7, Wanted::Symbol(END)),
-            ],
-            true,
-        ),
-        (
-            "k7c d80 df8 d1f d00 k1c d80 dfb d01 kbc",
-            &[(3, Wanted::Symbol(START)), (8, restart)],
-            true,
-        ),
-    ];
-    for (text, told, rest) in rows {
-        let chars = chars_of(rt.alloc(), text)?;
+    let start = (3, Wanted::Symbol(START));
+    let end = (7, Wanted::Symbol(END));
+    let restart = (8, Wanted::Symbol([4, 0, 31, 3, 0]));
+    for text in ["k7c d80 dff d0f", "k1c d80 df8 d1f"] {
         assert!(rt;
-            tells(&rt, rt.alloc(), chars.as_slice(), told, rest)?,
+            reads(rt.alloc(), text, &[(3, general)], true)?,
             "at {text}"
         );
     }
+    let ended = "k7c d80 df8 d1f k7c d80 dfa d18";
+    assert!(rt; reads(rt.alloc(), ended, &[start, (7, general), end], true)?);
+    let restarted = "k7c d80 df8 d1f d00 k1c d80 dfb d01 kbc";
+    assert!(rt; reads(rt.alloc(), restarted, &[start, restart], true)?);
     Ok(())
 }
 
@@ -146,13 +122,13 @@ fn a_packet_is_too_long_from_its_277th_byte_on(rt: HostRuntime) -> Result<(), Fa
         chars.push(Char::Data(0))?;
     }
     let start = [(3, Wanted::Symbol(START))];
-    assert!(rt; tells(&rt, rt.alloc(), chars.as_slice(), &start, false)?);
+    assert!(rt; tells(rt.alloc(), chars.as_slice(), &start, false)?);
     chars.push(Char::Data(0))?;
     let told = [
         (3, Wanted::Symbol(START)),
         (280, Wanted::Bad(Cause::General)),
     ];
-    assert!(rt; tells(&rt, rt.alloc(), chars.as_slice(), &told, true)?);
+    assert!(rt; tells(rt.alloc(), chars.as_slice(), &told, true)?);
     Ok(())
 }
 
@@ -261,15 +237,22 @@ fn chars_of(alloc: Global, text: &str) -> Result<Vec<Char>, Fail> {
     Ok(chars)
 }
 
+/// Whether a text tells these events at these places, cut in two at each place.
+fn reads(alloc: Global, text: &str, told: &[(usize, Wanted)], rest: bool) -> Result<bool, Fail> {
+    let chars = chars_of(alloc, text)?;
+    Ok(tells(alloc, chars.as_slice(), told, rest)?)
+}
+
 /// Whether the characters, cut in two at each place, tell these events at these places.
 fn tells(
-    rt: &impl Abort,
     alloc: Global,
     chars: &[Char],
     told: &[(usize, Wanted)],
     rest: bool,
 ) -> Result<bool, NoMemory> {
-    assert!(rt; chars.len() <= 4_194_304);
+    if chars.len() > 4_194_304 {
+        return Ok(false);
+    }
     for cut in 0..=chars.len() {
         if !tells_at(alloc, chars, cut, told, rest)? {
             return Ok(false);

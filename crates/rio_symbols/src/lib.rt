@@ -6,7 +6,8 @@
 //! changed symbol is always refused (five bits of CRC cannot promise it).
 //!
 //! - `Symbol`: the five fields, each within its width.
-//! - `stype0`, `stype1`, `cmd`: the names of what these fields say.
+//! - `stype0`, `stype1`, `cmd`: the names of what these fields say;
+//!   `types_and_requests_have_their_numbers` says which numbers they are.
 //! - `crc5`: the CRC of the fields, by `CRC5_TABLE`; `crc5_table_has_remainders` says what its
 //!   entries are.
 //! - `to_bytes`, `from_bytes`, `BadCrc`: the spelling, in both directions.
@@ -20,6 +21,7 @@ mod characters;
 pub mod cmd;
 mod crc;
 mod delimiters;
+mod laws;
 mod spelling;
 pub mod stype0;
 pub mod stype1;
@@ -30,5 +32,6 @@ mod tests;
 pub use characters::Delimiter;
 pub use crc::{CRC5_TABLE, crc5, crc5_table_has_remainders};
 pub use delimiters::{delimiter, delimiter_laws};
+pub use laws::types_and_requests_have_their_numbers;
 pub use spelling::{BadCrc, from_bytes, spelling_laws, to_bytes};
 pub use symbol::Symbol;

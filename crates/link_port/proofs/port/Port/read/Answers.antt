@@ -1,11 +1,11 @@
-use Rattle.std.proofs.Common.{Option, sym, ap, ◌∙◌, subst}
+use Rattle.std.proofs.Common.{List, Option, sym, ap, ◌∙◌, subst}
 use Rattle.link_model.specs.declared.event.Event.{Event}
 use Rattle.link_model.specs.Prelude.{telling_front, IsBounded}
 use Rattle.rio_framer.specs.declared.events.Told.{Told}
 use Rattle.rio_framer.specs.Framing.{Framing, framing_after}
 use Rattle.rio_framer.specs.Giving.{listed, events_by}
 use Rattle.link_port.specs.Ports.{PortState}
-use Rattle.link_port.specs.Runs.{front_of}
+use Rattle.link_port.specs.Runs.{front_of, slot_after}
 use Rattle.link_port.proofs.RunLaws.{front_bounded, front_events}
 use Rattle.link_port.proofs.port.Port.read.Goals as goal
 use Rattle.link_port.proofs.port.Port.read.Goals.{After-bounds}
@@ -23,7 +23,7 @@ ended_in c = (framing_after (telling_front c.self.inside.framer.place c.args.cha
 
 pub returns-clause-events : goal.returns-clause-events
 returns-clause-events c =
-    c.complete-completed.ensures
+    c.complete-completed.ensures.events
     ∙ ap (λ (f : Framing). listed (events_by c.read_run-count.result.1 f.ended).first
     (events_by c.read_run-count.result.1 f.ended).second)
     c.read_run-count.ensures.state
@@ -31,3 +31,8 @@ returns-clause-events c =
     c.read_run-count.ensures.told
     ∙ front_events c.self.inside.framer.place c.args.chars.now
     ∙ ap (λ (p : PortState). (front_of p c.args.chars.now).step.gives) c.self.view_is
+
+pub returns-clause-slot : goal.returns-clause-slot
+returns-clause-slot c =
+    c.complete-completed.ensures.slot
+    ∙ ap (λ (events : List Event). slot_after events c.args.packet.now) (returns-clause-events c)
