@@ -8,7 +8,7 @@ pub enum LinkEnd {
     /// The port at this end acted on an event that was not sent: a corruption that no check has
     /// found.
     Undetected(Side, Event),
-    /// The watch failed, and its count of faults rose.
+    /// The watch failed, and its count of failed notes rose.
     Failed,
     /// Memory was wanted and not given.
     NoMemory,

@@ -59,6 +59,8 @@ impl Link {
             (delivery_notes from count (link self.old a.old b.old)) watch.new) }
         ensures cause { IsErrOf result LinkEnd.Failed
             → Rose (W.faults watch.old) (W.faults watch.new) }
+        ensures counts { ¬ IsErrOf result LinkEnd.Failed
+            → W.faults watch.new ≡ W.faults watch.old }
         ensures never_falls { W.faults watch.old ≤ W.faults watch.new }
     {
         let count = count as usize;
@@ -167,6 +169,8 @@ impl Carried {
             ++ sent_notes to self.answers.items)) watch.new) }
         ensures cause { IsErrOf result.0 NoteEnd.Failed
             → Rose (W.faults watch.old) (W.faults watch.new) }
+        ensures counts { ¬ IsErrOf result.0 NoteEnd.Failed
+            → W.faults watch.new ≡ W.faults watch.old }
         ensures never_falls { W.faults watch.old ≤ W.faults watch.new }
     {
         let Carried {

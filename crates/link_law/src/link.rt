@@ -73,6 +73,8 @@ impl Link {
             (pump_notes from turns (link self.old a.old b.old)) watch.new) }
         ensures cause { IsErrOf result NoteEnd.Failed
             → Rose (W.faults watch.old) (W.faults watch.new) }
+        ensures counts { ¬ IsErrOf result NoteEnd.Failed
+            → W.faults watch.new ≡ W.faults watch.old }
         ensures never_falls { W.faults watch.old ≤ W.faults watch.new }
     {
         let Ok(chars) = self.turn(alloc, from, turns, a, b) else {
@@ -139,6 +141,8 @@ impl Link {
             (time_out_notes side (link self.old a.old b.old)) watch.new) }
         ensures cause { IsErrOf result NoteEnd.Failed
             → Rose (W.faults watch.old) (W.faults watch.new) }
+        ensures counts { ¬ IsErrOf result NoteEnd.Failed
+            → W.faults watch.new ≡ W.faults watch.old }
         ensures never_falls { W.faults watch.old ≤ W.faults watch.new }
     {
         if !self.fire(side, a, b) {
@@ -179,6 +183,7 @@ pub(crate) fn note_sent<W: Watch>(
     ensures stopped { OnErr result (Stopped W.grew W.cut watch.old (sent_notes from chars.items)
         watch.new) }
     ensures cause { IsErrOf result NoteEnd.Failed → Rose (W.faults watch.old) (W.faults watch.new) }
+    ensures counts { ¬ IsErrOf result NoteEnd.Failed → W.faults watch.new ≡ W.faults watch.old }
     ensures never_falls { W.faults watch.old ≤ W.faults watch.new }
 {
     if chars.is_empty() {

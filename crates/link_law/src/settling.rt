@@ -1,5 +1,5 @@
 //! Settling: the schedule that brings a link to rest.
-ghost use Rattle.std.specs.Prelude.{◌≤◌, IsErrOf, OnOk, IfErr};
+ghost use Rattle.std.specs.Prelude.{◌≡◌, ◌≤◌, IsErrOf, OnOk, IfErr};
 ghost use Rattle.rio_chars.specs.Faults.{Rose};
 ghost use Rattle.link_machine.specs.Prelude.{IsSoundLink, link};
 ghost use Rattle.link_rest.specs.Acts.{At};
@@ -37,6 +37,8 @@ impl Link {
             watch.old end watch.new) }
         ensures cause { IsErrOf result LinkEnd.Failed
             → Rose (W.faults watch.old) (W.faults watch.new) }
+        ensures counts { ¬ IsErrOf result LinkEnd.Failed
+            → W.faults watch.new ≡ W.faults watch.old }
         ensures never_falls { W.faults watch.old ≤ W.faults watch.new }
     {
         self.drain(alloc, a, b, watch)?;

@@ -1,8 +1,8 @@
 //! What happens on a link, noted for whoever watches it.
 //!
 //! Promised: a watch that takes in a note grew by exactly that note, one that does not is cut
-//! within it, and `Failed` comes only where the watch's count of faults rose. Notes are taken in in
-//! order, and none behind one that was not.
+//! within it, and `Failed` comes only where the watch's count of failed notes rose, which rises at
+//! no other answer. Notes are taken in in order, and none behind one that was not.
 //!
 //! Left out: which notes a link makes, and when.
 //!

@@ -62,6 +62,7 @@ impl Watch for NoteList {
         ensures taken { OnOk result (self.new ≡ self.old ++ note.now ∷ []) }
         ensures stopped { OnErr result (self.new ≡ self.old) }
         ensures cause { IsErrOf result NoteEnd.Failed → Rose 0 0 }
+        ensures counts { ¬ IsErrOf result NoteEnd.Failed → ◌≡◌ {A = ℕ} 0 0 }
         ensures never_falls { 0 ≤ 0 }
     {
         let copy = note.copy(alloc)?;

@@ -12,7 +12,7 @@ use thiserror::Error;
 /// Why a note was not taken in.
 #[derive(Clone, Copy, Debug, PartialEq, Eq, Error)]
 pub enum NoteEnd {
-    /// The watch failed, and its count of faults rose.
+    /// The watch failed, and its count of failed notes rose.
     #[error("Failed")]
     Failed,
     /// Memory was wanted and not given.
@@ -30,7 +30,7 @@ impl From<AllocError> for NoteEnd {
 
 /// Whoever is told what happens on a link.
 pub trait Watch {
-    /// How many calls have failed. A count stands still at its greatest value, 2^64 - 1.
+    /// How many notes have failed. A count stands still at its greatest value, 2^64 - 1.
     ghost faults: { Self → ℕ };
 
     /// The watch has taken in these notes between an earlier state and a later one.
@@ -39,12 +39,14 @@ pub trait Watch {
     /// The watch stopped within this note between an earlier state and a later one.
     ghost cut: { Self → Note → Self → Type 0 };
 
-    /// Takes in a note. `Failed` comes only where the count of faults rose; memory may be wanted at
-    /// any note. At each of them the watch is cut within the note.
+    /// Takes in a note. `Failed` comes only if the count of failed notes rose, which rises at no
+    /// other answer; memory may be wanted at any note. At each of them the watch is cut within the
+    /// note.
     fn note(&mut self, alloc: Global, note: &Note) -> Result<(), NoteEnd>
         ensures taken { OnOk result (grew self.old (note.now ∷ []) self.new) }
         ensures stopped { OnErr result (cut self.old note.now self.new) }
         ensures cause { IsErrOf result NoteEnd.Failed → Rose (faults self.old) (faults self.new) }
+        ensures counts { ¬ IsErrOf result NoteEnd.Failed → faults self.new ≡ faults self.old }
         ensures never_falls { faults self.old ≤ faults self.new };
 
     /// A watch that takes in nothing is what it was.
@@ -63,6 +65,7 @@ pub fn note_all<W: Watch>(watch: &mut W, alloc: Global, notes: &[Note]) -> Resul
     ensures all { OnOk result (W.grew watch.old notes.now watch.new) }
     ensures stopped { OnErr result (Stopped W.grew W.cut watch.old notes.now watch.new) }
     ensures cause { IsErrOf result NoteEnd.Failed → Rose (W.faults watch.old) (W.faults watch.new) }
+    ensures counts { ¬ IsErrOf result NoteEnd.Failed → W.faults watch.new ≡ W.faults watch.old }
     ensures never_falls { W.faults watch.old ≤ W.faults watch.new }
 {
     for note in notes {

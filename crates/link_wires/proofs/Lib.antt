@@ -5,3 +5,7 @@ pub mod FrontLaws
 pub mod PumpLaws
 pub mod Leading
 pub mod QuietTurns
+pub mod QueueLaws
+pub mod Exact
+pub mod Subsequences
+pub mod Throughs

@@ -1,4 +1,5 @@
 pub mod Kept
 pub mod Deliveries
+pub mod Acting
 pub mod Wires
 pub mod Prelude

@@ -17,9 +17,9 @@ use rio_symbols::Symbol;
 use std::alloc::Global;
 use std::collections::VecDeque;
 
-/// The packets that the last event freed. A list with room for so many is dear to make, so it is
-/// made with the first event.
-type Freed = Option<ArrayVec<Packet, 31>>;
+/// The packets that the last event freed. A list with room for so many is dear to make, so the wire
+/// has it once for all.
+type Freed = ArrayVec<Packet, 31>;
 
 /// What came of characters that a port took.
 #[derive(Drop)]
@@ -65,7 +65,14 @@ impl Wire {
             moves: Vec::new(alloc),
             replies: Vec::new(alloc),
         };
-        let (taken, undetected) = lead(port, &mut self.kept, got.as_slice(), &mut came)?;
+        let (taken, undetected) = lead(
+            port,
+            &mut self.kept,
+            got.as_slice(),
+            &mut self.packet,
+            &mut self.freed,
+            &mut came,
+        )?;
         got.truncate(taken);
         Ok(Delivery {
             got,
@@ -82,6 +89,8 @@ fn lead(
     port: &mut Port,
     kept: &mut VecDeque<Event>,
     chars: &[Char],
+    packet: &mut Packet,
+    freed: &mut Freed,
     came: &mut Came,
 ) -> Result<(usize, Option<Event>), NoMemory>
     ensures shows { IfOk result (λ end. Shows (flows chars.now
@@ -89,13 +98,11 @@ fn lead(
         end.0 port.new kept.new.items came.new.moves.items came.new.replies.items) }
     ensures within { IfOk result (λ end. end.0 ≤ length chars.now) }
 {
-    let mut packet = Packet::default();
-    let mut freed = None;
     let mut taken = 0;
     while taken < chars.len() {
-        let (count, completed) = port.read(rest(chars, taken), &mut packet);
+        let (count, completed) = port.read(rest(chars, taken), packet);
         taken += count;
-        if let Some(event) = act_all(port, kept, completed, &packet, &mut freed, came)? {
+        if let Some(event) = act_all(port, kept, completed, packet, freed, came)? {
             return Ok((taken, Some(event)));
         }
     }
@@ -205,7 +212,6 @@ fn act(
     if !meet(port, kept, &event) {
         return Ok(Some(event));
     }
-    let freed = freed.get_or_insert_with(ArrayVec::new);
     freed.clear();
     let done = port.act(&event, freed);
     came.note(event, done, freed.as_slice())?;

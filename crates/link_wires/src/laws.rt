@@ -1,8 +1,10 @@
 //! Acted events are sent ones, in order. The calls do nothing: their clauses are the laws.
 ghost use Rattle.std.specs.Prelude.{◌≡◌, ◌↔◌, List, [], ◌∷◌, ◌++◌, Some, None, IsSome};
 ghost use Rattle.rio_chars.specs.declared.chars.Char.{Char};
+ghost use Rattle.link_model.specs.Said.{said};
 ghost use Rattle.link_port.specs.Prelude.{Event, PortState};
-ghost use Rattle.link_wires.specs.Deliveries.{Told, Flow, Through, Undetected, goes_on, flows, delivered};
+ghost use Rattle.link_wires.specs.Acting.{acted_all};
+ghost use Rattle.link_wires.specs.Deliveries.{Told, Flow, Through, Undetected, goes_on, flows, delivered, undetected};
 ghost use Rattle.link_wires.specs.Kept.{behind, behind_all, IsSubsequence};
 
 /// With what was sent and what was acted on since the last silence: each acted event is found, by a
@@ -31,4 +33,14 @@ pub fn deliveries_go_by_pieces()
         (e : Event)
         → delivered port kept chars ≡ Undetected told e
         → behind_all (told.acted ++ e ∷ []) kept ≡ None }
+{}
+
+/// With what was sent and what was acted on since the last silence: a delivery finds no event that
+/// was not sent exactly if all that was acted on, and behind it all that the step tables have the
+/// port act on of what these characters say, stands in this order among what was sent.
+pub fn a_delivery_acts_on_what_was_sent()
+    ensures { (port : PortState) (acted sent kept : List Event) (chars : List Char)
+        → behind_all acted sent ≡ Some kept
+        → (undetected (delivered port kept chars) ≡ None)
+        ↔ IsSubsequence (acted ++ acted_all port (said port.place chars)) sent }
 {}

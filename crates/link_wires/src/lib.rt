@@ -5,14 +5,16 @@
 //! delivery is the reading of the characters led through the step tables, one event after another;
 //! each event that is acted on must be one that was sent, and such events are found exactly where
 //! they were sent in this order. An edit changes characters alone, and nothing where it does not
-//! lie within them. Taking from the front costs what is taken, and appending what is appended.
+//! lie within them. Taking from the front costs what is taken, appending what is appended, and an
+//! edit what stands on its shorter side.
 //!
 //! Left out: the other way of the link, and what is noted for whoever watches.
 //!
 //! - [`Wire`]: one way, with `pump`, `reply`, `deliver`, `edit` and `silence`
 //! - [`Delivery`] and [`Move`]: what came of characters that a port took
 //! - [`Edit`] and [`Edited`]: a change of the characters, and what came of it
-//! - [`acted_events_are_sent_ones`] and [`deliveries_go_by_pieces`]: laws; the calls do nothing
+//! - [`acted_events_are_sent_ones`], [`deliveries_go_by_pieces`] and
+//!   [`a_delivery_acts_on_what_was_sent`]: laws; the calls do nothing
 //!
 //! `specs` has the definitions: `Kept`, which events are found; `Deliveries`, what a port does with
 //! characters; and `Wires`, what the calls of a wire do.
@@ -31,6 +33,8 @@ mod wire;
 
 pub use deliveries::Delivery;
 pub use edits::{Edit, Edited};
-pub use laws::{acted_events_are_sent_ones, deliveries_go_by_pieces};
+pub use laws::{
+    a_delivery_acts_on_what_was_sent, acted_events_are_sent_ones, deliveries_go_by_pieces,
+};
 pub use moves::Move;
 pub use wire::Wire;

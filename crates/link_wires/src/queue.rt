@@ -5,8 +5,9 @@ use rio_chars::{Char, NoMemory};
 use std::alloc::Global;
 use std::marker::Model;
 
-/// Characters, first in first out. Those before `head` were taken; they go once they are more than
-/// the half, so that taking costs what is taken, and putting costs what is put.
+/// Characters, first in first out. Those before `head` were taken, or are room; they go once they
+/// are more than the half, so that taking costs what is taken, and putting costs what is put. A
+/// change costs what lies on the shorter side of it.
 #[derive(Drop)]
 pub(crate) struct CharQueue {
     chars: Vec<Char>,
@@ -75,41 +76,97 @@ impl CharQueue {
         requires { place < length self.old }
         ensures { self.new ≡ slice_set self.old place ch }
     {
-        compact(&mut self.chars, &mut self.head);
-        self.chars[place] = ch;
+        self.chars[self.head + place] = ch;
     }
 
-    /// Characters from a place on go away, up to another place.
+    /// Characters from a place on go away, up to another place. The shorter side is moved.
     pub(crate) fn remove(&mut self, place: usize, end: usize)
         requires order { place ≤ end }
         requires end { end ≤ length self.old }
         ensures { self.new ≡ take place self.old ++ drop end self.old }
     {
-        compact(&mut self.chars, &mut self.head);
-        self.chars.drain(place..end);
+        if place < self.len() - end {
+            bring_forwards(&mut self.chars, self.head, place, end);
+            self.skip(end - place);
+        } else {
+            self.chars.drain(self.head + place..self.head + end);
+        }
     }
 
-    /// A character comes in before the one at a place, or at the end. If memory is not given,
-    /// nothing changes.
+    /// A character comes in before the one at a place, or at the end. The shorter side is moved. If
+    /// memory is not given, nothing changes.
     pub(crate) fn insert(&mut self, place: usize, ch: Char) -> Result<(), NoMemory>
         requires { place ≤ length self.old }
         ensures put { OnOk result (self.new ≡ take place self.old ++ ch ∷ drop place self.old) }
         ensures unchanged { OnErr result (self.new ≡ self.old) }
     {
-        compact(&mut self.chars, &mut self.head);
-        match self.chars.insert(place, ch) {
+        if place < self.len() / 2 {
+            make_room(&mut self.chars, &mut self.head)?;
+            insert_near_front(&mut self.chars, &mut self.head, place, ch);
+            return Ok(());
+        }
+        match self.chars.insert(self.head + place, ch) {
             Ok(()) => Ok(()),
             Err(_) => Err(NoMemory),
         }
     }
 }
 
-/// The characters that were taken go.
+/// The characters that were taken go, which are at least as many as the others.
 fn compact(chars: &mut Vec<Char>, head: &mut usize)
-    requires { head.old ≤ length chars.old.items }
+    requires within { head.old ≤ length chars.old.items }
+    requires half { length chars.old.items ≤ head.old + head.old }
     ensures chars { chars.new.items ≡ drop head.old chars.old.items }
     ensures head { head.new ≡ 0 }
 {
-    chars.drain(..*head);
+    let left = chars.len() - *head;
+    let (front, back) = chars.as_mut_slice().split_at_mut(*head);
+    front[..left].copy_from_slice(back);
+    chars.truncate(left);
     *head = 0;
+}
+
+/// Characters from a place on, up to another place, come before those that stand before them.
+fn bring_forwards(chars: &mut Vec<Char>, head: usize, place: usize, end: usize)
+    requires order { place ≤ end }
+    requires end { head + end ≤ length chars.old.items }
+    ensures moved { drop head chars.new.items ≡ drop place (take end (drop head chars.old.items))
+        ++ (take place (drop head chars.old.items) ++ drop end (drop head chars.old.items)) }
+    ensures length { length chars.new.items ≡ length chars.old.items }
+{
+    chars.slice_mut(head..head + end).rotate_left(place);
+}
+
+/// A character comes in before the one at a place, and those before it move down.
+fn insert_near_front(chars: &mut Vec<Char>, head: &mut usize, place: usize, ch: Char)
+    requires room { 0 < head.old }
+    requires place { head.old + place ≤ length chars.old.items }
+    ensures chars { drop head.new chars.new.items ≡ take place (drop head.old chars.old.items)
+        ++ ch ∷ drop place (drop head.old chars.old.items) }
+    ensures head { head.new ≤ length chars.new.items }
+{
+    *head -= 1;
+    chars[*head] = ch;
+    chars.slice_mut(*head..*head + place + 1).rotate_left(1);
+}
+
+/// Makes room at the front if there is none: for half as many characters as there are, so that it
+/// is rarely made. If memory is not given, nothing changes.
+fn make_room(chars: &mut Vec<Char>, head: &mut usize) -> Result<(), NoMemory>
+    requires { head.old ≤ length chars.old.items }
+    ensures chars { drop head.new chars.new.items ≡ drop head.old chars.old.items }
+    ensures head { head.new ≤ length chars.new.items }
+    ensures room { OnOk result (0 < head.new) }
+{
+    if *head > 0 {
+        return Ok(());
+    }
+    let len = chars.len();
+    let room = len / 2 + 1;
+    let Ok(()) = chars.resize(len + room, Char::Invalid) else {
+        return Err(NoMemory);
+    };
+    chars.rotate_right(room);
+    *head = room;
+    Ok(())
 }

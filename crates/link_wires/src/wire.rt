@@ -3,18 +3,25 @@ ghost use Rattle.std.specs.Prelude.{◌≡◌, ◌≤◌, length, take, drop, If
 ghost use Rattle.link_wires.specs.Wires.{empty_wire, silenced};
 
 use crate::queue::CharQueue;
+use arrayvec::ArrayVec;
 use link_model::Event;
 use rio_chars::{Char, NoMemory};
+use rio_packets::Packet;
 use std::alloc::Global;
 use std::collections::VecDeque;
 use std::marker::Model;
 
 /// One way of a link: the characters on it, and the events that were sent on it and that no acted
-/// event has met.
+/// event has met. Packets and lists of them are dear to make, so a wire has one of each, which its
+/// deliveries use; what they hold between deliveries means nothing.
 #[derive(Drop)]
 pub struct Wire {
     pub(crate) chars: CharQueue,
     pub(crate) kept: VecDeque<Event>,
+    /// Where a packet is put that comes in.
+    pub(crate) packet: Packet,
+    /// Where packets are put that an event frees.
+    pub(crate) freed: ArrayVec<Packet, 31>,
 }
 
 impl Model for Wire {
@@ -33,6 +40,8 @@ impl Wire {
         Wire {
             chars: CharQueue::new(alloc),
             kept: VecDeque::new(alloc),
+            packet: Packet::default(),
+            freed: ArrayVec::new(),
         }
     }
 

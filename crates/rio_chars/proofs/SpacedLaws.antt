@@ -1,7 +1,8 @@
 -- The texts of characters, each behind a space.
-use Rattle.std.proofs.Common.{◌≡◌, ◌<◌, ◌≤◌, ◌+◌, ◌-◌, ◌*◌, ◌/◌, ◌%◌, ℕ, zero, suc, List, [], ◌∷◌, ◌++◌, length, length-append, take, drop, get_or, set, refl, sym, ap, subst, ◌∙◌, arith, length-set, append_assoc, append-nil}
-use Rattle.std.proofs.lemmas.List.{take_more, take_more_set}
-use Rattle.std.proofs.lemmas.Grind.{common_steps}
+use Rattle.std.proofs.Common.{◌≡◌, ◌<◌, ◌≤◌, ◌+◌, ◌-◌, ◌*◌, ◌/◌, ◌%◌, ℕ, zero, suc, List, [], ◌∷◌, ◌++◌, length, take, drop, get_or, set, refl, sym, ap, subst, ◌∙◌, arith, append_assoc, append-nil}
+use Rattle.std.proofs.lemmas.List.{drop-drop, take_more, take_more_set}
+use Rattle.std.specs.List.{flat_map}
+use Rattle.std.proofs.lemmas.Grind.{common_steps, flat_map-append}
 use Rattle.rio_chars.specs.CharText.{char_text_of, spaced_chars, IsData, AreData, byte_of}
 use Rattle.rio_chars.specs.HexText.{hex_digit}
 use Rattle.rio_chars.specs.declared.chars.Char.{Char}
@@ -35,12 +36,6 @@ pub AreData-append : (a b : List Char) → AreData a → AreData b → AreData (
 AreData-append [] b h k = k
 AreData-append (c ∷ a) b h k = (h.0, AreData-append a b h.1 k)
 
-data_at : (chars : List Char) (i : ℕ) (d : Char) → AreData chars → i < length chars
-    → IsData (get_or chars i d)
-data_at [] i d are below = absurd (omega arith)
-data_at (c ∷ chars) zero d are below = are.0
-data_at (c ∷ chars) (suc i) d are below = data_at chars i d are.1 (omega arith)
-
 data_text : (c : Char) → IsData c
     → char_text_of c ≡ 100 ∷ hex_digit (byte_of c / 16) ∷ hex_digit (byte_of c % 16) ∷ []
 data_text (Data b) is = refl
@@ -54,48 +49,43 @@ run_more chars i d below are is =
     subst AreData (sym (take_more chars i d below))
     (AreData-append (take i chars) (get_or chars i d ∷ []) are (is, tt))
 
--- the text of one data character more
-pub spaced-step : (room : List ℕ) (chars : List Char) (i : ℕ) (d : Char) → i < length chars
-    → length room ≡ 4 * length chars → AreData chars
-    → take (4 * i) room ≡ spaced_chars (take i chars)
-    → take (4 * (i + 1)) (set (set (set (set room (4 * i) 32) (4 * i + 1) 100) (4 * i + 2)
-    (hex_digit (byte_of (get_or chars i d) / 16))) (4 * i + 3)
-    (hex_digit (byte_of (get_or chars i d) % 16)))
+take_next : (chars : List Char) (i : ℕ) (c : Char) (rest : List Char) → drop i chars ≡ c ∷ rest
+    → take (suc i) chars ≡ take i chars ++ c ∷ []
+take_next [] zero c rest next = absurd cc
+take_next [] (suc i) c rest next = absurd cc
+take_next (x ∷ chars) zero c rest next = cc
+take_next (x ∷ chars) (suc i) c rest next = ap (λ l. x ∷ l) (take_next chars i c rest next)
+
+next_is_data : (chars : List Char) (i : ℕ) (c : Char) (rest : List Char) → drop i chars ≡ c ∷ rest
+    → AreData chars → IsData c
+next_is_data [] zero c rest next are = absurd cc
+next_is_data [] (suc i) c rest next are = absurd cc
+next_is_data (x ∷ chars) zero c rest next are = let same : x ≡ c = cc in subst IsData same are.0
+next_is_data (x ∷ chars) (suc i) c rest next are = next_is_data chars i c rest next are.1
+
+-- what is left behind the next character
+pub behind_next : (chars : List Char) (i : ℕ) (c : Char) (rest : List Char) → drop i chars ≡ c ∷ rest
+    → rest ≡ drop (i + 1) chars
+behind_next chars i c rest next =
+    let more : i + 1 ≡ 1 + i = omega arith in
+    sym (ap (drop 1) next) ∙ drop-drop 1 i chars ∙ ap (λ n. drop n chars) (omega arith)
+
+-- the word of one data character more
+pub words-step : (words : List (List ℕ)) (chars : List Char) (i : ℕ) (c : Char) (rest : List Char)
+    → i < length words → drop i chars ≡ c ∷ rest → AreData chars
+    → flat_map (λ word. word) (take i words) ≡ spaced_chars (take i chars)
+    → flat_map (λ word. word) (take (i + 1) (set words i
+    (32 ∷ 100 ∷ hex_digit (byte_of c / 16) ∷ hex_digit (byte_of c % 16) ∷ [])))
     ≡ spaced_chars (take (i + 1) chars)
-spaced-step room chars i d below fits are e =
-    let c = get_or chars i d in
-    let h = hex_digit (byte_of c / 16) in
-    let l = hex_digit (byte_of c % 16) in
-    let first = set room (4 * i) 32 in
-    let second = set first (4 * i + 1) 100 in
-    let third = set second (4 * i + 2) h in
-    let kept : length first ≡ length room = length-set room (4 * i) 32 in
-    let kept2 : length second ≡ length first = length-set first (4 * i + 1) 100 in
-    let kept3 : length third ≡ length second = length-set second (4 * i + 2) h in
-    let in_first : 4 * i < length room = omega arith in
-    let in_second : 4 * i + 1 < length first = omega arith in
-    let in_third : 4 * i + 2 < length second = omega arith in
-    let in_last : 4 * i + 3 < length third = omega arith in
-    let index : 4 * (i + 1) ≡ 4 * i + 3 + 1 = omega arith in
-    let at3 : 4 * i + 3 ≡ 4 * i + 2 + 1 = omega arith in
-    let at2 : 4 * i + 2 ≡ 4 * i + 1 + 1 = omega arith in
-    let text : take (4 * i + 3) third
-    ≡ spaced_chars (take i chars) ++ 32 ∷ [] ++ 100 ∷ [] ++ h ∷ [] =
-    ap (λ n. take n third) at3 ∙ take_more_set second (4 * i + 2) h in_third
-    ∙ ap (λ t. t ++ h ∷ [])
-    (ap (λ n. take n second) at2 ∙ take_more_set first (4 * i + 1) 100 in_second
-    ∙ ap (λ t. t ++ 100 ∷ [])
-    (take_more_set room (4 * i) 32 in_first ∙ ap (λ t. t ++ 32 ∷ []) e)) in
-    ap (λ n. take n (set third (4 * i + 3) l)) index
-    ∙ take_more_set third (4 * i + 3) l in_last
-    ∙ ap (λ t. t ++ l ∷ []) text
-    ∙ regrouped (spaced_chars (take i chars)) h l
-    ∙ ap (λ t. spaced_chars (take i chars) ++ (32 ∷ t))
-    (sym (data_text c (data_at chars i d are below)))
-    ∙ ap (λ t. spaced_chars (take i chars) ++ t) (sym (spaced_chars-one c))
-    ∙ sym
-    (ap spaced_chars (take_more chars i d below) ∙ spaced_chars-append (take i chars) (c ∷ []))
-  where
-    regrouped : (x : List ℕ) (h l : ℕ)
-        → x ++ 32 ∷ [] ++ 100 ∷ [] ++ h ∷ [] ++ l ∷ [] ≡ x ++ (32 ∷ 100 ∷ h ∷ l ∷ [])
-    regrouped x h l = simp append_assoc
+words-step words chars i c rest below next are e =
+    let word = 32 ∷ 100 ∷ hex_digit (byte_of c / 16) ∷ hex_digit (byte_of c % 16) ∷ [] in
+    let one : i + 1 ≡ suc i = omega arith in
+    ap (flat_map (λ word. word)) (take_more_set words i word below)
+    ∙ flat_map-append (λ word. word) (take i words) (word ∷ [])
+    ∙ ap (λ l. l ++ word) e
+    ∙ ap (λ l. spaced_chars (take i chars) ++ 32 ∷ l)
+    (sym (data_text c (next_is_data chars i c rest next are)))
+    ∙ ap (λ l. spaced_chars (take i chars) ++ l) (sym (spaced_chars-one c))
+    ∙ sym (spaced_chars-append (take i chars) (c ∷ []))
+    ∙ ap spaced_chars (sym (take_next chars i c rest next))
+    ∙ ap (λ n. spaced_chars (take n chars)) (sym one)

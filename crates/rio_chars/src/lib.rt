@@ -35,6 +35,8 @@ mod sink;
 mod source;
 mod standard;
 #[cfg(test)]
+mod standard_tests;
+#[cfg(test)]
 mod tests;
 mod text_buffer;
 mod texts;

@@ -133,7 +133,7 @@ impl<'a, K: Sink> Outbox<'a, K> {
 
     /// Tells the texts of data characters that have room in an empty buffer.
     fn write_data(&mut self, chars: &[Char])
-        requires most { length chars.now ≤ 16384 }
+        requires most { length chars.now ≤ 512 }
         requires are_data { AreData chars.now }
         ensures { Writes K.written K.faults self.old self.new (spaced_chars chars.now) }
     {

@@ -1,17 +1,19 @@
 //! The texts of many characters.
-ghost use Rattle.std.specs.Prelude.{◌≡◌, ◌≤◌, ◌*◌, ◌↔◌, ◌∷◌, length, take, IsTrue};
+ghost use Rattle.std.specs.Prelude.{◌≡◌, ◌≤◌, ◌*◌, ◌/◌, ◌%◌, ◌↔◌, ◌∷◌, [], length, take, IsTrue};
+ghost use Rattle.std.specs.List.{flat_map};
 ghost use Rattle.rio_chars.specs.CharText.{char_text_of, spaced_chars, IsData, AreData, byte_of as byte_in};
+ghost use Rattle.rio_chars.specs.HexText.{hex_digit as hex_digit_of};
 
 use crate::digits::hex_digit;
 use crate::{Char, char_text};
 
-/// The most characters whose texts have room in an empty buffer.
-pub(crate) const RUN: usize = 16384;
+/// The most data characters whose texts are written at once: more than a packet has.
+pub(crate) const RUN: usize = 512;
 
-/// How many data characters stand at the front, of at most 16,384.
+/// How many data characters stand at the front, of at most 512.
 pub(crate) fn data_run(chars: &[Char]) -> usize
     ensures within { result ≤ length chars.now }
-    ensures most { result ≤ 16384 }
+    ensures most { result ≤ 512 }
     ensures are_data { AreData (take result chars.now) }
 {
     let mut count = 0;
@@ -30,19 +32,41 @@ fn is_data(c: Char) -> bool
     matches!(c, Char::Data(_))
 }
 
-/// Writes the texts of data characters, each behind a space.
-pub(crate) fn write_data(room: &mut [u8], chars: &[Char])
+/// Writes the texts of data characters, each behind a space. They are made in words.
+pub(crate) fn write_data(room: &mut [u8], words: &mut [[u8; 4]; RUN], chars: &[Char])
     requires room { length room.old ≡ 4 * length chars.now }
+    requires most { length chars.now ≤ 512 }
     requires are_data { AreData chars.now }
     ensures { room.new ≡ spaced_chars chars.now }
 {
-    for (i, c) in chars.iter().enumerate() {
-        let byte = byte_of(*c);
-        room[4 * i] = b' ';
-        room[4 * i + 1] = b'd';
-        room[4 * i + 2] = hex_digit(byte / 16);
-        room[4 * i + 3] = hex_digit(byte % 16);
+    let words = &mut words[..chars.len()];
+    write_words(words, chars);
+    room.copy_from_slice(words.as_flattened());
+}
+
+/// Makes the texts of data characters, each behind a space, one in each word. No index is computed,
+/// so that the compiler makes many words at once.
+fn write_words(words: &mut [[u8; 4]], chars: &[Char])
+    requires room { length words.old ≡ length chars.now }
+    requires are_data { AreData chars.now }
+    ensures { flat_map (λ word. word) words.new ≡ spaced_chars chars.now }
+{
+    let mut left = chars.iter();
+    for word in words.iter_mut() {
+        let Some(c) = left.next() else {
+            return;
+        };
+        *word = data_word(*c);
     }
+}
+
+/// The text of a data character behind a space.
+fn data_word(c: Char) -> [u8; 4]
+    ensures { result
+        ≡ 32 ∷ 100 ∷ hex_digit_of (byte_in c / 16) ∷ hex_digit_of (byte_in c % 16) ∷ [] }
+{
+    let byte = byte_of(c);
+    [b' ', b'd', hex_digit(byte / 16), hex_digit(byte % 16)]
 }
 
 fn byte_of(c: Char) -> u8

@@ -7,6 +7,9 @@ ghost use Rattle.rio_chars.specs.Memory.{counted};
 use crate::{Failed, Sink, Source};
 use std::io::{ErrorKind, Read, Write};
 
+/// How often a read or a write is tried that signals interrupt, so that an error that stays ends it.
+const TRIES: u32 = 1000;
+
 /// A source over a reader of the standard library, as standard input:
 /// `StdSource::new(rt.reader())`. It tells of the bytes that are left what the reader tells of
 /// itself: those of a slice, and nothing of standard input.
@@ -50,14 +53,15 @@ impl<R: Read> Source for StdSource<R> {
     }
 }
 
-/// One read, tried again if a signal interrupts it.
+/// One read, tried again if a signal interrupts it, at most 1,000 times. Any other error is a
+/// failure at once.
 fn read_once<R: Read>(reader: &mut R, piece: &mut [u8]) -> Option<usize>
     ensures count { IfSome result (λ n. n ≤ length piece.old) }
     ensures bytes { MatchOption result (Keeps (R.remaining reader.old) (R.remaining reader.new))
         (λ n. Consumes (R.remaining reader.old) (R.remaining reader.new) (take n piece.new)
         × (n ≡ 0 → 0 < length piece.new → IsAtEnd (R.remaining reader.new))) }
 {
-    for _ in 0..u64::MAX {
+    for _ in 0..TRIES {
         match reader.read(piece) {
             Ok(count) => return Some(count),
             Err(error) => {
@@ -116,15 +120,15 @@ impl<W: Write> Sink for StdSink<W> {
     }
 }
 
-/// One write, tried again if a signal interrupts it. A writer that takes nothing of some bytes has
-/// failed.
+/// One write, tried again if a signal interrupts it, at most 1,000 times. Any other error is a
+/// failure at once, and a writer that takes nothing of some bytes has failed.
 fn write_once<W: Write>(writer: &mut W, piece: &[u8]) -> Option<usize>
     ensures count { IfSome result (λ n. n ≤ length piece.now) }
     ensures progress { IfSome result (λ n. 0 < length piece.now → 0 < n) }
     ensures bytes { MatchOption result (Keeps (W.contents writer.old) (W.contents writer.new))
         (λ n. Appends (W.contents writer.old) (W.contents writer.new) (take n piece.now)) }
 {
-    for _ in 0..u64::MAX {
+    for _ in 0..TRIES {
         match writer.write(piece) {
             Ok(count) => {
                 if count == 0 && !piece.is_empty() {

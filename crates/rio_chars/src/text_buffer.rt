@@ -5,7 +5,7 @@ ghost use Rattle.rio_chars.specs.HexText.{hex_of};
 
 use crate::digits::write_hex;
 use crate::memory::zeros;
-use crate::runs::write_data;
+use crate::runs::{RUN, write_data};
 use crate::{Char, NoMemory};
 use std::alloc::Global;
 use std::marker::Model;
@@ -18,6 +18,8 @@ pub(crate) const ROOM: usize = 65536;
 #[derive(Drop)]
 pub struct TextBuffer {
     bytes: Vec<u8>,
+    /// Where texts of data characters are made, one in each word.
+    words: [[u8; 4]; RUN],
     len: usize,
 }
 
@@ -38,6 +40,7 @@ impl TextBuffer {
     {
         Ok(TextBuffer {
             bytes: zeros(alloc, ROOM)?,
+            words: [[0; 4]; RUN],
             len: 0,
         })
     }
@@ -87,11 +90,13 @@ impl TextBuffer {
     /// Lets the texts of data characters wait that have room, each behind a space.
     pub(crate) fn append_data(&mut self, chars: &[Char])
         requires room { length self.old + 4 * length chars.now ≤ 65536 }
+        requires most { length chars.now ≤ 512 }
         requires are_data { AreData chars.now }
         ensures { self.new ≡ self.old ++ spaced_chars chars.now }
     {
         let end = self.len + 4 * chars.len();
-        write_data(&mut self.bytes[self.len..end], chars);
+        let room = &mut self.bytes[self.len..end];
+        write_data(room, &mut self.words, chars);
         self.len = end;
     }
 

@@ -1,4 +1,4 @@
-use Rattle.std.proofs.Common.{◌≡◌, ◌+◌, ◌<◌, length, take, ap, subst, sym, arith, rules}
+use Rattle.std.proofs.Common.{◌+◌, ◌<◌, length, take, ap, subst, sym, arith, rules}
 use Rattle.rio_chars.specs.CharText.{AreData}
 use Rattle.rio_chars.proofs.SpacedLaws.{run_more}
 use Rattle.rio_chars.proofs.runs.data_run.Goals as goal

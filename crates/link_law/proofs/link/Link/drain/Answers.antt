@@ -1,4 +1,4 @@
-use Rattle.std.proofs.Common.{not, ap, ◌∙◌, arith, rules}
+use Rattle.std.proofs.Common.{not, refl, ap, ◌∙◌, arith, rules}
 use Rattle.link_machine.specs.States.{link}
 use Rattle.link_rest.specs.Settling.{Drains}
 use Rattle.link_law.proofs.DrainLaws.{drain_over, round_ends, draining_begins, draining_on, draining_ends}
@@ -16,7 +16,7 @@ is_watch g = record {
 pub loop-init : goal.loop-init
 loop-init g c =
     let s = link c.args.self.now c.args.a.now c.args.b.now in
-    (draining_begins {cut = g.W.Watch.cut} (is_watch g) s c.args.watch.now c.requires, omega arith)
+    (draining_begins {cut = g.W.Watch.cut} (is_watch g) s c.args.watch.now c.requires, refl)
 
 pub returns-then-is_idle-clause-does : goal.returns-then-is_idle-clause-does
 returns-then-is_idle-clause-does g c =
@@ -48,8 +48,7 @@ loop-preserved g c =
           c.round.new.watch c.loop.counter (omega arith)
           (c.is_idle.ensures c.loop.a c.loop.b ∙ ap not c.if-is_idle.false)
           c.loop.invariant.0 c.in_ok-round.ensures.does,
-      (let before = c.loop.invariant.1 in let then_on = c.in_ok-round.ensures.counts.1 in
-          omega arith),
+      c.in_ok-round.ensures.counts.1 (λ failed. cc) ∙ c.loop.invariant.1,
     )
 
 pub returns-clause-does : goal.returns-clause-does

@@ -21,7 +21,7 @@ loop-alloc-init g c =
       sent_none {cut = g.W.Watch.cut} (is_watch g) c.args.side s c.args.watch.now
           (quiet_first c.args.side
           s c.requires),
-      omega arith,
+      refl,
       refl,
     )
 
@@ -105,8 +105,7 @@ loop-alloc-preserved g c =
           PortState). is_retry_stopped p.output) (sym (c.near-in-loop-alloc.ensures
           c.take_turn.new.self)) ∙ sym c.stands_back.ensures ∙ c.if-stands_back.false)
           c.loop-alloc.invariant.0 c.in_ok-take_turn.ensures.does).0,
-      (let before = c.loop-alloc.invariant.1
-          in let then_on = c.in_ok-take_turn.ensures.counts.1 in omega arith),
+      c.in_ok-take_turn.ensures.counts.1 (λ failed. cc) ∙ c.loop-alloc.invariant.1,
       refl,
     )
 
