@@ -17,3 +17,4 @@ pub mod Ways
 pub mod EntryLaws
 pub mod Worked
 pub mod Ring
+mod Numberings

@@ -1,9 +1,12 @@
 -- Small fabrics and their maps, right ones and wrong ones.
-use Rattle.std.specs.Prelude.{ℕ, ◌==◌, ◌||◌, List, [], ◌∷◌, Some, None, if◌then◌else◌}
+use Rattle.std.specs.Prelude.{◌≡◌, ℕ, ◌==◌, ◌||◌, List, [], ◌∷◌, Some, None, if◌then◌else◌}
 use Rattle.fabric_map.specs.declared.map.Kind.TheVariants.{Endpoint, Switch}
 use Rattle.fabric_map.specs.declared.map.Device.{Device}
 use Rattle.fabric_map.specs.declared.map.Entry.{Entry}
-use Rattle.fabric_map.specs.Topology.{Topology, port_at, peer_in}
+use Rattle.fabric_script.specs.Peers.{peer_in}
+use Rattle.fabric_map.specs.Topology.{Topology, port_at}
+use Rattle.fabric_map.specs.Routes.{Registers}
+use Rattle.fabric_map.specs.Numbered.{IsNumbered}
 
 -- The host 0, the endpoints 1 to 3, and a ring of the switches 4, 5 and 6, which have 4, 3 and 3
 -- ports. The host is at switch 4, and each switch has one of the other endpoints.
@@ -63,6 +66,11 @@ ring_entries =
     ∷ entry 4 2 0
     ∷ entry 4 5 0
     ∷ []
+
+-- the ring is numbered by the host, which has the ID 5
+abbrev pub IsRing : Registers → Registers → Type 0
+IsRing before after =
+    ((before 0).base_id ≡ 5) × IsNumbered ring ring_devices ring_entries before after
 
 -- ID 0 is skipped
 abbrev pub skipped : List Device

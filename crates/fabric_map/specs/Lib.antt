@@ -7,3 +7,4 @@ pub mod Locked
 pub mod Laws
 pub mod Ways
 pub mod Examples
+pub mod Plain

@@ -1,10 +1,10 @@
 -- What the map of a numbered fabric says, and what the registers of its devices are.
-use Rattle.std.specs.Prelude.{◌≡◌, ◌≢◌, ℕ, zero, suc, ◌+◌, ◌<◌, ◌==◌, Bool, true, false, List, [], ◌∷◌, ◌++◌, length, map, filter, find, flat_map, Contains, slice_index, Option, Some, None, unwrap_or, if◌then◌else◌}
+use Rattle.std.specs.Prelude.{◌≡◌, ◌≢◌, ℕ, zero, suc, ◌+◌, ◌<◌, ◌==◌, Bool, true, false, List, [], ◌∷◌, ◌++◌, length, map, filter, find, flat_map, Contains, Option, Some, None, unwrap_or, if◌then◌else◌}
 use Rattle.std.specs.List.{list_any}
 use Rattle.std.specs.Option.{option_and_then}
 use Rattle.fabric_script.specs.declared.ports.PortRef.{PortRef}
 use Rattle.maint_registers.specs.Devices as registers
-use Rattle.maint_registers.specs.Routes.{next_port}
+use Rattle.maint_registers.specs.Routes.{entry_of, next_port}
 use Rattle.fabric_map.specs.declared.map.Kind.{Kind}
 use Rattle.fabric_map.specs.declared.map.Kind.TheVariants.{Endpoint, Switch}
 use Rattle.fabric_map.specs.declared.map.Device.{Device}
@@ -124,13 +124,18 @@ pub record IsMarked (host_id : ℕ) (device : Device) (held : registers.Device) 
   pub base_id : HasBaseId held device.kind
 
 -- Only these registers of a device may change: lock, tag, ID, selected destination, default port,
--- and the entries 0 to 62, of the host's ID and of 255.
-pub record ChangesOnly (host_id : ℕ) (old new : registers.Device) : Type 0 where
-  pub kind : new.kind ≡ old.kind
-  pub ports : new.ports ≡ old.ports
-  pub linked : new.linked ≡ old.linked
-  pub routes : (id : ℕ) → 62 < id → id < 255 → id ≢ host_id
-      → slice_index new.routes id ≡ slice_index old.routes id
+-- and the entries 0 to 62, of these hosts' IDs and of 255.
+pub record ChangesOnly (host_ids : List ℕ) (old new : registers.Device) : Type 0 where
+  pub rest : new ≡ record old {
+    lock = new.lock;
+    tag = new.tag;
+    base_id = new.base_id;
+    select = new.select;
+    routes = new.routes;
+    default_port = new.default_port;
+  }
+  pub routes : (id : ℕ) → 62 < id → id ≢ 255 → ¬ Contains host_ids id
+      → entry_of new id ≡ entry_of old id
 
 -- A fabric is numbered by the host: its map, and its registers before and after. `marked` is of
 -- each device of the map, `tables` of each entry; packets for a given ID come to its endpoint from
@@ -151,4 +156,4 @@ pub record IsNumbered (topology : Topology) (devices : List Device) (entries : L
       → has_id id goal ≡ true → from ≢ to → Comes topology after id from to
   pub outside : (node : ℕ) → ¬ IsReached topology node → after node ≡ before node
   pub inside : (node : ℕ) → IsReached topology node
-      → ChangesOnly (before topology.host).base_id (before node) (after node)
+      → ChangesOnly ((before topology.host).base_id ∷ []) (before node) (after node)

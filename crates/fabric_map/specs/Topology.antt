@@ -1,7 +1,6 @@
 -- Devices and links, and where a path of ports leads. Nothing here has an order of asking.
 use Rattle.std.specs.Prelude.{◌≡◌, ◌≢◌, ℕ, ◌<◌, ◌≤◌, ◌==◌, nat_lt, List, [], ◌∷◌, Option, Some, None, IsSome, option_map, unwrap_or, if◌then◌else◌}
 use Rattle.std.specs.Option.{option_and_then}
-use Rattle.fabric_script.specs.Known.{same_port}
 use Rattle.fabric_script.specs.declared.ports.PortRef.{PortRef}
 
 -- `nodes` is how many devices there are; each is a number below it. `switch_ports` is how many
@@ -12,13 +11,6 @@ pub record Topology : Type 0 where
   pub switch_ports : ℕ → Option ℕ
   pub peer : PortRef → Option PortRef
   pub host : ℕ
-
--- the other end of a port's link, in a list of links
-abbrev pub peer_in : List (PortRef × PortRef) → PortRef → Option PortRef
-peer_in [] p = None
-peer_in (link ∷ links) p =
-    if same_port link.0 p then Some link.1
-    else (if same_port link.1 p then Some link.0 else peer_in links p)
 
 abbrev pub port_at : ℕ → ℕ → PortRef
 port_at node port = record { node = node; port = port }

@@ -21,7 +21,7 @@ mod map;
 mod tests;
 
 pub use entries::entries_of;
-pub use examples::{the_ring_has_its_map, wrong_maps_are_none};
+pub use examples::{the_ring_has_its_map, the_ring_has_its_registers, wrong_maps_are_none};
 pub use laws::{
     a_fabric_has_one_map, a_host_asks_along_a_path, a_map_is_whole, a_walk_goes_on,
     an_id_has_one_endpoint, the_first_locked_is_one,

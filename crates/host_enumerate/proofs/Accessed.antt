@@ -11,7 +11,7 @@ use Rattle.fabric_map.specs.Routes.{Registers}
 use Rattle.fabric_map.specs.Fitting.{Fits}
 use Rattle.host_enumerate.specs.declared.maint.Access.{Access}
 use Rattle.host_enumerate.specs.Accesses.{answered, with_device, after_access}
-use Rattle.host_enumerate.specs.Plain.{ports_of_switch, topology_of, registers_of}
+use Rattle.fabric_map.specs.Plain.{ports_of_switch, topology_of, registers_of}
 
 -- an access leaves the device what it is
 pub record Keeps (before after : Device) : Type 0 where

@@ -7,12 +7,13 @@ use Rattle.fabric_script.specs.Known.{same_port}
 use Rattle.fabric_script.specs.declared.ports.PortRef.{PortRef}
 use Rattle.maint_registers.specs.Devices.{Device, is_switch, new_endpoint}
 use Rattle.maint_registers.specs.Table.{status_of}
-use Rattle.fabric_map.specs.Topology.{Topology, IsTopology, IsPort, port_at, ports_of, peer_in}
+use Rattle.fabric_script.specs.Peers.{peer_in}
+use Rattle.fabric_map.specs.Topology.{Topology, IsTopology, IsPort, port_at, ports_of}
 use Rattle.fabric_map.specs.Fitting.{Fits}
 use Rattle.fabric_map.proofs.Lists.{Contains-first, Contains-rest, Contains-cases, not_in_empty}
-use Rattle.host_enumerate.specs.Plain.{ports_of_switch, topology_of, registers_of}
+use Rattle.fabric_map.specs.Plain.{ports_of_switch, topology_of, registers_of}
 use Rattle.host_enumerate.specs.Checking.{IsNewFabric, IsNewDevice, ports_shown, has_port, leads_to, is_link, shows_link}
-use Rattle.host_enumerate.proofs.Pairs.{same_port-true}
+use Rattle.fabric_script.proofs.PeerLaws.{port_is, same_port-refl}
 
 both_true : (a b : Bool) → (a && b) ≡ true → (a ≡ true) × (b ≡ true)
 both_true true true both = (refl, refl)
@@ -49,12 +50,12 @@ peer-listed (link ∷ links) p q linked =
     go true b first second at on = (
       link,
       Contains-first link links,
-      inl (same_port-true link.0 p first, same_Some link.1 q at),
+      inl (port_is link.0 p first, same_Some link.1 q at),
     )
     go false true first second at on = (
       link,
       Contains-first link links,
-      inr (same_port-true link.1 p second, same_Some link.0 q at),
+      inr (port_is link.1 p second, same_Some link.0 q at),
     )
     go false false first second at on =
         let found = on at in (found.0, Contains-rest link links found.0 found.1, found.2)
@@ -69,10 +70,7 @@ leads_to-true links p q leads = go (peer_in links p) refl leads
 
     go : (o : Option PortRef) → peer_in links p ≡ o → Leads o ≡ true → o ≡ Some q
     go None is leads = absurd (cc)
-    go (Some r) is leads = ap (λ (s : PortRef). Some s) (same_port-true r q leads)
-
-same_port-itself : (p : PortRef) → same_port p p ≡ true
-same_port-itself p = rw (eq-eqb p.node p.node refl, eq-eqb p.port p.port refl) refl
+    go (Some r) is leads = ap (λ (s : PortRef). Some s) (port_is r q leads)
 
 module _ (devices : List Device) (links : List (PortRef × PortRef)) (host : ℕ) where
   abbrev topology : Topology
@@ -114,8 +112,8 @@ module _ (devices : List Device) (links : List (PortRef × PortRef)) (host : ℕ
       go true is = refl
       go false is = absurd (cc)
 
-  port_is : (p : PortRef) → has_port devices p ≡ true → IsPort topology p
-  port_is p has =
+  port_stands : (p : PortRef) → has_port devices p ≡ true → IsPort topology p
+  port_stands p has =
       let parts = both_true (nat_lt p.node (length devices))
       (nat_lt p.port (ports_shown (registers_of devices p.node))) has in
       let inside = ltb-true p.node (length devices) parts.0 in
@@ -139,7 +137,7 @@ module _ (devices : List Device) (links : List (PortRef × PortRef)) (host : ℕ
       where
         differ : (a b : PortRef) → not (same_port a b) ≡ true → a ≢ b
         differ a b other same =
-            let is = ap (λ (s : PortRef). same_port a s) (sym same) ∙ same_port-itself a in
+            let is = ap (λ (s : PortRef). same_port a s) (sym same) ∙ same_port-refl a in
             let both : not true ≡ true = ap not (sym is) ∙ other in
             absurd (cc)
 
@@ -154,7 +152,7 @@ module _ (devices : List Device) (links : List (PortRef × PortRef)) (host : ℕ
             let three = both_true (one && two && there) back all.0 in
             let ports = both_true (one && two) there three.0 in
             let both = both_true one two ports.0 in
-            at ends (port_is link.0 both.0) (port_is link.1 both.1)
+            at ends (port_stands link.0 both.0) (port_stands link.1 both.1)
             (leads_to-true links link.0 link.1 ports.1) (leads_to-true links link.1 link.0 three.1)
             (differ link.0 link.1 all.1)
           where

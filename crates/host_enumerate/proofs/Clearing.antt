@@ -1,5 +1,5 @@
 -- A switch is set up.
-use Rattle.std.proofs.Common.{◌≡◌, ◌≢◌, ℕ, ◌+◌, ◌≤◌, ◌<◌, ◌⊎◌, inl, inr, true, List, length, slice_index, slice_set, Some, arith, refl, sym, ap, subst, ◌∙◌}
+use Rattle.std.proofs.Common.{◌≡◌, ◌≢◌, ℕ, ◌+◌, ◌≤◌, ◌<◌, ◌⊎◌, inl, inr, true, List, length, slice_index_or, slice_set, Some, arith, refl, sym, ap, subst, ◌∙◌}
 use Rattle.std.proofs.lemmas.Bool.{cases_lt}
 use Rattle.std.proofs.lemmas.List.{length-set}
 use Rattle.fabric_script.specs.declared.ports.PortRef.{PortRef}
@@ -16,24 +16,12 @@ use Rattle.host_enumerate.proofs.Entries.{becomes-twice, askable-written}
 use Rattle.host_enumerate.specs.Setting.{with_entry, IsSameBut, IsCleared}
 
 pub same_but-itself : (device : Device) → IsSameBut device device
-same_but-itself device = record {
-  kind = refl;
-  ports = refl;
-  linked = refl;
-  lock = refl;
-  tag = refl;
-  base_id = refl;
-}
+same_but-itself device = record { rest = refl }
 
 pub same_but-entry : (old new : Device) (id port : ℕ) → IsSameBut old new
     → IsSameBut old (with_entry new id port)
 same_but-entry old new id port same = record {
-  kind = same.kind;
-  ports = same.ports;
-  linked = same.linked;
-  lock = same.lock;
-  tag = same.tag;
-  base_id = same.base_id;
+  rest = ap (λ (d : Device). with_entry d id port) same.rest;
 }
 
 pub cleared-none : (host_id : ℕ) (device : Device) → IsCleared host_id 0 device device
@@ -69,12 +57,12 @@ cleared-next host_id below old new destinations less cleared = record {
         go (inr after) = inr (omega (arith, after, within))
 
     at : (id : ℕ) → (id < below) ⊎ (id ≡ below) → id ≢ host_id
-        → slice_index (slice_set new.routes below 255) id ≡ 255
+        → slice_index_or (slice_set new.routes below 255) id 255 ≡ 255
     at id (inl before) other =
         entry-set_other new.routes below id 255 (λ same. absurd (omega (arith, same, before)))
         ∙ cleared.cleared id before other
     at id (inr here) other =
-        subst (λ n. slice_index (slice_set new.routes below 255) n ≡ 255) (sym here)
+        subst (λ n. slice_index_or (slice_set new.routes below 255) n 255 ≡ 255) (sym here)
         (entry-set_same new.routes below 255 fits)
 
 pub cleared-past : (host_id below : ℕ) (old new : Device) → below ≡ host_id
@@ -152,8 +140,8 @@ cleared_askable topology now old new host_id below path at is_now askable apart 
     let found = cleared at askable.leads in (
       subst (λ t. IsAskable t new host_id path at) (sym is_now)
           (askable-written topology old new host_id path at found.0 askable found.1 apart
-          (λ _. found.2.same.base_id)),
+          (λ _. ap (λ (d : Device). d.base_id) found.2.same.rest)),
       subst (λ t. IsApart t path at.node) (sym is_now) apart,
       ap is_switch (became old new at.node found.0 found.1)
-          ∙ (is_switch-kind found.0 (old at.node) found.2.same.kind ∙ is),
+          ∙ (is_switch-kind found.0 (old at.node) (ap (λ (d : Device). d.kind) found.2.same.rest) ∙ is),
     )

@@ -249,7 +249,7 @@ module _ (topology : Topology) (before now : Registers) (host_id next : ℕ)
     tables = tables;
     routed = routed;
     outside = underway-outside topology before now host_id next devices after_all_paths underway;
-    inside = λ node reached. subst (λ id. ChangesOnly id (before node) (now node))
+    inside = λ node reached. subst (λ id. ChangesOnly (id ∷ []) (before node) (now node))
         (sym underway.id)
         (underway-inside topology before now host_id next devices after_all_paths underway node);
   }

@@ -1,10 +1,10 @@
 -- What is kept if the entry of 255 is set, and where a switch that was met sends packets.
-use Rattle.std.proofs.Common.{◌≡◌, ◌≢◌, ℕ, ◌<◌, ◌≤◌, true, List, [], length, Some, slice_index, Contains, arith, ◌⊎◌, inl, inr, subst, sym, ap, ◌∙◌}
+use Rattle.std.proofs.Common.{◌≡◌, ◌≢◌, ℕ, ◌<◌, ◌≤◌, true, List, [], length, Some, Contains, arith, ◌⊎◌, inl, inr, subst, sym, ap, ◌∙◌}
 use Rattle.std.proofs.lemmas.Bool.{cases_eq}
 use Rattle.std.proofs.lemmas.Option.{same_Some}
 use Rattle.fabric_script.specs.declared.ports.PortRef.{PortRef}
 use Rattle.maint_registers.specs.Devices as registers
-use Rattle.maint_registers.specs.Routes.{next_port}
+use Rattle.maint_registers.specs.Routes.{entry_of, next_port}
 use Rattle.maint_registers.proofs.RouteLaws.{entry-next, entry-set_same, entry-set_other}
 use Rattle.fabric_map.specs.declared.map.Kind.{Kind}
 use Rattle.fabric_map.specs.declared.map.Kind.TheVariants.{Endpoint, Switch}
@@ -16,7 +16,7 @@ use Rattle.fabric_map.specs.Numbered.{HasBaseId}
 use Rattle.fabric_map.proofs.Growing.{described-listed, described-switch, node_at-entered}
 use Rattle.host_enumerate.specs.Asking.{AreSame, Becomes}
 use Rattle.host_enumerate.specs.Setting.{with_entry}
-use Rattle.host_enumerate.specs.Underway.{HasTableOf, IsHeld, IsUnderway}
+use Rattle.host_enumerate.specs.Underway.{HasTableOf, IsHeld, IsUnmet, AreOwnUntagged, IsUnderway}
 use Rattle.host_enumerate.proofs.Frames.{with_device-at, with_device-other}
 use Rattle.fabric_map.proofs.Few.{entered-port}
 
@@ -42,11 +42,9 @@ held-255 host_id port devices member before now is_id held = record {
   };
   not_foreign = held.not_foreign;
   changes = record {
-    kind = held.changes.kind;
-    ports = held.changes.ports;
-    linked = held.changes.linked;
+    rest = ap (λ (d : registers.Device). with_entry d 255 port) held.changes.rest;
     routes = λ id most less apart.
-        entry-set_other now.routes 255 id port (λ same. omega (arith, same, less))
+        entry-set_other now.routes 255 id port less
         ∙ held.changes.routes id most less apart;
   };
   table = table member.kind held.table;
@@ -150,7 +148,34 @@ module _ (topology : Topology) (before now : Registers) (host_id next : ℕ)
       (subst (λ n. at.port < n) (sym (fits.ports at.node is_port.node)) is_port.port)
     where
       home : HasTableOf host_id devices member (now at.node)
-          → slice_index (now at.node).routes host_id ≡ entry
+          → entry_of (now at.node) host_id ≡ entry
       home table =
           (subst (λ k. HasTableOf host_id devices (record member { kind = k }) (now at.node)) is
           table).home
+
+  -- What happens to devices that were not met does not matter, as long as none of them that bears
+  -- the host's ID has a tag: each such device begins as it is now.
+  pub underway-elsewhere : (earlier after : Registers)
+      → (earlier topology.host).base_id ≡ host_id
+      → ((member : Device) (node : ℕ) → Contains devices member
+      → node_at topology member.path ≡ Some node
+      → (earlier node ≡ before node) × (after node ≡ now node))
+      → ((node : ℕ) → IsUnmet topology devices node → after node ≡ earlier node)
+      → AreOwnUntagged topology earlier host_id
+      → IsUnderway topology earlier after host_id devices next bound
+  underway-elsewhere earlier after id met unmet untagged = record {
+    proper = underway.proper;
+    id = id;
+    host_has_id = underway.host_has_id;
+    untagged = untagged;
+    walked = underway.walked;
+    described = underway.described;
+    counted = underway.counted;
+    short = underway.short;
+    held = λ member node listed is.
+        let same = met member node listed is in
+        subst (λ d. IsHeld host_id devices member d (after node)) (sym same.0)
+        (subst (λ d. IsHeld host_id devices member (before node) d) (sym same.1)
+        (underway.held member node listed is));
+    others = unmet;
+  }

@@ -1,11 +1,12 @@
 -- A device that is taken in.
-use Rattle.std.proofs.Common.{◌≡◌, ◌≢◌, ℕ, ◌+◌, ◌<◌, ◌≤◌, false, List, [], ◌∷◌, ◌++◌, length, Some, None, unwrap_or, slice_index, Contains, arith, ◌⊎◌, inl, inr, subst, sym, refl, ap, ◌∙◌, length-append, ne_eqb, eq-eqb}
+use Rattle.std.proofs.Common.{◌≡◌, ◌≢◌, ℕ, ◌+◌, ◌<◌, ◌≤◌, false, List, [], ◌∷◌, ◌++◌, length, Some, None, unwrap_or, Contains, arith, ◌⊎◌, inl, inr, subst, sym, refl, ap, ◌∙◌, length-append, ne_eqb, eq-eqb}
 use Rattle.std.proofs.lemmas.Bool.{cases_eq}
 use Rattle.std.proofs.lemmas.List.Elements.{Contains-push, Contains-push_cases, Contains-append_left}
 use Rattle.std.proofs.lemmas.Option.{same_Some}
 use Rattle.fabric_script.specs.declared.ports.PortRef.{PortRef}
 use Rattle.maint_registers.specs.Devices as registers
 use Rattle.maint_registers.proofs.RouteLaws.{entry-set_same, entry-set_other}
+use Rattle.maint_registers.specs.Routes.{entry_of}
 use Rattle.fabric_map.specs.declared.map.Kind.{Kind}
 use Rattle.fabric_map.specs.declared.map.Kind.TheVariants.{Endpoint, Switch}
 use Rattle.fabric_map.specs.declared.map.Device.{Device}
@@ -27,10 +28,10 @@ longer-table : (host_id : ℕ) (devices more : List Device) (path : List ℕ) (e
     (old new : registers.Device)
     → HasTable host_id devices path entry old
     → new.default_port ≡ old.default_port
-    → slice_index new.routes host_id ≡ slice_index old.routes host_id
+    → entry_of new host_id ≡ entry_of old host_id
     → ((id : ℕ) → id < 63 → id ≢ host_id
-    → slice_index old.routes id ≡ unwrap_or (port_toward devices path id) 255
-    → slice_index new.routes id ≡ unwrap_or (port_toward more path id) 255)
+    → entry_of old id ≡ unwrap_or (port_toward devices path id) 255
+    → entry_of new id ≡ unwrap_or (port_toward more path id) 255)
     → HasTable host_id more path entry new
 longer-table host_id devices more path entry old new table default home branches = record {
   default = default ∙ table.default;
@@ -42,10 +43,10 @@ longer-table_of : (host_id : ℕ) (devices more : List Device) (device : Device)
     (old new : registers.Device)
     → HasTableOf host_id devices device old
     → new.default_port ≡ old.default_port
-    → slice_index new.routes host_id ≡ slice_index old.routes host_id
+    → entry_of new host_id ≡ entry_of old host_id
     → ((id : ℕ) → id < 63 → id ≢ host_id
-    → slice_index old.routes id ≡ unwrap_or (port_toward devices device.path id) 255
-    → slice_index new.routes id ≡ unwrap_or (port_toward more device.path id) 255)
+    → entry_of old id ≡ unwrap_or (port_toward devices device.path id) 255
+    → entry_of new id ≡ unwrap_or (port_toward more device.path id) 255)
     → HasTableOf host_id more device new
 longer-table_of host_id devices more device old new table default home branches =
     go device.kind table
@@ -110,9 +111,9 @@ module _ (host_id : ℕ) (devices : List Device) (device member : Device)
   }
     where
       branch : (id : ℕ)
-          → slice_index now.routes id ≡ unwrap_or (port_toward devices member.path id) 255
+          → entry_of now id ≡ unwrap_or (port_toward devices member.path id) 255
           → (given ≡ id) ⊎ (given ≢ id)
-          → slice_index now.routes id
+          → entry_of now id
           ≡ unwrap_or (port_toward (devices ++ device ∷ []) member.path id) 255
       branch id same (inl equal) =
           same ∙ ap (λ o. unwrap_or o 255)
@@ -135,9 +136,7 @@ module _ (host_id : ℕ) (devices : List Device) (device member : Device)
     };
     not_foreign = held.not_foreign;
     changes = record {
-      kind = held.changes.kind;
-      ports = held.changes.ports;
-      linked = held.changes.linked;
+      rest = ap (λ (d : registers.Device). with_entry d given port) held.changes.rest;
       routes = λ id most less apart.
           entry-set_other now.routes given id port (λ same. omega (arith, same, few, most))
           ∙ held.changes.routes id most less apart;
@@ -153,12 +152,12 @@ module _ (host_id : ℕ) (devices : List Device) (device member : Device)
       base (Switch ports entry) has = has
 
       branch : (id : ℕ)
-          → slice_index now.routes id ≡ unwrap_or (port_toward devices member.path id) 255
+          → entry_of now id ≡ unwrap_or (port_toward devices member.path id) 255
           → (given ≡ id) ⊎ (given ≢ id)
-          → slice_index (with_entry now given port).routes id
+          → entry_of (with_entry now given port) id
           ≡ unwrap_or (port_toward (devices ++ device ∷ []) member.path id) 255
       branch id same (inl equal) =
-          subst (λ n. slice_index (with_entry now given port).routes n ≡ port) equal
+          subst (λ n. entry_of (with_entry now given port) n ≡ port) equal
           (entry-set_same now.routes given port (omega (arith, few, all)))
           ∙ sym (ap (λ o. unwrap_or o 255) (new_id id given is equal free ∙ leads))
       branch id same (inr apart) =

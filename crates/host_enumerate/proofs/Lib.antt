@@ -1,6 +1,6 @@
-mod Accessed
+pub mod Accessed
 pub mod Frames
-mod PlainWalks
+pub mod PlainWalks
 mod Pairs
 pub mod Checked
 mod Counting
@@ -31,3 +31,8 @@ mod Exploring
 mod Starting
 mod Begun
 mod Numbering
+pub mod NewDevices
+pub mod Devised
+pub mod NewFabrics
+mod Changed
+pub mod LinesLeft

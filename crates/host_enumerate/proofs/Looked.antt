@@ -1,7 +1,7 @@
 -- What the call that tries a port of a switch knows.
 use Rattle.std.proofs.Common.{◌≡◌, ◌≢◌, ℕ, ◌+◌, ◌<◌, ◌≤◌, inl, inr, List, [], ◌∷◌, length, Contains, Option, Some, None, Result, Ok, Err, IfErr, arith, sym, ap, subst}
 use Rattle.std.specs.Result.{IsErrAnd}
-use Rattle.rio_chars.specs.Faults.{Rose}
+use Rattle.link_model.specs.declared.event.Event.{Event}
 use Rattle.fabric_script.specs.declared.ports.PortRef.{PortRef}
 use Rattle.fabric_map.specs.declared.map.Kind.{Kind}
 use Rattle.fabric_map.specs.declared.map.Kind.TheVariants.{Endpoint, Switch}
@@ -24,23 +24,23 @@ use Rattle.host_enumerate.specs.Ends.{IsEnded}
 use Rattle.host_enumerate.proofs.Routing.{opened-front}
 use Rattle.host_enumerate.proofs.Looking.{underway_then, behind_askable, met_passed, one_more, endpoint_passed, path_still, switch_found}
 
-rose_longer : (first before after : ℕ) → first ≤ before → Rose before after → Rose first after
-rose_longer first before after less (inl rose) = inl (omega (arith, less, rose))
-rose_longer first before after less (inr most) = inr most
-
 -- an end stays one if the call began earlier
 pub ended_longer : (first before after faults_first faults faults_after : ℕ)
-    (P Q : List ℕ → ℕ → Type 0) (end : EnumEnd) → first ≤ before → faults_first ≤ faults
+    (met : PortRef → Event → Type 0) (P Q : List ℕ → ℕ → Type 0) (end : EnumEnd)
+    → before ≡ first → faults ≡ faults_first
     → ((path : List ℕ) (id : ℕ) → P path id → Q path id)
-    → IsEnded (before, after) (faults, faults_after) P end
-    → IsEnded (first, after) (faults_first, faults_after) Q end
-ended_longer first before after faults_first faults faults_after P Q (LockedBy path id) less fewer on
-    ended = on path id ended
-ended_longer first before after faults_first faults faults_after P Q (Undetected port event) less
-    fewer on ended = rose_longer first before after less ended
-ended_longer first before after faults_first faults faults_after P Q WriteFault less fewer on ended =
-    rose_longer faults_first faults faults_after fewer ended
-ended_longer first before after faults_first faults faults_after P Q NoMemory less fewer on ended = tt
+    → IsEnded (before, after) (faults, faults_after) met P end
+    → IsEnded (first, after) (faults_first, faults_after) met Q end
+ended_longer first before after faults_first faults faults_after met P Q end same equal on ended =
+    subst (λ n. IsEnded (n, after) (faults_first, faults_after) met Q end) same
+    (subst (λ n. IsEnded (before, after) (n, faults_after) met Q end) equal (go end ended))
+  where
+    go : (end : EnumEnd) → IsEnded (before, after) (faults, faults_after) met P end
+        → IsEnded (before, after) (faults, faults_after) met Q end
+    go (LockedBy path id) ended = (on path id ended.0, ended.1, ended.2)
+    go (Undetected port event) ended = ended
+    go WriteFault ended = ended
+    go NoMemory ended = ended
 
 module _ (topology later_topology : Topology) (now mid later : Registers) (host_id next : ℕ)
     (devices : List Device) (switch : Found) (port : ℕ) (path : List ℕ)

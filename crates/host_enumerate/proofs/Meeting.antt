@@ -69,23 +69,26 @@ module _ (topology : Topology) (before now : Registers) (host_id next : ℕ)
       (sym (underway.held device node listed same).marked.tag ∙ none)
 
   -- one with a tag was
-  pub member-tagged : (node : ℕ) → node < topology.nodes → (now node).tag ≢ 0
+  pub member-tagged : (node : ℕ) → node < topology.nodes → (now node).lock ≡ host_id
+      → (now node).tag ≢ 0
       → IsMember topology devices node
-  member-tagged node inside tagged = go (member_or_unmet topology devices node)
+  member-tagged node inside own tagged = go (member_or_unmet topology devices node)
     where
       go : IsMember topology devices node ⊎ IsUnmet topology devices node
           → IsMember topology devices node
       go (inl member) = member
       go (inr unmet) =
           absurd (tagged (ap (λ d. d.tag) (underway.others node unmet)
-          ∙ underway.untagged node inside))
+          ∙ underway.untagged node inside
+          (ap (λ d. d.lock) (sym (underway.others node unmet)) ∙ own)))
 
   -- so a path that leads to it is met
-  pub met-tagged : (at : PortRef) → entered topology bound ≡ Some at → (now at.node).tag ≢ 0
+  pub met-tagged : (at : PortRef) → entered topology bound ≡ Some at
+      → (now at.node).lock ≡ host_id → (now at.node).tag ≢ 0
       → IsMet topology (paths_of devices) bound
-  met-tagged at enters tagged =
+  met-tagged at enters own tagged =
       let inside = entered-inside topology bound at underway.proper enters in
-      let member = member-tagged at.node inside tagged in
+      let member = member-tagged at.node inside own tagged in
       let listed = path_listed devices member.0 member.1 in
       record {
         met_on = member.0.path;
@@ -106,15 +109,15 @@ module _ (topology : Topology) (before now : Registers) (host_id next : ℕ)
   underway-outside node apart =
       underway.others node (λ device listed same. apart (device.path, same))
 
-  pub underway-inside : (node : ℕ) → ChangesOnly host_id (before node) (now node)
+  pub underway-inside : (node : ℕ) → ChangesOnly (host_id ∷ []) (before node) (now node)
   underway-inside node = go (member_or_unmet topology devices node)
     where
       go : IsMember topology devices node ⊎ IsUnmet topology devices node
-          → ChangesOnly host_id (before node) (now node)
+          → ChangesOnly (host_id ∷ []) (before node) (now node)
       go (inl member) = (underway.held member.0 node member.1 member.2).changes
-      go (inr unmet) = subst (λ d. ChangesOnly host_id (before node) d)
+      go (inr unmet) = subst (λ d. ChangesOnly (host_id ∷ []) (before node) d)
           (sym (underway.others node unmet))
-          (record { kind = refl; ports = refl; linked = refl; routes = λ id most less other. refl })
+          (record { rest = refl; routes = λ id most less other. refl })
 
   -- the walk ends at a device with the lock of another host
   pub ends_at_lock : (at : PortRef) → IsNext (paths_of devices) bound
@@ -135,9 +138,11 @@ module _ (topology : Topology) (before now : Registers) (host_id next : ℕ)
     };
     kept = λ met node listed leads.
         member-lock node (member met node listed leads) ∙ sym underway.id;
+    unmet_stay = λ node none. underway.others node
+        (λ device listed same. none device.path (path_listed devices device listed) same);
     outside = underway-outside;
     inside = λ node reached.
-        subst (λ id. ChangesOnly id (before node) (now node)) (sym underway.id)
+        subst (λ id. ChangesOnly (id ∷ []) (before node) (now node)) (sym underway.id)
         (underway-inside node);
   }
     where

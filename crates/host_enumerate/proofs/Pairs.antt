@@ -1,27 +1,16 @@
 -- A host and an endpoint with a link between them.
 use Rattle.std.proofs.Common.{◌≡◌, ℕ, zero, suc, ◌/◌, ◌%◌, ◌^◌, ◌<◌, ◌≤◌, ◌==◌, is_some, ◌&&◌, Bool, true, false, Some, None, ◌⊎◌, inl, inr, arith, refl, sym, ap, subst, ◌∙◌, if◌then◌else◌}
-use Rattle.std.proofs.lemmas.Bool.{eqb-true}
 use Rattle.std.proofs.lemmas.Option.{same_Some}
 use Rattle.std.proofs.lemmas.List.{length-replicate}
 use Rattle.fabric_script.specs.declared.ports.PortRef.{PortRef}
 use Rattle.fabric_script.specs.Known.{same_port}
+use Rattle.fabric_script.proofs.PeerLaws.{port_is}
 use Rattle.maint_registers.specs.Devices.{IsDevice, new_endpoint, no_routes, is_switch}
-use Rattle.fabric_map.specs.Topology.{IsTopology, IsPort, port_at, ports_of, peer_in}
+use Rattle.fabric_script.specs.Peers.{peer_in}
+use Rattle.fabric_map.specs.Topology.{IsTopology, IsPort, port_at, ports_of}
 use Rattle.fabric_map.specs.Fitting.{Fits}
-use Rattle.host_enumerate.specs.Plain.{topology_of, registers_of}
+use Rattle.fabric_map.specs.Plain.{topology_of, registers_of}
 use Rattle.host_enumerate.specs.Examples.{pair_devices, pair_links}
-
-pub same_port-true : (p q : PortRef) → same_port p q ≡ true → p ≡ q
-same_port-true p q is = go (p.node == q.node) (p.port == q.port) refl refl is
-  where
-    go : (a b : Bool) → (p.node == q.node) ≡ a → (p.port == q.port) ≡ b → (a && b) ≡ true
-        → p ≡ q
-    go true true node port both =
-        let same_node = eqb-true p.node q.node node in
-        let same_number = eqb-true p.port q.port port in
-        λ i. record { node = same_node i; port = same_number i }
-    go true false node port both = absurd (cc)
-    go false b node port both = absurd (cc)
 
 abbrev Ends : PortRef → PortRef → Type 0
 Ends p q =
@@ -35,9 +24,9 @@ ends p q linked = go (same_port (port_at 0 0) p) (same_port (port_at 1 0) p) ref
         → (if a then Some (port_at 1 0) else (if b then Some (port_at 0 0) else None)) ≡ Some q
         → Ends p q
     go true b first second at =
-        inl (same_port-true (port_at 0 0) p first, same_Some (port_at 1 0) q at)
+        inl (port_is (port_at 0 0) p first, same_Some (port_at 1 0) q at)
     go false true first second at =
-        inr (same_port-true (port_at 1 0) p second, same_Some (port_at 0 0) q at)
+        inr (port_is (port_at 1 0) p second, same_Some (port_at 0 0) q at)
     go false false first second at = absurd (cc)
 
 pub pair-topology : IsTopology (topology_of pair_devices pair_links 0)
@@ -79,6 +68,8 @@ new_endpoint-device : (id : ℕ) → IsDevice (new_endpoint id true)
 unfolding no_routes
 new_endpoint-device id = record {
   most_ports = omega arith;
+  endpoint_ports = λ is. refl;
+  switch_id = λ is. absurd (cc);
   destinations = length-replicate {A = ℕ} 256 255;
   selected = omega arith;
 }

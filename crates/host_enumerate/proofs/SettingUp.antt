@@ -54,10 +54,10 @@ pub stage_askable : (topology now : Topology) (old new : Registers) (host_id : �
 stage_askable topology now old new host_id path at held askable apart is stage = (
   subst (λ t. IsAskable t new host_id path at) (sym stage.stays)
       (askable-written topology old new host_id path at held askable stage.becomes apart
-      (λ _. stage.same.base_id)),
+      (λ _. ap (λ (d : Device). d.base_id) stage.same.rest)),
   subst (λ t. IsApart t path at.node) (sym stage.stays) apart,
   ap is_switch (became old new at.node held stage.becomes)
-      ∙ (is_switch-kind held (old at.node) stage.same.kind ∙ is),
+      ∙ (is_switch-kind held (old at.node) (ap (λ (d : Device). d.kind) stage.same.rest) ∙ is),
 )
 
 -- a read changes nothing
@@ -99,14 +99,7 @@ stage_default topology first second old mid new path at value port is fits is_se
           ∙ (default_port-written (old at.node) value kind
           ∙ ap (λ n. Some (record (old at.node) { default_port = n }))
           (ap (λ n. n % 0x100) is ∙ omega (arith, fits)))));
-      same = record {
-        kind = refl;
-        ports = refl;
-        linked = refl;
-        lock = refl;
-        tag = refl;
-        base_id = refl;
-      };
+      same = record { rest = refl };
     }
   where
     there : mid at.node ≡ old at.node
@@ -124,12 +117,12 @@ stage_cleared topology first second old mid new host_id at base held is_second s
         stays = is_second ∙ stage.stays;
         becomes = becomes-twice old mid new at.node base held stage.becomes becomes;
         same = record {
-          kind = on.same.kind ∙ stage.same.kind;
-          ports = on.same.ports ∙ stage.same.ports;
-          linked = on.same.linked ∙ stage.same.linked;
-          lock = on.same.lock ∙ stage.same.lock;
-          tag = on.same.tag ∙ stage.same.tag;
-          base_id = on.same.base_id ∙ stage.same.base_id;
+          rest = on.same.rest
+              ∙ ap (λ (d : Device). record d {
+                routes = held.routes;
+                default_port = held.default_port;
+                select = held.select;
+              }) stage.same.rest;
         };
       },
       on,

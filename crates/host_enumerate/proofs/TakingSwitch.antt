@@ -11,7 +11,7 @@ use Rattle.fabric_map.specs.Walked.{Before, onward}
 use Rattle.fabric_map.specs.Routes.{Registers}
 use Rattle.fabric_map.specs.Locked.{IsForeign, IsNext}
 use Rattle.fabric_map.specs.Numbered.{paths_of, port_toward, IsKindAt, IsDescribed, ChangesOnly}
-use Rattle.fabric_map.proofs.Lists.{not_in_empty}
+use Rattle.fabric_map.proofs.Lists.{Contains-first, not_in_empty}
 use Rattle.fabric_map.proofs.Branches.{port_toward-unbegun, port_toward-other}
 use Rattle.fabric_map.proofs.Growing.{device_on, node_at-entered}
 use Rattle.host_enumerate.specs.Setting.{IsSetUp}
@@ -26,7 +26,7 @@ pub record IsTaken (host_id : ℕ) (devices : List Device) (before held : regist
   pub lock : held.lock ≡ host_id
   pub tag : held.tag ≡ length devices + 1
   pub not_foreign : ¬ IsForeign host_id before.lock
-  pub changes : ChangesOnly host_id before held
+  pub changes : ChangesOnly (host_id ∷ []) before held
 
 -- what holds of all paths holds of the path of each device
 all_paths : (P : List ℕ → Type 0) (devices : List Device) → All P (paths_of devices)
@@ -109,17 +109,26 @@ module _ (topology : Topology) (before now after : Registers) (host_id next : �
       new : IsHeld host_id (devices ++ switch ∷ []) switch (before at.node) (after at.node)
       new = record {
         marked = record {
-          lock = set_up.same.lock ∙ taken.lock;
-          tag = set_up.same.tag ∙ taken.tag;
+          lock = ap (λ (d : registers.Device). d.lock) set_up.same.rest ∙ taken.lock;
+          tag = ap (λ (d : registers.Device). d.tag) set_up.same.rest ∙ taken.tag;
           base_id = tt;
         };
         not_foreign = taken.not_foreign;
         changes = record {
-          kind = set_up.same.kind ∙ taken.changes.kind;
-          ports = set_up.same.ports ∙ taken.changes.ports;
-          linked = set_up.same.linked ∙ taken.changes.linked;
+          rest = ap (λ (d : registers.Device). record (after at.node) {
+            kind = d.kind;
+            ports = d.ports;
+            linked = d.linked;
+          }) set_up.same.rest
+              ∙ ap (λ (d : registers.Device). record (after at.node) {
+                kind = d.kind;
+                ports = d.ports;
+                linked = d.linked;
+              }) taken.changes.rest;
           routes = λ id most less apart.
-              set_up.kept id most apart ∙ taken.changes.routes id most less apart;
+              set_up.kept id most (λ same.
+              apart (subst (λ n. Contains (host_id ∷ []) n) (sym same)
+              (Contains-first host_id []))) ∙ taken.changes.routes id most less apart;
         };
         table = record {
           default = set_up.default;

@@ -103,7 +103,7 @@ module _ (topology : Topology) (now : Registers) (host_id next : ℕ) (devices :
       refl,
       refl,
       underway-same topology before now host_id next devices path underway after met.2,
-      met-tagged topology before now host_id next devices path underway at askable.leads met.1,
+      met-tagged topology before now host_id next devices path underway at askable.leads met.0 met.1,
     )
 
     pub met_opened : IsOpened topology after host_id path

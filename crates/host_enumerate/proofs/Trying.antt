@@ -137,9 +137,7 @@ module _ (topology : Topology) (before now : Registers) (host_id next : ℕ)
       tag = refl;
       not_foreign = not_foreign;
       changes = record {
-        kind = refl;
-        ports = refl;
-        linked = refl;
+        rest = refl;
         routes = λ id most less other. refl;
       };
     }

@@ -4,9 +4,10 @@ use Rattle.fabric_script.specs.Known.{same_port}
 use Rattle.fabric_script.specs.declared.ports.PortRef.{PortRef}
 use Rattle.maint_registers.specs.Devices.{Device, IsDevice, is_switch}
 use Rattle.maint_registers.specs.Table.{status_of}
-use Rattle.fabric_map.specs.Topology.{IsTopology, port_at, peer_in}
+use Rattle.fabric_script.specs.Peers.{peer_in}
+use Rattle.fabric_map.specs.Topology.{IsTopology, port_at}
 use Rattle.fabric_map.specs.Fitting.{Fits}
-use Rattle.host_enumerate.specs.Plain.{topology_of, registers_of}
+use Rattle.fabric_map.specs.Plain.{topology_of, registers_of}
 use Rattle.host_enumerate.specs.Underway.{AreUntagged}
 
 -- A host can number the fabric: links join two ports each, devices show them, no device has a tag,

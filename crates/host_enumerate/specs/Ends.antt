@@ -1,10 +1,13 @@
 -- How an enumeration ends.
-use Rattle.std.specs.Prelude.{◌≡◌, ℕ, List, Contains, Some}
+use Rattle.std.specs.Prelude.{◌≡◌, ◌≢◌, ℕ, List, [], ◌∷◌, Contains, Some}
 use Rattle.rio_chars.specs.Faults.{Rose}
+use Rattle.link_model.specs.declared.event.Event.{Event}
+use Rattle.fabric_script.specs.declared.ports.PortRef.{PortRef}
 use Rattle.fabric_map.specs.Topology.{Topology, node_at, IsReached}
 use Rattle.fabric_map.specs.Routes.{Registers}
 use Rattle.fabric_map.specs.Locked.{IsForeign, IsFirstLocked}
 use Rattle.fabric_map.specs.Numbered.{ChangesOnly}
+use Rattle.host_enumerate.specs.Causes.{Stays}
 use Rattle.host_enumerate.specs.declared.maint.MaintEnd.{MaintEnd}
 use Rattle.host_enumerate.specs.declared.maint.MaintEnd.TheVariants as maint
 use Rattle.host_enumerate.specs.declared.ends.EnumEnd.{EnumEnd}
@@ -17,27 +20,33 @@ end_of maint.WriteFault = WriteFault
 end_of maint.NoMemory = NoMemory
 
 -- The walk ends at the first device with the lock of another host, which is on this path and has
--- this lock. Devices that were met before keep the host's lock. `before` and `after` are the
--- registers of all devices.
+-- this lock. Devices that were met before keep the host's lock, and all others, the locked one among
+-- them, are as before. `before` and `after` are the registers of all devices.
 pub record EndsAtLock (topology : Topology) (before after : Registers) (path : List ℕ)
     (id : ℕ) : Type 0 where
   pub first : IsFirstLocked topology before path id
   pub kept : (met : List ℕ) (node : ℕ) → Contains first.paths met
       → node_at topology met ≡ Some node
       → (after node).lock ≡ (before topology.host).base_id
+  pub unmet_stay : (node : ℕ)
+      → ((met : List ℕ) → Contains first.paths met → node_at topology met ≢ Some node)
+      → after node ≡ before node
   pub outside : (node : ℕ) → ¬ IsReached topology node → after node ≡ before node
   pub inside : (node : ℕ) → IsReached topology node
-      → ChangesOnly (before topology.host).base_id (before node) (after node)
+      → ChangesOnly ((before topology.host).base_id ∷ []) (before node) (after node)
 
 -- no device that is reached has the lock of another host
 abbrev pub IsFree : Topology → Registers → Type 0
 IsFree topology registers = (node : ℕ) → IsReached topology node
     → ¬ IsForeign (registers topology.host).base_id (registers node).lock
 
--- An undetected event and a failed write come only if their count rose, and a lock only as said.
--- Want of memory may come at any time.
-abbrev pub IsEnded : (ℕ × ℕ) → (ℕ × ℕ) → (List ℕ → ℕ → Type 0) → EnumEnd → Type 0
-IsEnded undetected faults at_lock (LockedBy path id) = at_lock path id
-IsEnded undetected faults at_lock (Undetected port event) = Rose undetected.0 undetected.1
-IsEnded undetected faults at_lock WriteFault = Rose faults.0 faults.1
-IsEnded undetected faults at_lock NoMemory = Unit {0}
+-- An undetected event comes only if it was met and its count rose, a failed write only if its count
+-- rose, and a lock only as said. Want of memory may come at any time. No other count changes.
+abbrev pub IsEnded : ℕ × ℕ → ℕ × ℕ → (PortRef → Event → Type 0) → (List ℕ → ℕ → Type 0)
+    → EnumEnd → Type 0
+IsEnded undetected faults met at_lock (LockedBy path id) =
+    at_lock path id × Stays undetected × Stays faults
+IsEnded undetected faults met at_lock (Undetected port event) =
+    met port event × Rose undetected.0 undetected.1 × Stays faults
+IsEnded undetected faults met at_lock WriteFault = Rose faults.0 faults.1 × Stays undetected
+IsEnded undetected faults met at_lock NoMemory = Stays undetected × Stays faults

@@ -1,6 +1,5 @@
 pub mod Accesses
 pub mod Causes
-pub mod Plain
 pub mod Examples
 pub mod Asking
 pub mod Setting
@@ -10,3 +9,4 @@ pub mod Checking
 pub mod TakingIn
 pub mod Founds
 pub mod Ends
+pub mod Devised

@@ -1,7 +1,8 @@
 -- What a host leaves of the devices that it sets up.
-use Rattle.std.specs.Prelude.{◌≡◌, ◌≢◌, ℕ, ◌<◌, ◌≤◌, List, [], ◌∷◌, ◌++◌, length, slice_set, slice_index, Some}
+use Rattle.std.specs.Prelude.{◌≡◌, ◌≢◌, ℕ, ◌<◌, ◌≤◌, List, [], ◌∷◌, ◌++◌, length, slice_set, Some}
 use Rattle.fabric_script.specs.declared.ports.PortRef.{PortRef}
 use Rattle.maint_registers.specs.Devices.{Device}
+use Rattle.maint_registers.specs.Routes.{entry_of}
 use Rattle.fabric_map.specs.Topology.{Topology, entered}
 use Rattle.fabric_map.specs.Routes.{Registers}
 use Rattle.host_enumerate.specs.Asking.{Becomes}
@@ -35,27 +36,26 @@ HasNewId topology old new path node id = (first : ℕ) (rest : List ℕ) → pat
 
 -- only the route table, its default port and the selected destination may differ
 pub record IsSameBut (old new : Device) : Type 0 where
-  pub kind : new.kind ≡ old.kind
-  pub ports : new.ports ≡ old.ports
-  pub linked : new.linked ≡ old.linked
-  pub lock : new.lock ≡ old.lock
-  pub tag : new.tag ≡ old.tag
-  pub base_id : new.base_id ≡ old.base_id
+  pub rest : new ≡ record old {
+    routes = new.routes;
+    default_port = new.default_port;
+    select = new.select;
+  }
 
 -- A switch sends packets for every ID from 0 to 62, and for the host's, by the port by which it was
 -- entered. It has no entry of its own for the former.
 pub record IsSetUp (host_id entry : ℕ) (old new : Device) : Type 0 where
   pub same : IsSameBut old new
   pub default : new.default_port ≡ entry
-  pub home : slice_index new.routes host_id ≡ entry
-  pub cleared : (id : ℕ) → id < 63 → id ≢ host_id → slice_index new.routes id ≡ 255
+  pub home : entry_of new host_id ≡ entry
+  pub cleared : (id : ℕ) → id < 63 → id ≢ host_id → entry_of new id ≡ 255
   pub kept : (id : ℕ) → 62 < id → id ≢ host_id
-      → slice_index new.routes id ≡ slice_index old.routes id
+      → entry_of new id ≡ entry_of old id
 
 -- A switch has no entries of its own for the IDs below a number, other than the host's.
 pub record IsCleared (host_id below : ℕ) (old new : Device) : Type 0 where
   pub same : IsSameBut old new
   pub default : new.default_port ≡ old.default_port
   pub destinations : length new.routes ≡ length old.routes
-  pub cleared : (id : ℕ) → id < below → id ≢ host_id → slice_index new.routes id ≡ 255
-  pub kept : (id : ℕ) → below ≤ id → slice_index new.routes id ≡ slice_index old.routes id
+  pub cleared : (id : ℕ) → id < below → id ≢ host_id → entry_of new id ≡ 255
+  pub kept : (id : ℕ) → below ≤ id → entry_of new id ≡ entry_of old id

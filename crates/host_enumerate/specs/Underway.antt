@@ -1,7 +1,8 @@
 -- How far a host has come in numbering a fabric: what stands between two accesses. It is said of
 -- the devices that were met, the path that is tried next and the next ID, and of nothing else.
-use Rattle.std.specs.Prelude.{◌≡◌, ◌≢◌, ℕ, ◌+◌, ◌<◌, ◌≤◌, ◌==◌, true, false, nat_lt, List, [], length, Contains, slice_index, Some, unwrap_or, if◌then◌else◌}
+use Rattle.std.specs.Prelude.{◌≡◌, ◌≢◌, ℕ, ◌+◌, ◌<◌, ◌≤◌, ◌==◌, true, false, nat_lt, List, [], ◌∷◌, length, Contains, Some, unwrap_or, if◌then◌else◌}
 use Rattle.maint_registers.specs.Devices as registers
+use Rattle.maint_registers.specs.Routes.{entry_of}
 use Rattle.fabric_map.specs.declared.map.Kind.{Kind}
 use Rattle.fabric_map.specs.declared.map.Kind.TheVariants.{Endpoint, Switch}
 use Rattle.fabric_map.specs.declared.map.Device.{Device}
@@ -16,9 +17,9 @@ use Rattle.fabric_map.specs.Numbered.{paths_of, is_given, port_toward, AreDescri
 pub record HasTable (host_id : ℕ) (devices : List Device) (path : List ℕ) (entry : ℕ)
     (held : registers.Device) : Type 0 where
   pub default : held.default_port ≡ entry
-  pub home : slice_index held.routes host_id ≡ entry
+  pub home : entry_of held host_id ≡ entry
   pub branches : (id : ℕ) → id < 63 → id ≢ host_id
-      → slice_index held.routes id ≡ unwrap_or (port_toward devices path id) 255
+      → entry_of held id ≡ unwrap_or (port_toward devices path id) 255
 
 abbrev pub HasTableOf : ℕ → List Device → Device → registers.Device → Type 0
 HasTableOf host_id devices device held = of_kind device.kind
@@ -32,7 +33,7 @@ pub record IsHeld (host_id : ℕ) (devices : List Device) (device : Device)
     (before now : registers.Device) : Type 0 where
   pub marked : IsMarked host_id device now
   pub not_foreign : ¬ IsForeign host_id before.lock
-  pub changes : ChangesOnly host_id before now
+  pub changes : ChangesOnly (host_id ∷ []) before now
   pub table : HasTableOf host_id devices device now
 
 -- the ID that is given, if this number is next: the host's is left out
@@ -67,6 +68,11 @@ IsUnmet topology devices node = (device : Device) → Contains devices device
 abbrev pub AreUntagged : Topology → Registers → Type 0
 AreUntagged topology registers = (node : ℕ) → node < topology.nodes → (registers node).tag ≡ 0
 
+-- no device that bears the ID of the host has a tag
+abbrev pub AreOwnUntagged : Topology → Registers → ℕ → Type 0
+AreOwnUntagged topology registers host_id = (node : ℕ) → node < topology.nodes
+    → (registers node).lock ≡ host_id → (registers node).tag ≡ 0
+
 -- These devices were met before this path is tried, and this ID is given next if it is not the
 -- host's. `held` is of each device that was met; all others are as before.
 pub record IsUnderway (topology : Topology) (before now : Registers) (host_id : ℕ)
@@ -74,7 +80,7 @@ pub record IsUnderway (topology : Topology) (before now : Registers) (host_id : 
   pub proper : IsTopology topology
   pub id : (before topology.host).base_id ≡ host_id
   pub host_has_id : host_id < 255
-  pub untagged : AreUntagged topology before
+  pub untagged : AreOwnUntagged topology before host_id
   pub walked : Walked topology (paths_of devices) bound
   pub described : AreDescribed topology host_id [] devices
   pub counted : IsCounted host_id devices next

@@ -1,5 +1,5 @@
 //! Single accesses to the device on a path.
-ghost use Rattle.std.specs.Prelude.{◌≡◌, ◌<◌, ◌≤◌, ◌^◌, ℕ, IsSome, OnOk, IfOk, IfErr, Some};
+ghost use Rattle.std.specs.Prelude.{◌≡◌, ◌<◌, ◌≤◌, ◌^◌, ℕ, IsSome, OnOk, OnErr, IfOk, IfErr, Some};
 ghost use Rattle.fabric_script.specs.declared.ports.PortRef.{PortRef};
 ghost use Rattle.maint_registers.specs.Devices as registers;
 ghost use Rattle.maint_registers.specs.Access.{value_at, written_at};
@@ -33,12 +33,15 @@ fn ask<M: Maint>(
         → Becomes (M.registers maint.old) (M.registers maint.new) at.node
         (answered (M.registers maint.old at.node) at.port access).device) }
     ensures topology { M.topology maint.new ≡ M.topology maint.old }
+    ensures follows { OnOk result ((origin : _) → M.Follows origin maint.old
+        → M.Follows origin maint.new) }
     ensures whole { OnOk result (M.IsWhole maint.new) }
-    ensures orderly { M.IsOrderly maint.new }
-    ensures cause { IfErr result (IsCaused (M.undetected maint.old) (M.undetected maint.new)
-        (M.faults maint.old) (M.faults maint.new)) }
-    ensures undetected_stays { M.undetected maint.old ≤ M.undetected maint.new }
-    ensures faults_stay { M.faults maint.old ≤ M.faults maint.new }
+    ensures leaves { OnErr result ((origin : _) → M.Follows origin maint.old
+        → M.Leaves origin maint.new) }
+    ensures cause { IfErr result (IsCaused (M.undetected maint.old, M.undetected maint.new)
+        (M.faults maint.old, M.faults maint.new) (M.IsMet maint.new)) }
+    ensures undetected { OnOk result (M.undetected maint.new ≡ M.undetected maint.old) }
+    ensures faults { OnOk result (M.faults maint.new ≡ M.faults maint.old) }
 {
     let ports = path.as_slice().len();
     if ports == 0 {
@@ -64,12 +67,15 @@ pub(crate) fn read<M: Maint>(
         → value_at (M.registers maint.old at.node) offset at.port ≡ Some value) }
     ensures registers { OnOk result (AreSame (M.registers maint.old) (M.registers maint.new)) }
     ensures topology { M.topology maint.new ≡ M.topology maint.old }
+    ensures follows { OnOk result ((origin : _) → M.Follows origin maint.old
+        → M.Follows origin maint.new) }
     ensures whole { OnOk result (M.IsWhole maint.new) }
-    ensures orderly { M.IsOrderly maint.new }
-    ensures cause { IfErr result (IsCaused (M.undetected maint.old) (M.undetected maint.new)
-        (M.faults maint.old) (M.faults maint.new)) }
-    ensures undetected_stays { M.undetected maint.old ≤ M.undetected maint.new }
-    ensures faults_stay { M.faults maint.old ≤ M.faults maint.new }
+    ensures leaves { OnErr result ((origin : _) → M.Follows origin maint.old
+        → M.Leaves origin maint.new) }
+    ensures cause { IfErr result (IsCaused (M.undetected maint.old, M.undetected maint.new)
+        (M.faults maint.old, M.faults maint.new) (M.IsMet maint.new)) }
+    ensures undetected { OnOk result (M.undetected maint.new ≡ M.undetected maint.old) }
+    ensures faults { OnOk result (M.faults maint.new ≡ M.faults maint.old) }
 {
     let answer = ask(alloc, maint, path, Access::Read(offset))?;
     Ok(answer.value)
@@ -93,12 +99,15 @@ pub(crate) fn write<M: Maint>(
         → written_at (M.registers maint.old at.node) offset value ≡ Some held
         → Becomes (M.registers maint.old) (M.registers maint.new) at.node held) }
     ensures topology { M.topology maint.new ≡ M.topology maint.old }
+    ensures follows { OnOk result ((origin : _) → M.Follows origin maint.old
+        → M.Follows origin maint.new) }
     ensures whole { OnOk result (M.IsWhole maint.new) }
-    ensures orderly { M.IsOrderly maint.new }
-    ensures cause { IfErr result (IsCaused (M.undetected maint.old) (M.undetected maint.new)
-        (M.faults maint.old) (M.faults maint.new)) }
-    ensures undetected_stays { M.undetected maint.old ≤ M.undetected maint.new }
-    ensures faults_stay { M.faults maint.old ≤ M.faults maint.new }
+    ensures leaves { OnErr result ((origin : _) → M.Follows origin maint.old
+        → M.Leaves origin maint.new) }
+    ensures cause { IfErr result (IsCaused (M.undetected maint.old, M.undetected maint.new)
+        (M.faults maint.old, M.faults maint.new) (M.IsMet maint.new)) }
+    ensures undetected { OnOk result (M.undetected maint.new ≡ M.undetected maint.old) }
+    ensures faults { OnOk result (M.faults maint.new ≡ M.faults maint.old) }
 {
     ask(alloc, maint, path, Access::Write(offset, value))?;
     Ok(())

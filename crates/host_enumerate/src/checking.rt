@@ -3,8 +3,9 @@ ghost use Rattle.std.specs.Prelude.{◌≡◌, ◌<◌, ◌≤◌, ℕ, true, fa
 ghost use Rattle.std.specs.List.{list_all};
 ghost use Rattle.maint_registers.specs.Devices.{is_switch};
 ghost use Rattle.maint_registers.specs.Table.{status_of};
-ghost use Rattle.fabric_map.specs.Topology.{port_at, peer_in};
-ghost use Rattle.host_enumerate.specs.Plain.{registers_of};
+ghost use Rattle.fabric_script.specs.Peers.{peer_in};
+ghost use Rattle.fabric_map.specs.Topology.{port_at};
+ghost use Rattle.fabric_map.specs.Plain.{registers_of};
 ghost use Rattle.host_enumerate.specs.Checking.{IsNewFabric, IsNewDevice, ports_shown, has_port, leads_to, is_link, shows_link};
 
 use crate::offsets::{COMPONENT_TAG, FIRST_STATUS, STATUS_STEP};
@@ -155,7 +156,7 @@ impl PlainMaint {
     /// Whether a host can number these registers and links. Each link joins two ports of devices,
     /// and no port is in two links; each device shows its links and has no tag; the host is an
     /// endpoint with a link and an ID below 255; there are at most 64 devices.
-    pub fn is_new_fabric(&self) -> bool
+    pub(crate) fn is_new_fabric(&self) -> bool
         ensures { IsTrue result
             → IsNewFabric self.now.devices.items self.now.links.items self.now.host }
     {

@@ -27,7 +27,7 @@ fn fabric(rt: &impl Abort, alloc: Global, links: &[(PortRef, PortRef)]) -> Plain
             panic!(rt; "memory");
         }
     }
-    PlainMaint::new(devices, held, 0)
+    PlainMaint::of_parts(devices, held, 0)
 }
 
 #[test]
@@ -56,7 +56,7 @@ fn a_host_without_an_id_cannot_number(rt: HostRuntime) {
             && devices.push(Registers::endpoint(255, true)).is_ok()
             && links.push((port(0, 0), port(1, 0))).is_ok();
         assert!(rt; pushed);
-        assert!(rt; PlainMaint::new(devices, links, 0).is_new_fabric() == is_new);
+        assert!(rt; PlainMaint::of_parts(devices, links, 0).is_new_fabric() == is_new);
     }
 }
 
@@ -71,6 +71,6 @@ fn a_tagged_device_is_not_new(rt: HostRuntime) {
             && devices.push(other).is_ok()
             && links.push((port(0, 0), port(1, 0))).is_ok();
         assert!(rt; pushed);
-        assert!(rt; PlainMaint::new(devices, links, 0).is_new_fabric() == is_new);
+        assert!(rt; PlainMaint::of_parts(devices, links, 0).is_new_fabric() == is_new);
     }
 }

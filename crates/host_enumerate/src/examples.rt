@@ -1,7 +1,7 @@
 //! A small fabric: that plain registers can be asked at all.
 ghost use Rattle.fabric_map.specs.Topology.{IsTopology};
 ghost use Rattle.fabric_map.specs.Fitting.{Fits};
-ghost use Rattle.host_enumerate.specs.Plain.{topology_of, registers_of};
+ghost use Rattle.fabric_map.specs.Plain.{topology_of, registers_of};
 ghost use Rattle.host_enumerate.specs.Examples.{pair_devices, pair_links};
 
 /// A host and an endpoint with a link between them are a fabric, which their registers show.

@@ -10,8 +10,9 @@
 //!
 //! - [`enumerate`] answers the map of a fabric, or tells the [`EnumEnd`].
 //! - [`Maint`] carries an [`Access`] to a device and brings back the [`Answer`], or tells the [`MaintEnd`].
-//! - [`PlainMaint`] does so for registers and links that it holds itself.
-//! - [`a_pair_can_be_asked`] says so of the least fabric.
+//! - [`PlainMaint`] does so for registers and links that it holds itself, those of a script;
+//!   [`judge_host`] says which node of it can be the host, or tells the [`NoHost`].
+//! - [`a_pair_can_be_asked`] says so of the least fabric, and [`scripts_make_new_fabrics`] of what set-up lines make.
 //! - `walk` goes from port to port, `taking` takes a device in, `setting` writes its registers, and
 //!   `asking` makes single accesses.
 #![tactic(auto)]
@@ -20,8 +21,10 @@ mod asking;
 mod checking;
 #[cfg(test)]
 mod checking_tests;
+mod devising;
 mod ends;
 mod examples;
+mod laws;
 mod maint;
 mod offsets;
 mod plain;
@@ -33,8 +36,10 @@ mod walk;
 #[cfg(test)]
 mod walk_tests;
 
+pub use devising::{NoHost, judge_host};
 pub use ends::EnumEnd;
 pub use examples::a_pair_can_be_asked;
+pub use laws::scripts_make_new_fabrics;
 pub use maint::{Access, Answer, Maint, MaintEnd};
 pub use plain::PlainMaint;
 pub use walk::enumerate;

@@ -1,5 +1,6 @@
 //! `Maint`: how a host reads and writes the registers of devices.
-ghost use Rattle.std.specs.Prelude.{◌≡◌, ◌<◌, ◌≤◌, ◌^◌, ℕ, OnOk, IfOk, IfErr};
+ghost use Rattle.std.specs.Prelude.{◌≡◌, ◌<◌, ◌^◌, ℕ, OnOk, OnErr, IfOk, IfErr};
+ghost use Rattle.link_model.specs.declared.event.Event.{Event};
 ghost use Rattle.fabric_script.specs.declared.ports.PortRef.{PortRef};
 ghost use Rattle.fabric_map.specs.Topology.{Topology, IsTopology, port_at};
 ghost use Rattle.fabric_map.specs.Routes.{Registers};
@@ -29,7 +30,7 @@ pub struct Answer {
 /// Why an access has no answer.
 #[derive(Debug, Drop)]
 pub enum MaintEnd {
-    /// A port acted on an event that was not sent, and the count of undetected events rose.
+    /// This port acted on this event, which was not sent, and the count of undetected events rose.
     Undetected { port: PortRef, event: Event },
     /// A write failed, and the count of write faults rose.
     WriteFault,
@@ -51,14 +52,20 @@ pub trait Maint {
     /// How many writes have failed. The count never falls.
     ghost faults: { Self → ℕ };
 
+    /// The last call ended because this port acted on this event, which was not sent.
+    ghost IsMet: { Self → PortRef → Event → Type 0 };
+
     /// It can be asked. It stays so until a call answers an end.
     ghost IsWhole: { Self → Type 0 };
 
-    /// What it wrote, if anything, is in order. It is so whatever a call answers.
-    ghost IsOrderly: { Self → Type 0 };
+    /// What came between the first and the second, as what was written, is in order.
+    ghost Follows: { Self → Self → Type 0 };
 
-    /// What can be asked is orderly.
-    ghost whole_is_orderly: { (maint : Self) → IsWhole maint → IsOrderly maint };
+    /// What came behind the first is in order up to where it stops.
+    ghost Leaves: { Self → Self → Type 0 };
+
+    /// It is so if all of it is in order.
+    ghost follows_leaves: { (origin maint : Self) → Follows origin maint → Leaves origin maint };
 
     /// What can be asked has a topology, in which every link joins two ports.
     ghost whole_is_proper: { (maint : Self) → IsWhole maint → IsTopology (topology maint) };
@@ -81,10 +88,14 @@ pub trait Maint {
             → registers self.new ≡ after_access (registers self.old) at access) }
         ensures topology { topology self.new ≡ topology self.old }
         ensures whole { OnOk result (IsWhole self.new) }
-        ensures orderly { IsOrderly self.new }
-        ensures cause { IfErr result (IsCaused (undetected self.old) (undetected self.new) (faults self.old) (faults self.new)) }
-        ensures undetected_stays { undetected self.old ≤ undetected self.new }
-        ensures faults_stay { faults self.old ≤ faults self.new };
+        ensures follows { OnOk result ((origin : Self) → Follows origin self.old
+            → Follows origin self.new) }
+        ensures leaves { OnErr result ((origin : Self) → Follows origin self.old
+            → Leaves origin self.new) }
+        ensures cause { IfErr result (IsCaused (undetected self.old, undetected self.new)
+            (faults self.old, faults self.new) (IsMet self.new)) }
+        ensures undetected { OnOk result (undetected self.new ≡ undetected self.old) }
+        ensures faults { OnOk result (faults self.new ≡ faults self.old) };
 
     /// Reads or writes a register of the host itself.
     fn own(&mut self, access: Access) -> Answer
@@ -95,6 +106,7 @@ pub trait Maint {
             ≡ after_access (registers self.old) (port_at (topology self.old).host 0) access }
         ensures topology { topology self.new ≡ topology self.old }
         ensures whole { IsWhole self.new }
+        ensures follows { (origin : Self) → Follows origin self.old → Follows origin self.new }
         ensures undetected { undetected self.new ≡ undetected self.old }
         ensures faults { faults self.new ≡ faults self.old };
 }

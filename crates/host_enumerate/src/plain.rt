@@ -3,15 +3,21 @@ ghost use Rattle.std.specs.Prelude.{◌≡◌, ◌<◌, ◌≤◌, ◌^◌, leng
 ghost use Rattle.fabric_script.specs.Known.{same_port};
 ghost use Rattle.fabric_script.specs.declared.ports.PortRef.{PortRef};
 ghost use Rattle.maint_registers.specs.Devices.{IsDevice, IsSameDevice};
-ghost use Rattle.fabric_map.specs.Topology.{Topology, IsTopology, peer_in};
+ghost use Rattle.fabric_script.specs.Peers.{peer_in};
+ghost use Rattle.fabric_map.specs.Topology.{Topology, IsTopology};
 ghost use Rattle.fabric_map.specs.Routes.{walk};
 ghost use Rattle.fabric_map.specs.Fitting.{Fits};
+ghost use Rattle.fabric_script.specs.Scripts.{Passes};
 ghost use Rattle.host_enumerate.specs.Accesses.{answered};
-ghost use Rattle.host_enumerate.specs.Plain.{topology_of, registers_of};
+ghost use Rattle.host_enumerate.specs.Devised.{IsHost, devices_of, links_of};
+ghost use Rattle.host_enumerate.specs.Underway.{AreUntagged};
+ghost use Rattle.fabric_map.specs.Plain.{topology_of, registers_of};
 
+use crate::devising::Devised;
 use crate::maint::{Access, Answer, Maint, MaintEnd};
-use fabric_script::PortRef;
+use fabric_script::{PortRef, Script};
 use maint_registers::Registers;
+use rio_chars::NoMemory;
 use std::alloc::Global;
 
 /// The answer to an access that was not done.
@@ -29,9 +35,38 @@ pub struct PlainMaint {
 }
 
 impl PlainMaint {
+    /// The fabric that the set-up lines of a script make, with this host, which is an endpoint with a
+    /// link and an ID below 255. The script passes. It can be asked, and no device has a tag.
+    pub fn new(alloc: Global, script: &Script, host: u8) -> Result<PlainMaint, NoMemory>
+        requires passes { Passes script.now.names.items script.now.lines.items }
+        requires host { IsHost (devices_of script.now.lines.items) (links_of script.now.lines.items)
+            host }
+        ensures topology { IfOk result (λ maint. ⟦<PlainMaint as Maint>⟧.topology maint
+            ≡ topology_of (devices_of script.now.lines.items) (links_of script.now.lines.items)
+            host) }
+        ensures registers { IfOk result (λ maint. ⟦<PlainMaint as Maint>⟧.registers maint
+            ≡ registers_of (devices_of script.now.lines.items)) }
+        ensures whole { IfOk result (λ maint. ⟦<PlainMaint as Maint>⟧.IsWhole maint) }
+        ensures untagged { IfOk result (λ maint. AreUntagged (⟦<PlainMaint as Maint>⟧.topology maint)
+            (⟦<PlainMaint as Maint>⟧.registers maint)) }
+        ensures host_has_id { IfOk result (λ maint. (⟦<PlainMaint as Maint>⟧.registers maint
+            (⟦<PlainMaint as Maint>⟧.topology maint).host).base_id < 255) }
+    {
+        let devised = Devised::by(alloc, script)?;
+        Ok(PlainMaint {
+            devices: devised.devices,
+            links: devised.links,
+            host,
+        })
+    }
+
     /// A fabric of these devices and links. It can be asked if each link joins two ports, the host
     /// has one, and the devices show their links.
-    pub fn new(devices: Vec<Registers>, links: Vec<(PortRef, PortRef)>, host: u8) -> PlainMaint
+    pub(crate) fn of_parts(
+        devices: Vec<Registers>,
+        links: Vec<(PortRef, PortRef)>,
+        host: u8,
+    ) -> PlainMaint
         ensures devices { result.devices.items ≡ devices.items }
         ensures links { result.links.items ≡ links.items }
         ensures host { result.host ≡ host }
@@ -45,17 +80,10 @@ impl PlainMaint {
 
     /// The registers of a device.
     pub fn device(&self, node: u8) -> &Registers
-        requires { node < length self.now.devices.items }
-        ensures { result.now ≡ registers_of self.now.devices.items node }
+        requires { node < (⟦<PlainMaint as Maint>⟧.topology self.now).nodes }
+        ensures { result.now ≡ ⟦<PlainMaint as Maint>⟧.registers self.now node }
     {
         &self.devices[node as usize]
-    }
-
-    /// The registers of all devices.
-    pub fn devices(&self) -> &[Registers]
-        ensures { result.now ≡ self.now.devices.items }
-    {
-        self.devices.as_slice()
     }
 
     /// Where a request ends that leaves a port.
@@ -150,14 +178,18 @@ impl Maint for PlainMaint {
 
     ghost faults = { λ _. 0 };
 
+    ghost IsMet = { λ maint port event. ⊥ };
+
     ghost IsWhole = { λ maint.
         IsTopology (topology_of maint.devices.items maint.links.items maint.host)
         × Fits (topology_of maint.devices.items maint.links.items maint.host)
         (registers_of maint.devices.items) };
 
-    ghost IsOrderly = { λ _. Unit {0} };
+    ghost Follows = { λ _ _. Unit {0} };
 
-    ghost whole_is_orderly = { λ maint whole. tt };
+    ghost Leaves = { λ _ _. Unit {0} };
+
+    ghost follows_leaves = { λ origin maint follows. tt };
 
     ghost whole_is_proper = { λ maint whole. whole.0 };
 

@@ -1,5 +1,5 @@
 //! What a host writes to a device that it takes in.
-ghost use Rattle.std.specs.Prelude.{◌≡◌, ◌≢◌, ◌<◌, ◌≤◌, ◌+◌, ℕ, true, false, [], ◌++◌, length, OnOk, IfOk, IfErr, Some};
+ghost use Rattle.std.specs.Prelude.{◌≡◌, ◌≢◌, ◌<◌, ◌≤◌, ◌+◌, ℕ, true, false, [], ◌++◌, length, OnOk, OnErr, IfOk, IfErr, Some};
 ghost use Rattle.fabric_script.specs.declared.ports.PortRef.{PortRef};
 ghost use Rattle.maint_registers.specs.Devices as registers;
 ghost use Rattle.maint_registers.specs.Devices.{is_switch};
@@ -38,12 +38,15 @@ pub(crate) fn set_entry<M: Maint>(
         → Becomes (M.registers maint.old) (M.registers maint.new) at.node
         (with_entry (M.registers maint.old at.node) id port)) }
     ensures topology { M.topology maint.new ≡ M.topology maint.old }
+    ensures follows { OnOk result ((origin : _) → M.Follows origin maint.old
+        → M.Follows origin maint.new) }
     ensures whole { OnOk result (M.IsWhole maint.new) }
-    ensures orderly { M.IsOrderly maint.new }
-    ensures cause { IfErr result (IsCaused (M.undetected maint.old) (M.undetected maint.new)
-        (M.faults maint.old) (M.faults maint.new)) }
-    ensures undetected_stays { M.undetected maint.old ≤ M.undetected maint.new }
-    ensures faults_stay { M.faults maint.old ≤ M.faults maint.new }
+    ensures leaves { OnErr result ((origin : _) → M.Follows origin maint.old
+        → M.Leaves origin maint.new) }
+    ensures cause { IfErr result (IsCaused (M.undetected maint.old, M.undetected maint.new)
+        (M.faults maint.old, M.faults maint.new) (M.IsMet maint.new)) }
+    ensures undetected { OnOk result (M.undetected maint.new ≡ M.undetected maint.old) }
+    ensures faults { OnOk result (M.faults maint.new ≡ M.faults maint.old) }
 {
     write(alloc, maint, path, ROUTE_SELECT, u32::from(id))?;
     write(alloc, maint, path, ROUTE_ENTRY, u32::from(port))
@@ -68,12 +71,15 @@ fn set_entries<M: Maint>(
         (AreRouted (M.topology maint.old) (M.registers maint.old) (M.registers maint.new) front.now
         rest.now id) }
     ensures topology { M.topology maint.new ≡ M.topology maint.old }
+    ensures follows { OnOk result ((origin : _) → M.Follows origin maint.old
+        → M.Follows origin maint.new) }
     ensures whole { OnOk result (M.IsWhole maint.new) }
-    ensures orderly { M.IsOrderly maint.new }
-    ensures cause { IfErr result (IsCaused (M.undetected maint.old) (M.undetected maint.new)
-        (M.faults maint.old) (M.faults maint.new)) }
-    ensures undetected_stays { M.undetected maint.old ≤ M.undetected maint.new }
-    ensures faults_stay { M.faults maint.old ≤ M.faults maint.new }
+    ensures leaves { OnErr result ((origin : _) → M.Follows origin maint.old
+        → M.Leaves origin maint.new) }
+    ensures cause { IfErr result (IsCaused (M.undetected maint.old, M.undetected maint.new)
+        (M.faults maint.old, M.faults maint.new) (M.IsMet maint.new)) }
+    ensures undetected { OnOk result (M.undetected maint.new ≡ M.undetected maint.old) }
+    ensures faults { OnOk result (M.faults maint.new ≡ M.faults maint.old) }
 {
     let [port, rest @ ..] = rest else {
         return Ok(());
@@ -103,12 +109,15 @@ pub(crate) fn give_id<M: Maint>(
         → HasNewId (M.topology maint.old) (M.registers maint.old) (M.registers maint.new) path.now
         at.node id) }
     ensures topology { M.topology maint.new ≡ M.topology maint.old }
+    ensures follows { OnOk result ((origin : _) → M.Follows origin maint.old
+        → M.Follows origin maint.new) }
     ensures whole { OnOk result (M.IsWhole maint.new) }
-    ensures orderly { M.IsOrderly maint.new }
-    ensures cause { IfErr result (IsCaused (M.undetected maint.old) (M.undetected maint.new)
-        (M.faults maint.old) (M.faults maint.new)) }
-    ensures undetected_stays { M.undetected maint.old ≤ M.undetected maint.new }
-    ensures faults_stay { M.faults maint.old ≤ M.faults maint.new }
+    ensures leaves { OnErr result ((origin : _) → M.Follows origin maint.old
+        → M.Leaves origin maint.new) }
+    ensures cause { IfErr result (IsCaused (M.undetected maint.old, M.undetected maint.new)
+        (M.faults maint.old, M.faults maint.new) (M.IsMet maint.new)) }
+    ensures undetected { OnOk result (M.undetected maint.new ≡ M.undetected maint.old) }
+    ensures faults { OnOk result (M.faults maint.new ≡ M.faults maint.old) }
 {
     write(alloc, maint, path, BASE_ID, u32::from(id) << 16)?;
     let [first, rest @ ..] = path.as_slice() else {
@@ -136,12 +145,15 @@ fn clear_entries<M: Maint>(
         × Becomes (M.registers maint.old) (M.registers maint.new) at.node held
         × IsCleared host_id 63 (M.registers maint.old at.node) held) }
     ensures topology { M.topology maint.new ≡ M.topology maint.old }
+    ensures follows { OnOk result ((origin : _) → M.Follows origin maint.old
+        → M.Follows origin maint.new) }
     ensures whole { OnOk result (M.IsWhole maint.new) }
-    ensures orderly { M.IsOrderly maint.new }
-    ensures cause { IfErr result (IsCaused (M.undetected maint.old) (M.undetected maint.new)
-        (M.faults maint.old) (M.faults maint.new)) }
-    ensures undetected_stays { M.undetected maint.old ≤ M.undetected maint.new }
-    ensures faults_stay { M.faults maint.old ≤ M.faults maint.new }
+    ensures leaves { OnErr result ((origin : _) → M.Follows origin maint.old
+        → M.Leaves origin maint.new) }
+    ensures cause { IfErr result (IsCaused (M.undetected maint.old, M.undetected maint.new)
+        (M.faults maint.old, M.faults maint.new) (M.IsMet maint.new)) }
+    ensures undetected { OnOk result (M.undetected maint.new ≡ M.undetected maint.old) }
+    ensures faults { OnOk result (M.faults maint.new ≡ M.faults maint.old) }
 {
     for id in 0..GIVEN_IDS {
         if id == host_id {
@@ -174,12 +186,15 @@ pub(crate) fn send_home<M: Maint>(
         × Becomes (M.registers maint.old) (M.registers maint.new) at.node held
         × IsSetUp host_id at.port (M.registers maint.old at.node) held) }
     ensures topology { M.topology maint.new ≡ M.topology maint.old }
+    ensures follows { OnOk result ((origin : _) → M.Follows origin maint.old
+        → M.Follows origin maint.new) }
     ensures whole { OnOk result (M.IsWhole maint.new) }
-    ensures orderly { M.IsOrderly maint.new }
-    ensures cause { IfErr result (IsCaused (M.undetected maint.old) (M.undetected maint.new)
-        (M.faults maint.old) (M.faults maint.new)) }
-    ensures undetected_stays { M.undetected maint.old ≤ M.undetected maint.new }
-    ensures faults_stay { M.faults maint.old ≤ M.faults maint.new }
+    ensures leaves { OnErr result ((origin : _) → M.Follows origin maint.old
+        → M.Leaves origin maint.new) }
+    ensures cause { IfErr result (IsCaused (M.undetected maint.old, M.undetected maint.new)
+        (M.faults maint.old, M.faults maint.new) (M.IsMet maint.new)) }
+    ensures undetected { OnOk result (M.undetected maint.new ≡ M.undetected maint.old) }
+    ensures faults { OnOk result (M.faults maint.new ≡ M.faults maint.old) }
 {
     let information = read(alloc, maint, path, PORT_INFORMATION)?;
     let ports = (information / 0x100) as u8;

@@ -1,5 +1,5 @@
 //! A device is taken in: it gets the host's lock and a tag, and then what its kind asks for.
-ghost use Rattle.std.specs.Prelude.{◌≡◌, ◌≢◌, ◌<◌, ◌≤◌, ◌+◌, ℕ, false, [], ◌∷◌, ◌++◌, length, OnOk, IfOk, IfErr, Some};
+ghost use Rattle.std.specs.Prelude.{◌≡◌, ◌≢◌, ◌<◌, ◌≤◌, ◌+◌, ℕ, false, [], ◌∷◌, ◌++◌, length, OnOk, OnErr, IfOk, IfErr, Some};
 ghost use Rattle.fabric_script.specs.declared.ports.PortRef.{PortRef};
 ghost use Rattle.maint_registers.specs.Devices.{is_switch};
 ghost use Rattle.fabric_map.specs.Topology.{entered};
@@ -61,12 +61,15 @@ pub(crate) fn take<M: Maint>(
         → entered (M.topology maint.old) path.now ≡ Some at
         → IsHolder host_id (M.registers maint.old) (M.registers maint.new) at.node holder) }
     ensures topology { M.topology maint.new ≡ M.topology maint.old }
+    ensures follows { OnOk result ((origin : _) → M.Follows origin maint.old
+        → M.Follows origin maint.new) }
     ensures whole { OnOk result (M.IsWhole maint.new) }
-    ensures orderly { M.IsOrderly maint.new }
-    ensures cause { IfErr result (IsCaused (M.undetected maint.old) (M.undetected maint.new)
-        (M.faults maint.old) (M.faults maint.new)) }
-    ensures undetected_stays { M.undetected maint.old ≤ M.undetected maint.new }
-    ensures faults_stay { M.faults maint.old ≤ M.faults maint.new }
+    ensures leaves { OnErr result ((origin : _) → M.Follows origin maint.old
+        → M.Leaves origin maint.new) }
+    ensures cause { IfErr result (IsCaused (M.undetected maint.old, M.undetected maint.new)
+        (M.faults maint.old, M.faults maint.new) (M.IsMet maint.new)) }
+    ensures undetected { OnOk result (M.undetected maint.new ≡ M.undetected maint.old) }
+    ensures faults { OnOk result (M.faults maint.new ≡ M.faults maint.old) }
 {
     let lock = read(alloc, maint, path, HOST_LOCK)?;
     if lock == FREE {
@@ -104,12 +107,15 @@ fn number<M: Maint>(
     ensures host { numbering.new.host_id ≡ numbering.old.host_id }
     ensures devices { numbering.new.devices ≡ numbering.old.devices }
     ensures topology { M.topology maint.new ≡ M.topology maint.old }
+    ensures follows { OnOk result ((origin : _) → M.Follows origin maint.old
+        → M.Follows origin maint.new) }
     ensures whole { OnOk result (M.IsWhole maint.new) }
-    ensures orderly { M.IsOrderly maint.new }
-    ensures cause { IfErr result (IsCaused (M.undetected maint.old) (M.undetected maint.new)
-        (M.faults maint.old) (M.faults maint.new)) }
-    ensures undetected_stays { M.undetected maint.old ≤ M.undetected maint.new }
-    ensures faults_stay { M.faults maint.old ≤ M.faults maint.new }
+    ensures leaves { OnErr result ((origin : _) → M.Follows origin maint.old
+        → M.Leaves origin maint.new) }
+    ensures cause { IfErr result (IsCaused (M.undetected maint.old, M.undetected maint.new)
+        (M.faults maint.old, M.faults maint.new) (M.IsMet maint.new)) }
+    ensures undetected { OnOk result (M.undetected maint.new ≡ M.undetected maint.old) }
+    ensures faults { OnOk result (M.faults maint.new ≡ M.faults maint.old) }
 {
     if path.as_slice().is_empty() {
         return Ok(numbering.host_id);
@@ -146,12 +152,15 @@ fn prepare<M: Maint>(
     ensures host { numbering.new.host_id ≡ numbering.old.host_id }
     ensures devices { numbering.new.devices ≡ numbering.old.devices }
     ensures topology { M.topology maint.new ≡ M.topology maint.old }
+    ensures follows { OnOk result ((origin : _) → M.Follows origin maint.old
+        → M.Follows origin maint.new) }
     ensures whole { OnOk result (M.IsWhole maint.new) }
-    ensures orderly { M.IsOrderly maint.new }
-    ensures cause { IfErr result (IsCaused (M.undetected maint.old) (M.undetected maint.new)
-        (M.faults maint.old) (M.faults maint.new)) }
-    ensures undetected_stays { M.undetected maint.old ≤ M.undetected maint.new }
-    ensures faults_stay { M.faults maint.old ≤ M.faults maint.new }
+    ensures leaves { OnErr result ((origin : _) → M.Follows origin maint.old
+        → M.Leaves origin maint.new) }
+    ensures cause { IfErr result (IsCaused (M.undetected maint.old, M.undetected maint.new)
+        (M.faults maint.old, M.faults maint.new) (M.IsMet maint.new)) }
+    ensures undetected { OnOk result (M.undetected maint.new ≡ M.undetected maint.old) }
+    ensures faults { OnOk result (M.faults maint.new ≡ M.faults maint.old) }
 {
     let features = read(alloc, maint, path, FEATURES)?;
     if features & SWITCH == 0 {
@@ -186,12 +195,15 @@ pub(crate) fn take_in<M: Maint>(
         ++ met_as numbering.old.devices.items kind path.now ∷ []) }
     ensures host { numbering.new.host_id ≡ numbering.old.host_id }
     ensures topology { M.topology maint.new ≡ M.topology maint.old }
+    ensures follows { OnOk result ((origin : _) → M.Follows origin maint.old
+        → M.Follows origin maint.new) }
     ensures whole { OnOk result (M.IsWhole maint.new) }
-    ensures orderly { M.IsOrderly maint.new }
-    ensures cause { IfErr result (IsCaused (M.undetected maint.old) (M.undetected maint.new)
-        (M.faults maint.old) (M.faults maint.new)) }
-    ensures undetected_stays { M.undetected maint.old ≤ M.undetected maint.new }
-    ensures faults_stay { M.faults maint.old ≤ M.faults maint.new }
+    ensures leaves { OnErr result ((origin : _) → M.Follows origin maint.old
+        → M.Leaves origin maint.new) }
+    ensures cause { IfErr result (IsCaused (M.undetected maint.old, M.undetected maint.new)
+        (M.faults maint.old, M.faults maint.new) (M.IsMet maint.new)) }
+    ensures undetected { OnOk result (M.undetected maint.new ≡ M.undetected maint.old) }
+    ensures faults { OnOk result (M.faults maint.new ≡ M.faults maint.old) }
 {
     let tag = numbering.devices.len() as u32 + 1;
     write(alloc, maint, path, COMPONENT_TAG, tag)?;

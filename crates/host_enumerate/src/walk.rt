@@ -1,5 +1,5 @@
 //! The walk of a host through its fabric.
-ghost use Rattle.std.specs.Prelude.{◌≡◌, ◌≢◌, ◌<◌, ◌≤◌, ◌+◌, ℕ, [], length, OnOk, IfOk, IfErr};
+ghost use Rattle.std.specs.Prelude.{◌≡◌, ◌≢◌, ◌<◌, ◌≤◌, ◌+◌, ℕ, [], length, OnOk, OnErr, IfOk, IfErr};
 ghost use Rattle.fabric_script.specs.declared.ports.PortRef.{PortRef};
 ghost use Rattle.fabric_map.specs.Walked.{onward, after_all_paths};
 ghost use Rattle.fabric_map.specs.Routes.{Registers};
@@ -48,16 +48,21 @@ fn meet<M: Maint>(
     ensures opened { OnOk result
         (IsOpened (M.topology maint.old) (M.registers maint.new) numbering.old.host_id path.now) }
     ensures end { IfErr result (IsEnded (M.undetected maint.old, M.undetected maint.new)
-        (M.faults maint.old, M.faults maint.new) (λ at id. (before : Registers)
+        (M.faults maint.old, M.faults maint.new) (M.IsMet maint.new) (λ at id. M.IsWhole maint.new
+        × ((origin : _) → M.Follows origin maint.old → M.Follows origin maint.new)
+        × ((before : Registers)
         → IsUnderway (M.topology maint.old) before (M.registers maint.old) numbering.old.host_id
         numbering.old.devices.items numbering.old.next_id path.now
-        → EndsAtLock (M.topology maint.old) before (M.registers maint.new) at id)) }
+        → EndsAtLock (M.topology maint.old) before (M.registers maint.new) at id))) }
     ensures host { numbering.new.host_id ≡ numbering.old.host_id }
     ensures topology { M.topology maint.new ≡ M.topology maint.old }
+    ensures follows { OnOk result ((origin : _) → M.Follows origin maint.old
+        → M.Follows origin maint.new) }
     ensures whole { OnOk result (M.IsWhole maint.new) }
-    ensures orderly { M.IsOrderly maint.new }
-    ensures undetected_stays { M.undetected maint.old ≤ M.undetected maint.new }
-    ensures faults_stay { M.faults maint.old ≤ M.faults maint.new }
+    ensures leaves { OnErr result ((origin : _) → M.Follows origin maint.old
+        → M.Leaves origin maint.new) }
+    ensures undetected { OnOk result (M.undetected maint.new ≡ M.undetected maint.old) }
+    ensures faults { OnOk result (M.faults maint.new ≡ M.faults maint.old) }
 {
     match take(alloc, maint, numbering.host_id, path)? {
         Holder::Taken => {
@@ -107,18 +112,23 @@ fn look_behind<M: Maint>(
         (M.registers maint.new) numbering.old.host_id numbering.old.devices.items
         numbering.new.devices.items switch.now.path port found) }
     ensures end { IfErr result (IsEnded (M.undetected maint.old, M.undetected maint.new)
-        (M.faults maint.old, M.faults maint.new) (λ at id. (before : Registers)
+        (M.faults maint.old, M.faults maint.new) (M.IsMet maint.new) (λ at id. M.IsWhole maint.new
+        × ((origin : _) → M.Follows origin maint.old → M.Follows origin maint.new)
+        × ((before : Registers)
         → IsUnderway (M.topology maint.old) before (M.registers maint.old) numbering.old.host_id
         numbering.old.devices.items numbering.old.next_id (onward switch.now.path port)
-        → EndsAtLock (M.topology maint.old) before (M.registers maint.new) at id)) }
+        → EndsAtLock (M.topology maint.old) before (M.registers maint.new) at id))) }
     ensures host { numbering.new.host_id ≡ numbering.old.host_id }
     ensures longer { OnOk result
         (length numbering.old.devices.items ≤ length numbering.new.devices.items) }
     ensures topology { M.topology maint.new ≡ M.topology maint.old }
+    ensures follows { OnOk result ((origin : _) → M.Follows origin maint.old
+        → M.Follows origin maint.new) }
     ensures whole { OnOk result (M.IsWhole maint.new) }
-    ensures orderly { M.IsOrderly maint.new }
-    ensures undetected_stays { M.undetected maint.old ≤ M.undetected maint.new }
-    ensures faults_stay { M.faults maint.old ≤ M.faults maint.new }
+    ensures leaves { OnErr result ((origin : _) → M.Follows origin maint.old
+        → M.Leaves origin maint.new) }
+    ensures undetected { OnOk result (M.undetected maint.new ≡ M.undetected maint.old) }
+    ensures faults { OnOk result (M.faults maint.new ≡ M.faults maint.old) }
 {
     let offset = FIRST_STATUS + STATUS_STEP * u32::from(port);
     let status = read(alloc, maint, &switch.path, offset)?;
@@ -158,18 +168,23 @@ fn explore<M: Maint>(
     ensures found { OnOk result (IsFound (M.topology maint.old) (M.registers maint.new)
         numbering.old.host_id numbering.new.devices.items switch.now) }
     ensures end { IfErr result (IsEnded (M.undetected maint.old, M.undetected maint.new)
-        (M.faults maint.old, M.faults maint.new) (λ at id. (before : Registers)
+        (M.faults maint.old, M.faults maint.new) (M.IsMet maint.new) (λ at id. M.IsWhole maint.new
+        × ((origin : _) → M.Follows origin maint.old → M.Follows origin maint.new)
+        × ((before : Registers)
         → IsUnderway (M.topology maint.old) before (M.registers maint.old) numbering.old.host_id
         numbering.old.devices.items numbering.old.next_id (onward switch.now.path 0)
-        → EndsAtLock (M.topology maint.old) before (M.registers maint.new) at id)) }
+        → EndsAtLock (M.topology maint.old) before (M.registers maint.new) at id))) }
     ensures host { numbering.new.host_id ≡ numbering.old.host_id }
     ensures longer { OnOk result
         (length numbering.old.devices.items ≤ length numbering.new.devices.items) }
     ensures topology { M.topology maint.new ≡ M.topology maint.old }
+    ensures follows { OnOk result ((origin : _) → M.Follows origin maint.old
+        → M.Follows origin maint.new) }
     ensures whole { OnOk result (M.IsWhole maint.new) }
-    ensures orderly { M.IsOrderly maint.new }
-    ensures undetected_stays { M.undetected maint.old ≤ M.undetected maint.new }
-    ensures faults_stay { M.faults maint.old ≤ M.faults maint.new }
+    ensures leaves { OnErr result ((origin : _) → M.Follows origin maint.old
+        → M.Leaves origin maint.new) }
+    ensures undetected { OnOk result (M.undetected maint.new ≡ M.undetected maint.old) }
+    ensures faults { OnOk result (M.faults maint.new ≡ M.faults maint.old) }
 {
     for port in 0..switch.ports {
         if port == switch.entry {
@@ -197,14 +212,19 @@ fn number_devices<M: Maint>(
         → (next : ℕ) × IsUnderway (M.topology maint.old) before (M.registers maint.new) host_id
         devices.items next after_all_paths) }
     ensures end { IfErr result (IsEnded (M.undetected maint.old, M.undetected maint.new)
-        (M.faults maint.old, M.faults maint.new) (λ at id. (before : Registers)
+        (M.faults maint.old, M.faults maint.new) (M.IsMet maint.new) (λ at id. M.IsWhole maint.new
+        × ((origin : _) → M.Follows origin maint.old → M.Follows origin maint.new)
+        × ((before : Registers)
         → IsUnderway (M.topology maint.old) before (M.registers maint.old) host_id [] 0 []
-        → EndsAtLock (M.topology maint.old) before (M.registers maint.new) at id)) }
+        → EndsAtLock (M.topology maint.old) before (M.registers maint.new) at id))) }
     ensures topology { M.topology maint.new ≡ M.topology maint.old }
+    ensures follows { OnOk result ((origin : _) → M.Follows origin maint.old
+        → M.Follows origin maint.new) }
     ensures whole { OnOk result (M.IsWhole maint.new) }
-    ensures orderly { M.IsOrderly maint.new }
-    ensures undetected_stays { M.undetected maint.old ≤ M.undetected maint.new }
-    ensures faults_stay { M.faults maint.old ≤ M.faults maint.new }
+    ensures leaves { OnErr result ((origin : _) → M.Follows origin maint.old
+        → M.Leaves origin maint.new) }
+    ensures undetected { OnOk result (M.undetected maint.new ≡ M.undetected maint.old) }
+    ensures faults { OnOk result (M.faults maint.new ≡ M.faults maint.old) }
 {
     let mut numbering = Numbering {
         host_id,
@@ -238,13 +258,18 @@ pub fn enumerate<M: Maint>(alloc: Global, maint: &mut M) -> Result<Map, EnumEnd>
         map.entries.items (M.registers maint.old) (M.registers maint.new)) }
     ensures free { OnOk result (IsFree (M.topology maint.old) (M.registers maint.old)) }
     ensures end { IfErr result (IsEnded (M.undetected maint.old, M.undetected maint.new)
-        (M.faults maint.old, M.faults maint.new)
-        (EndsAtLock (M.topology maint.old) (M.registers maint.old) (M.registers maint.new))) }
+        (M.faults maint.old, M.faults maint.new) (M.IsMet maint.new) (λ path id. M.IsWhole maint.new
+        × ((origin : _) → M.Follows origin maint.old → M.Follows origin maint.new)
+        × EndsAtLock (M.topology maint.old) (M.registers maint.old) (M.registers maint.new)
+        path id)) }
     ensures topology { M.topology maint.new ≡ M.topology maint.old }
+    ensures follows { OnOk result ((origin : _) → M.Follows origin maint.old
+        → M.Follows origin maint.new) }
     ensures whole { OnOk result (M.IsWhole maint.new) }
-    ensures orderly { M.IsOrderly maint.new }
-    ensures undetected_stays { M.undetected maint.old ≤ M.undetected maint.new }
-    ensures faults_stay { M.faults maint.old ≤ M.faults maint.new }
+    ensures leaves { OnErr result ((origin : _) → M.Follows origin maint.old
+        → M.Leaves origin maint.new) }
+    ensures undetected { OnOk result (M.undetected maint.new ≡ M.undetected maint.old) }
+    ensures faults { OnOk result (M.faults maint.new ≡ M.faults maint.old) }
 {
     let own_id = read(alloc, maint, &Path::of_host(), BASE_ID)?;
     let devices = number_devices(alloc, maint, (own_id >> 16) as u8)?;

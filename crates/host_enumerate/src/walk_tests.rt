@@ -80,7 +80,7 @@ fn fabric(
             panic!(rt; "memory");
         }
     }
-    PlainMaint::new(registers, ends, 0)
+    PlainMaint::of_parts(registers, ends, 0)
 }
 
 /// Numbers a new fabric.
@@ -91,7 +91,7 @@ fn number(rt: &impl Abort, alloc: Global, maint: &mut PlainMaint) -> Result<Map,
 
 /// The registers of a device.
 fn device<'a>(rt: &impl Abort, maint: &'a PlainMaint, node: u8) -> &'a Registers {
-    match maint.devices().get(node as usize) {
+    match maint.devices.get(node as usize) {
         Some(device) => device,
         None => panic!(rt; "no device"),
     }

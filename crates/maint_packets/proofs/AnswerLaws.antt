@@ -7,9 +7,10 @@ use Rattle.std.proofs.lemmas.List.Elements.{All-from_recursion}
 use Rattle.rio_packets.specs.LinkForm.{AreBytes, Passes}
 use Rattle.rio_packets.specs.Fields.{prio_of, ttype_of, is_request, body_of}
 use Rattle.rio_packets.specs.Hops.{closed}
-use Rattle.maint_registers.specs.Devices.{Device}
+use Rattle.maint_registers.specs.Devices.{Device, IsSameDevice}
 use Rattle.maint_registers.specs.Within.{IsWithin}
 use Rattle.maint_registers.specs.Access.{value_at, written_at}
+use Rattle.maint_registers.proofs.SameLaws.{same_device, written_same}
 use Rattle.maint_registers.proofs.WithinLaws.{written_within, read_fits}
 use Rattle.maint_packets.specs.declared.request.Op.{Op}
 use Rattle.maint_packets.specs.declared.request.Op.TheVariants.{Read, Write, BadRead, BadWrite}
@@ -196,3 +197,30 @@ pub answered_within : (device : Device) (packet : List ℕ) (request : Request) 
 answered_within device packet request port within form is =
     let fits = request_fits packet request form.range is in
     op_stays device request port request.op within fits.value
+
+-- ---- kind, ports and links
+
+read_same : (device : Device) (request : Request) (o : Option ℕ)
+    → IsSameDevice device (after_read device request o).device
+read_same device request None = same_device device
+read_same device request (Some value) = same_device device
+
+write_same : (device : Device) (request : Request) (offset value : ℕ) (o : Option Device)
+    → written_at device offset value ≡ o
+    → IsSameDevice device (after_write device request o).device
+write_same device request offset value None is = same_device device
+write_same device request offset value (Some next) is =
+    written_same device next offset value is
+
+-- a device that answers is the same
+pub answered_same : (device : Device) (request : Request) (port : ℕ)
+    → IsSameDevice device (answered device request port).device
+answered_same device request port = by_op request.op
+  where
+    by_op : (op : Op) → IsSameDevice device (answered_to device request port op).device
+    by_op Read = read_same device request (value_at device request.offset port)
+    by_op (Write value) =
+        write_same device request request.offset value
+        (written_at device request.offset value) refl
+    by_op BadRead = same_device device
+    by_op BadWrite = same_device device

@@ -1,7 +1,7 @@
 -- What registers answer is a packet in its link form.
 use Rattle.std.specs.Prelude.{◌≡◌, ℕ, ◌<◌, List, Some}
 use Rattle.rio_packets.specs.LinkForm.{Passes}
-use Rattle.maint_registers.specs.Devices.{Device}
+use Rattle.maint_registers.specs.Devices.{Device, IsSameDevice}
 use Rattle.maint_registers.specs.Within.{IsWithin}
 use Rattle.maint_packets.specs.declared.request.Request.{Request}
 use Rattle.maint_packets.specs.Requests.{request_of}
@@ -19,3 +19,8 @@ abbrev pub AnsweredStaysWithin : Type 0
 AnsweredStaysWithin = (device : Device) (packet : List ℕ) (request : Request) (port : ℕ)
     → IsWithin device → Passes packet → request_of packet ≡ Some request
     → IsWithin (answered device request port).device
+
+-- It is the same device after it, of its kind, with its ports and its links.
+abbrev pub AnsweredIsSame : Type 0
+AnsweredIsSame = (device : Device) (request : Request) (port : ℕ)
+    → IsSameDevice device (answered device request port).device

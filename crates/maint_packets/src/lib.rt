@@ -23,7 +23,7 @@ mod response;
 mod tests;
 
 pub use answers::{answer, response_prio};
-pub use laws::answers_keep_forms;
+pub use laws::{answers_keep_devices, answers_keep_forms};
 pub use next_hop::{Next, move_on, next_of};
 pub use request::{Op, Request, read_request, write_request};
 pub use response::{Response, read_response, write_response};

@@ -5,3 +5,5 @@ pub mod RouteLaws
 pub mod SameLaws
 pub mod LinkLaws
 pub mod WithinLaws
+pub mod BesideLaws
+pub mod ChangeLaws

@@ -23,12 +23,12 @@ or_pow linked port = elim (cases_eq (bit_at linked port) 1) [
 pub or_link : (linked port : ℕ) → port < 16 → bit_or linked (1 * 2 ^ port % 2 ^ 16) ≡ with_link linked port
 or_link linked port below = ap (bit_or linked) (one_shl port 16 below) ∙ or_pow linked port
 
-bit_set : (linked port : ℕ) → bit_at (with_link linked port) port ≡ 1
+pub bit_set : (linked port : ℕ) → bit_at (with_link linked port) port ≡ 1
 bit_set linked port =
     ap (λ n. bit_at n port) (sym (or_pow linked port))
     ∙ omega (arith, bit_at_or linked (2 ^ port) port, bit_at-pow_same port, bit_at-lt linked port)
 
-bit_others : (linked port other : ℕ) → other ≢ port → bit_at (with_link linked port) other ≡ bit_at linked other
+pub bit_others : (linked port other : ℕ) → other ≢ port → bit_at (with_link linked port) other ≡ bit_at linked other
 bit_others linked port other apart =
     ap (λ n. bit_at n other) (sym (or_pow linked port))
     ∙ omega (arith, bit_at_or linked (2 ^ port) other, bit_at-pow_other port other apart)

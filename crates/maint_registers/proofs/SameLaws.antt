@@ -1,11 +1,19 @@
 -- A write leaves a device the same: of its kind, with its ports and its links.
-use Rattle.std.proofs.Common.{◌≡◌, ℕ, Option, Some, None, refl, subst}
+use Rattle.std.proofs.Common.{◌≡◌, ℕ, Option, Some, None, refl, ap, subst}
 use Rattle.std.specs.Option.{option_and_then}
 use Rattle.maint_registers.specs.declared.table.Register.{Register}
 use Rattle.maint_registers.specs.declared.table.Register.TheVariants.{Fixed, PortInformation, BaseId, HostLock, ComponentTag, RouteSelect, RouteEntry, DefaultPort}
-use Rattle.maint_registers.specs.Devices.{Device, IsSameDevice}
+use Rattle.maint_registers.specs.Devices.{Device, IsSameDevice, is_switch}
 use Rattle.maint_registers.specs.Table.{register_at}
 use Rattle.maint_registers.specs.Access.{written_to, written_at}
+
+pub same_device : (device : Device) → IsSameDevice device device
+same_device device = record { kind = refl; ports = refl; linked = refl }
+
+-- what is a switch stays one
+pub same_kind : (before after : Device) → IsSameDevice before after
+    → is_switch after ≡ is_switch before
+same_kind before after same = ap (λ k. is_switch (record before { kind = k })) same.kind
 
 -- a device that is the same but for what was written
 one_same : (device written next : Device) → IsSameDevice device written → Some written ≡ Some next → IsSameDevice device next

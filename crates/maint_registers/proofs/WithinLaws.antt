@@ -16,7 +16,7 @@ no_routes_fit : All (λ entry. entry < 0x100) no_routes
 unfolding no_routes
 no_routes_fit = All-replicate (λ entry. entry < 0x100) 256 255 (omega arith)
 
-no_routes_long : length no_routes ≡ 256
+pub no_routes_long : length no_routes ≡ 256
 unfolding no_routes
 no_routes_long = refl
 
@@ -226,7 +226,7 @@ value_fits device port RouteSelect within range fit = let most = within.select i
 value_fits device port RouteEntry within range fit =
     let long = within.destinations in
     let selected = within.select in
-    let entry = All-get_or (λ e. e < 0x100) device.routes device.select 0 (omega arith) within.routes in
+    let entry = All-get_or (λ e. e < 0x100) device.routes device.select 255 (omega arith) within.routes in
     omega arith
 value_fits device port DefaultPort within range fit = let most = within.default_port in omega arith
 

@@ -35,7 +35,7 @@ module _ (device next : Device) (offset value port : ℕ) (is_device : IsDevice 
   after ComponentTag bits at w e = step ComponentTag bits _ _ e w at (omega arith)
   after RouteSelect bits at w e = step RouteSelect bits _ _ e w at (omega arith)
   after RouteEntry bits at w e =
-      let here = get_or-set_same device.routes device.select (value % 256) 0 (let r = is_device.destinations in let s = is_device.selected in omega arith) in
+      let here = get_or-set_same device.routes device.select (value % 256) 255 (let r = is_device.destinations in let s = is_device.selected in omega arith) in
       step RouteEntry bits _ _ e w at (omega (arith, here))
   after DefaultPort bits at w e = step DefaultPort bits _ _ e w at (omega arith)
 

@@ -1,10 +1,11 @@
 -- What is read in a register, and what a write makes of it.
-use Rattle.std.specs.Prelude.{ℕ, ◌+◌, ◌*◌, ◌/◌, ◌%◌, ◌==◌, Option, Some, None, option_map, slice_index, slice_set, if◌then◌else◌}
+use Rattle.std.specs.Prelude.{ℕ, ◌+◌, ◌*◌, ◌/◌, ◌%◌, ◌==◌, Option, Some, None, option_map, slice_set, if◌then◌else◌}
 use Rattle.std.specs.Option.{option_and_then}
 use Rattle.maint_registers.specs.declared.table.Register.{Register}
 use Rattle.maint_registers.specs.declared.table.Register.TheVariants.{Fixed, PortInformation, BaseId, HostLock, ComponentTag, RouteSelect, RouteEntry, DefaultPort}
 use Rattle.maint_registers.specs.Devices.{Device}
 use Rattle.maint_registers.specs.Table.{register_at}
+use Rattle.maint_registers.specs.Routes.{entry_of}
 
 -- what a request that came to a port reads in a register; bits without a meaning are 0
 abbrev pub value_of : Device → ℕ → Register → ℕ
@@ -14,7 +15,7 @@ value_of device port BaseId = device.base_id * 0x10000
 value_of device port HostLock = device.lock
 value_of device port ComponentTag = device.tag
 value_of device port RouteSelect = device.select
-value_of device port RouteEntry = slice_index device.routes device.select
+value_of device port RouteEntry = entry_of device device.select
 value_of device port DefaultPort = device.default_port
 
 -- what it reads at an offset, if a register stands there

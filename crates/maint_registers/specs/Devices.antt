@@ -4,7 +4,8 @@ use Rattle.maint_registers.specs.declared.registers.Kind.{Kind}
 use Rattle.maint_registers.specs.declared.registers.Kind.TheVariants.{Endpoint, Switch}
 
 -- `ports` is how many ports there are, 1 for an endpoint. Bit n of `linked`, from the lowest, tells whether port n has a
--- link. `base_id` is an endpoint's own ID. `lock` is the ID of the host that holds the device, or 0xffff where none does.
+-- link. `base_id` is an endpoint's own ID, 0 for a switch. `lock` is the ID of the host that holds the device, or 0xffff
+-- if none does.
 -- `routes` has the entry of each destination from 0 to 255; entry and default port count for a switch alone, and `select`
 -- is the destination whose entry can be read and written.
 pub record Device : Type 0 where
@@ -18,12 +19,6 @@ pub record Device : Type 0 where
   pub routes : List ℕ
   pub default_port : ℕ
 
--- what is true of the registers of every device
-pub record IsDevice (device : Device) : Type 0 where
-  pub most_ports : device.ports ≤ 16
-  pub destinations : length device.routes ≡ 256
-  pub selected : device.select < 256
-
 -- It is the same device, whatever was written to it: of the same kind, with the same ports and the same links.
 pub record IsSameDevice (before after : Device) : Type 0 where
   pub kind : after.kind ≡ before.kind
@@ -36,6 +31,14 @@ is_switch device = is_kind device.kind
     is_kind : Kind → Bool
     is_kind Endpoint = false
     is_kind Switch = true
+
+-- what is true of the registers of every device
+pub record IsDevice (device : Device) : Type 0 where
+  pub most_ports : device.ports ≤ 16
+  pub endpoint_ports : is_switch device ≡ false → device.ports ≡ 1
+  pub switch_id : is_switch device ≡ true → device.base_id ≡ 0
+  pub destinations : length device.routes ≡ 256
+  pub selected : device.select < 256
 
 -- the links of a device, with that of this port among them: its bit is set
 abbrev pub with_link : ℕ → ℕ → ℕ

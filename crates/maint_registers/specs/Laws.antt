@@ -45,6 +45,16 @@ IsTakenIfFree = (lock id : ℕ) → id ≢ 0xffff → (locked lock id ≡ id) �
 abbrev pub StaysForOthers : Type 0
 StaysForOthers = (lock id : ℕ) → lock ≢ 0xffff → lock ≢ id → locked lock id ≡ lock
 
+-- A write to any other register leaves the lock.
+abbrev pub LockStays : Type 0
+LockStays = (device next : Device) (offset value : ℕ) → offset ≢ 0x68
+    → written_at device offset value ≡ Some next → next.lock ≡ device.lock
+
+-- And a write to any other register leaves the tag.
+abbrev pub TagStays : Type 0
+TagStays = (device next : Device) (offset value : ℕ) → offset ≢ 0x6c
+    → written_at device offset value ≡ Some next → next.tag ≡ device.tag
+
 -- A port whose link is set shows it.
 abbrev pub ShowsLink : Type 0
 ShowsLink = (device : Device) (port : ℕ)

@@ -5,3 +5,4 @@ pub mod Routes
 pub mod Laws
 pub mod Inside
 pub mod Within
+pub mod Changes

@@ -1,13 +1,16 @@
 -- Where a switch sends a packet (RapidIO Interconnect Specification 1.3, Part 3, route tables; both meanings of 255 are
 -- this project's profile).
-use Rattle.std.specs.Prelude.{ℕ, ◌==◌, ◌&&◌, nat_lt, Option, Some, None, slice_index, if◌then◌else◌}
+use Rattle.std.specs.Prelude.{ℕ, ◌==◌, ◌&&◌, nat_lt, Option, Some, None, slice_index_or, if◌then◌else◌}
 use Rattle.maint_registers.specs.Devices.{Device, is_switch}
 
--- the entry of a destination, or the default port where the entry is 255
+-- the entry of a destination; a destination past the table has none, which is 255
+abbrev pub entry_of : Device → ℕ → ℕ
+entry_of device dest = slice_index_or device.routes dest 255
+
+-- the entry of a destination, or the default port if the entry is 255
 abbrev pub port_named : Device → ℕ → ℕ
 port_named device dest =
-    if slice_index device.routes dest == 255 then device.default_port
-    else slice_index device.routes dest
+    if entry_of device dest == 255 then device.default_port else entry_of device dest
 
 -- the port to which a switch sends packets for a destination, if what its table names is one of its ports
 abbrev pub next_port : Device → ℕ → Option ℕ

@@ -1,5 +1,5 @@
 //! Laws of registers, for whoever states something of devices.
-ghost use Rattle.maint_registers.specs.Laws.{ShowsWritten, IsTakenIfFree, StaysForOthers, ShowsLink, OthersStay};
+ghost use Rattle.maint_registers.specs.Laws.{ShowsWritten, IsTakenIfFree, StaysForOthers, LockStays, TagStays, ShowsLink, OthersStay};
 ghost use Rattle.maint_registers.specs.Within.{NewEndpointIsWithin, NewSwitchIsWithin, ReadsWord};
 ghost use Rattle.maint_registers.specs.Within.{WrittenStaysWithin, LockStaysWithin, LinksStayWithin};
 ghost use Rattle.maint_registers.specs.Within.{RouteStaysWithin, DefaultStaysWithin};
@@ -13,6 +13,12 @@ pub fn write_changes_its_bits()
 pub fn lock_is_taken_if_free()
     ensures taken { IsTakenIfFree }
     ensures stays { StaysForOthers }
+{}
+
+/// A write leaves the lock unless it is to the host lock, and the tag unless it is to the component tag.
+pub fn other_writes_leave_lock_and_tag()
+    ensures lock { LockStays }
+    ensures tag { TagStays }
 {}
 
 /// A link that is set shows at its port, and at no other.

@@ -21,6 +21,6 @@ mod tests;
 
 pub use laws::{
     devices_stay_within, link_shows_at_its_port, lock_is_taken_if_free, new_devices_are_within,
-    reads_are_words, write_changes_its_bits,
+    other_writes_leave_lock_and_tag, reads_are_words, write_changes_its_bits,
 };
 pub use registers::Registers;

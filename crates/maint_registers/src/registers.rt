@@ -1,5 +1,5 @@
 //! `Registers`: what a device holds, and where a switch sends packets.
-ghost use Rattle.std.specs.Prelude.{◌≡◌, ◌≤◌, ◌<◌, Bool, slice_set, IsTrue, IfSome};
+ghost use Rattle.std.specs.Prelude.{◌≡◌, ◌≤◌, ◌<◌, Bool, true, false, slice_set, IsTrue, IfSome};
 ghost use Rattle.maint_registers.specs.Devices.{IsDevice, is_switch, with_link, no_routes, new_endpoint, new_switch};
 ghost use Rattle.maint_registers.specs.Routes.{next_port, port_named};
 
@@ -106,6 +106,7 @@ impl Registers {
     /// Returns how many ports the device has, 1 if it is an endpoint.
     pub fn ports(&self) -> u8
         ensures value { result ≡ self.now.ports }
+        ensures endpoint { is_switch self.now ≡ false → result ≡ 1 }
         ensures device { IsDevice self.now }
     {
         self.ports
@@ -113,7 +114,8 @@ impl Registers {
 
     /// Returns the ID of an endpoint, or 0 of a switch (RapidIO Interconnect Specification 1.3, Part 3, base device ID).
     pub fn base_id(&self) -> u8
-        ensures { result ≡ self.now.base_id }
+        ensures value { result ≡ self.now.base_id }
+        ensures switch { is_switch self.now ≡ true → result ≡ 0 }
     {
         self.base_id
     }

@@ -1,6 +1,6 @@
 //! The table of registers: what stands at an offset, and how it is read and written.
-ghost use Rattle.std.specs.Prelude.{◌≡◌, ◌<◌, ◌↔◌, IsTrue, IsSome, IfSome, unwrap_or, option_map};
-ghost use Rattle.maint_registers.specs.Devices.{IsSameDevice};
+ghost use Rattle.std.specs.Prelude.{◌≡◌, ◌<◌, ◌↔◌, false, IsTrue, IsSome, IfSome, unwrap_or, option_map};
+ghost use Rattle.maint_registers.specs.Devices.{IsSameDevice, is_switch};
 ghost use Rattle.maint_registers.specs.Table.{table, in_rows, status_port, status_of, register_at};
 ghost use Rattle.maint_registers.specs.Access.{value_of, value_at, locked, written_to, written_at};
 
@@ -76,6 +76,7 @@ impl Registers {
 
     /// Writes to a register, and returns whether it can be written.
     fn write_to(&mut self, register: Register, value: u32) -> bool
+        requires { register ≡ Register.BaseId → is_switch self.old ≡ false }
         ensures exact { IsTrue result ↔ IsSome (written_to self.old value register) }
         ensures becomes { self.new ≡ unwrap_or (written_to self.old value register) self.old }
         ensures device { IsSameDevice self.old self.new }

@@ -18,14 +18,14 @@ pub enum End {
     ReadFault,
     /// Memory ran out.
     NoMemory,
+    /// A write failed. Plain registers never tell one.
+    WriteFault,
     /// An event was not sent. Plain registers never tell one.
     Undetected,
     /// The input is too long.
     TooLong,
     /// Another host, with this ID, holds the device on this path.
     Locked { path: Path, id: u16 },
-    /// The registers and links are no new fabric. Those of an accepted script always are.
-    NoFabric,
 }
 
 impl From<AllocError> for End {
@@ -41,7 +41,8 @@ pub(crate) fn end_of_walk(end: EnumEnd) -> End {
     match end {
         EnumEnd::LockedBy { path, id } => End::Locked { path, id },
         EnumEnd::NoMemory => End::NoMemory,
-        EnumEnd::Undetected { .. } | EnumEnd::WriteFault => End::Undetected,
+        EnumEnd::Undetected { .. } => End::Undetected,
+        EnumEnd::WriteFault => End::WriteFault,
     }
 }
 
@@ -50,8 +51,6 @@ pub(crate) fn end_of_walk(end: EnumEnd) -> End {
 pub enum Status {
     /// The map was written.
     Done,
-    /// There is no fabric of which a map could be.
-    NoFabric,
     /// The words are of no known form.
     Words,
     /// The script is refused.
@@ -77,10 +76,10 @@ pub(crate) fn status_of(end: &End) -> Status {
         End::Script(_) => Status::Script,
         End::ReadFault => Status::ReadFault,
         End::NoMemory => Status::NoMemory,
+        End::WriteFault => Status::WriteFault,
         End::Undetected => Status::Undetected,
         End::TooLong => Status::TooLong,
         End::Locked { .. } => Status::Locked,
-        End::NoFabric => Status::NoFabric,
     }
 }
 
@@ -88,7 +87,6 @@ pub(crate) fn status_of(end: &End) -> Status {
 pub fn status_number(status: Status) -> u8 {
     match status {
         Status::Done => 0,
-        Status::NoFabric => 1,
         Status::Words => 2,
         Status::Script => 3,
         Status::ReadFault => 4,

@@ -5,9 +5,9 @@
 //! - `run`: the whole program, over any source and sink; `main` gives it the arguments and the
 //!   standard streams.
 //! - `answer` and `Status`: what the words ask for is done, and how that ended.
-//! - `number_fabric`: plain registers and links are checked and then numbered.
-//! - `accepting` says which scripts are taken, `setting_up` makes their registers and links, and
-//!   `writing` writes maps and refusals.
+//! - `number_script`: the plain registers and links of a script are numbered.
+//! - `accepting` says which scripts are taken, `setting_up` finds the host, and `writing` writes maps
+//!   and refusals.
 #![tactic(auto)]
 
 mod accepting;
@@ -20,7 +20,7 @@ mod tests;
 mod writing;
 
 pub use ends::{End, Status, status_number};
-pub use numbering::number_fabric;
+pub use numbering::number_script;
 pub use program::{answer, run};
 use rio_chars::{StdSink, StdSource};
 use std::process::ExitCode;

@@ -1,25 +1,31 @@
-//! Plain registers and links are numbered.
+//! The fabric that a script sets up is numbered.
 ghost use Rattle.std.specs.Prelude.{◌≡◌, IfOk};
+ghost use Rattle.fabric_script.specs.Scripts.{Passes};
 ghost use Rattle.fabric_map.specs.Numbered.{IsNumbered};
-ghost use Rattle.host_enumerate.specs.Plain.{topology_of, registers_of};
+ghost use Rattle.fabric_map.specs.Routes.{Registers};
+ghost use Rattle.fabric_map.specs.Plain.{topology_of, registers_of};
+ghost use Rattle.host_enumerate.specs.Devised.{IsHost, devices_of, links_of};
 
 use crate::ends::{End, end_of_walk};
 use fabric_map::Map;
+use fabric_script::Script;
 use host_enumerate::{PlainMaint, enumerate};
 use std::alloc::Global;
 
-/// Numbers a fabric of plain registers, if it is a new one. A map is answered only of a fabric
-/// that is numbered then.
-pub fn number_fabric(alloc: Global, maint: &mut PlainMaint) -> Result<Map, End>
-    ensures { IfOk result (λ map. IsNumbered
-        (topology_of maint.old.devices.items maint.old.links.items maint.old.host)
+/// Numbers the devices that the set-up lines of a script make, from this host. The script passes.
+pub fn number_script(alloc: Global, script: &Script, host: u8) -> Result<Map, End>
+    requires passes { Passes script.now.names.items script.now.lines.items }
+    requires host { IsHost (devices_of script.now.lines.items) (links_of script.now.lines.items)
+        host }
+    ensures { IfOk result (λ map. (after : Registers) × IsNumbered
+        (topology_of (devices_of script.now.lines.items) (links_of script.now.lines.items) host)
         map.devices.items map.entries.items
-        (registers_of maint.old.devices.items) (registers_of maint.new.devices.items)) }
+        (registers_of (devices_of script.now.lines.items)) after) }
 {
-    if !maint.is_new_fabric() {
-        return Err(End::NoFabric);
-    }
-    match enumerate(alloc, maint) {
+    let Ok(mut maint) = PlainMaint::new(alloc, script, host) else {
+        return Err(End::NoMemory);
+    };
+    match enumerate(alloc, &mut maint) {
         Ok(map) => Ok(map),
         Err(end) => Err(end_of_walk(end)),
     }

@@ -1,14 +1,16 @@
 //! The whole program, but for where its words and its streams come from.
 ghost use Rattle.std.specs.Prelude.{◌≤◌, length};
+ghost use Rattle.fabric_script.specs.Scripts.{Passes};
 
 use crate::accepting::accept;
 use crate::ends::{End, Status, status_number, status_of};
-use crate::numbering::number_fabric;
-use crate::setting_up::{find_node, judge_host, set_up};
+use crate::numbering::number_script;
+use crate::setting_up::{find_node, reason_of};
 use crate::writing::write_answer;
 use fabric_map::Map;
 use fabric_script::{Reason, Refusal, Script, read_name};
-use rio_chars::{Outbox, ReadEnd, Sink, Source, TextBuffer, read_all};
+use host_enumerate::judge_host;
+use rio_chars::{NoMemory, Outbox, ReadEnd, Sink, Source, TextBuffer, read_all};
 use std::alloc::Global;
 
 /// The most bytes of input.
@@ -83,7 +85,7 @@ fn map_of_script(alloc: Global, bytes: &[u8], node: &[u8]) -> Result<Map, End>
     requires { length bytes.now ≤ 4194304 }
 {
     let script = accept(alloc, bytes)?;
-    match number_script(alloc, &script, node)? {
+    match map_from(alloc, &script, node)? {
         Ok(map) => Ok(map),
         Err(reason) => Err(End::Script(Refusal {
             line: line_behind(bytes),
@@ -93,16 +95,20 @@ fn map_of_script(alloc: Global, bytes: &[u8], node: &[u8]) -> Result<Map, End>
 }
 
 /// The map of an accepted script, or why the node of this name cannot be its host.
-fn number_script(alloc: Global, script: &Script, node: &[u8]) -> Result<Result<Map, Reason>, End> {
+fn map_from(alloc: Global, script: &Script, node: &[u8]) -> Result<Result<Map, Reason>, End>
+    requires { Passes script.now.names.items script.now.lines.items }
+{
     let Some(host) = find_node(script.names.as_slice(), node) else {
         return Ok(Err(Reason::UnknownNode));
     };
-    let mut maint = set_up(alloc, script, host)?;
-    if let Err(reason) = judge_host(&maint, host) {
-        return Ok(Err(reason));
+    match judge_host(alloc, script, host) {
+        Ok(Ok(())) => {
+            let map = number_script(alloc, script, host)?;
+            Ok(Ok(map))
+        }
+        Ok(Err(end)) => Ok(Err(reason_of(end))),
+        Err(NoMemory) => Err(End::NoMemory),
     }
-    let map = number_fabric(alloc, &mut maint)?;
-    Ok(Ok(map))
 }
 
 /// The number of a line behind the last.

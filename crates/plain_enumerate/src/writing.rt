@@ -80,7 +80,7 @@ fn write_end<K: Sink>(outbox: &mut Outbox<K>, end: &End) {
         End::TooLong => outbox.write(b"refused length\n"),
         End::Script(refusal) => write_refusal(outbox, refusal),
         End::Locked { path, id } => write_locked(outbox, path.as_slice(), *id),
-        End::ReadFault | End::NoMemory | End::Undetected | End::NoFabric => {}
+        End::ReadFault | End::NoMemory | End::WriteFault | End::Undetected => {}
     }
 }
 

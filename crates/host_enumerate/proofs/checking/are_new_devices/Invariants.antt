@@ -1,5 +1,5 @@
 use Rattle.std.proofs.Common.{ℕ, ◌<◌}
-use Rattle.host_enumerate.specs.Plain.{registers_of}
+use Rattle.fabric_map.specs.Plain.{registers_of}
 use Rattle.host_enumerate.specs.Checking.{IsNewDevice}
 use Rattle.host_enumerate.proofs.checking.are_new_devices.Given as goal
 

@@ -6,10 +6,11 @@ pub loop-id-init : goal.loop-id-init
 loop-id-init g c = record {
   whole = c.requires.whole;
   topology = refl;
+  follows = λ origin is. is;
   cleared = has_cleared-none (g.M.Maint.topology c.args.maint.now)
       (g.M.Maint.registers c.args.maint.now) c.args.host_id c.args.path.now;
-  undetected = omega arith;
-  faults = omega arith;
+  undetected = refl;
+  faults = refl;
 }
 
 pub set_entry-requires-clause-askable : goal.set_entry-requires-clause-askable
@@ -25,6 +26,8 @@ pub loop-id-preserved : goal.loop-id-preserved
 loop-id-preserved g c = record {
   whole = c.in_ok-set_entry.ensures.whole;
   topology = c.in_ok-set_entry.ensures.topology ∙ c.loop-id.invariant.topology;
+  follows = λ origin is.
+      c.in_ok-set_entry.ensures.follows origin (c.loop-id.invariant.follows origin is);
   cleared = has_cleared-next (g.M.Maint.topology c.args.maint.now)
       (g.M.Maint.topology c.loop-id.maint) (g.M.Maint.registers c.args.maint.now)
       (g.M.Maint.registers c.loop-id.maint) (g.M.Maint.registers c.set_entry.new.maint)
@@ -32,6 +35,6 @@ loop-id-preserved g c = record {
       (g.M.Maint.whole_is_proper c.args.maint.now c.requires.whole)
       (g.M.Maint.whole_fits c.args.maint.now c.requires.whole) c.loop-id.invariant.topology
       c.loop-id-test.true c.loop-id.invariant.cleared c.in_ok-set_entry.ensures.registers;
-  undetected = omega (arith, c.loop-id.invariant.undetected, c.set_entry.ensures.undetected_stays);
-  faults = omega (arith, c.loop-id.invariant.faults, c.set_entry.ensures.faults_stay);
+  undetected = c.in_ok-set_entry.ensures.undetected ∙ c.loop-id.invariant.undetected;
+  faults = c.in_ok-set_entry.ensures.faults ∙ c.loop-id.invariant.faults;
 }

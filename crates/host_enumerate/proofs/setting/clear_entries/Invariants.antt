@@ -10,11 +10,13 @@ abbrev pub invariant-loop-id : goal.invariant-loop-id
 invariant-loop-id g l = record {
   whole : g.M.Maint.IsWhole l.maint;
   topology : g.M.Maint.topology l.maint ≡ g.M.Maint.topology l.initial.maint;
+  follows : (origin : _) → g.M.Maint.Follows origin l.initial.maint
+      → g.M.Maint.Follows origin l.maint;
   cleared : (at : PortRef)
       → entered (g.M.Maint.topology l.initial.maint) l.path ≡ Some at
       → (held : Device)
       × Becomes (g.M.Maint.registers l.initial.maint) (g.M.Maint.registers l.maint) at.node held
       × IsCleared l.host_id l.id (g.M.Maint.registers l.initial.maint at.node) held;
-  undetected : g.M.Maint.undetected l.initial.maint ≤ g.M.Maint.undetected l.maint;
-  faults : g.M.Maint.faults l.initial.maint ≤ g.M.Maint.faults l.maint;
+  undetected : g.M.Maint.undetected l.maint ≡ g.M.Maint.undetected l.initial.maint;
+  faults : g.M.Maint.faults l.maint ≡ g.M.Maint.faults l.initial.maint;
 }

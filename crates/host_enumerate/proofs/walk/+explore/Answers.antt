@@ -11,6 +11,7 @@ pub loop-port-preserved-then-port-switch : goal.loop-port-preserved-then-port-sw
 loop-port-preserved-then-port-switch g t c = record {
   whole = c.loop-port.invariant.whole;
   topology = c.loop-port.invariant.topology;
+  follows = c.loop-port.invariant.follows;
   found = c.loop-port.invariant.found;
   tried = λ before underway.
       entry_passed (g.M.Maint.topology c.args.maint.now) before (g.M.Maint.registers c.loop-port.maint)
@@ -37,45 +38,57 @@ pub returns-in_err-found-clause-end : goal.returns-in_err-found-clause-end
 returns-in_err-found-clause-end g t c =
     handed_on c.from_residual.result c.in_err-found.field-0.0
     (IsEnded (g.M.Maint.undetected c.args.maint.now, g.M.Maint.undetected c.look_behind.new.maint)
-    (g.M.Maint.faults c.args.maint.now, g.M.Maint.faults c.look_behind.new.maint)
-    (λ at id. (before : Registers)
+    (g.M.Maint.faults c.args.maint.now, g.M.Maint.faults c.look_behind.new.maint) (g.M.Maint.IsMet c.look_behind.new.maint)
+    (λ at id. g.M.Maint.IsWhole c.look_behind.new.maint × ((origin : _) → g.M.Maint.Follows origin c.args.maint.now
+    → g.M.Maint.Follows origin c.look_behind.new.maint)
+    × ((before : Registers)
+    → IsUnderway (g.M.Maint.topology c.args.maint.now) before
+    (g.M.Maint.registers c.args.maint.now) c.args.numbering.now.host_id
+    c.args.numbering.now.devices.items c.args.numbering.now.next_id
+    (onward c.args.switch.now.path 0)
+    → EndsAtLock (g.M.Maint.topology c.args.maint.now) before (g.M.Maint.registers c.look_behind.new.maint) at id)))
+    c.from_residual.ensures.1
+    (ended_longer (g.M.Maint.undetected c.args.maint.now)
+    (g.M.Maint.undetected c.loop-port.maint) (g.M.Maint.undetected c.look_behind.new.maint)
+    (g.M.Maint.faults c.args.maint.now) (g.M.Maint.faults c.loop-port.maint)
+    (g.M.Maint.faults c.look_behind.new.maint) (g.M.Maint.IsMet c.look_behind.new.maint)
+    (λ at id. g.M.Maint.IsWhole c.look_behind.new.maint × ((origin : _) → g.M.Maint.Follows origin c.loop-port.maint
+    → g.M.Maint.Follows origin c.look_behind.new.maint)
+    × ((before : Registers)
+    → IsUnderway (g.M.Maint.topology c.loop-port.maint) before
+    (g.M.Maint.registers c.loop-port.maint) c.loop-port.numbering.host_id
+    c.loop-port.numbering.devices.items c.loop-port.numbering.next_id
+    (onward c.args.switch.now.path c.loop-port.port)
+    → EndsAtLock (g.M.Maint.topology c.loop-port.maint) before (g.M.Maint.registers c.look_behind.new.maint) at id))
+    (λ at id. g.M.Maint.IsWhole c.look_behind.new.maint × ((origin : _) → g.M.Maint.Follows origin c.args.maint.now
+    → g.M.Maint.Follows origin c.look_behind.new.maint)
+    × ((before : Registers)
     → IsUnderway (g.M.Maint.topology c.args.maint.now) before
     (g.M.Maint.registers c.args.maint.now) c.args.numbering.now.host_id
     c.args.numbering.now.devices.items c.args.numbering.now.next_id
     (onward c.args.switch.now.path 0)
     → EndsAtLock (g.M.Maint.topology c.args.maint.now) before (g.M.Maint.registers c.look_behind.new.maint) at id))
-    c.from_residual.ensures.1
-    (ended_longer (g.M.Maint.undetected c.args.maint.now)
-    (g.M.Maint.undetected c.loop-port.maint) (g.M.Maint.undetected c.look_behind.new.maint)
-    (g.M.Maint.faults c.args.maint.now) (g.M.Maint.faults c.loop-port.maint)
-    (g.M.Maint.faults c.look_behind.new.maint)
-    (λ at id. (before : Registers)
-    → IsUnderway (g.M.Maint.topology c.loop-port.maint) before
-    (g.M.Maint.registers c.loop-port.maint) c.loop-port.numbering.host_id
-    c.loop-port.numbering.devices.items c.loop-port.numbering.next_id
-    (onward c.args.switch.now.path c.loop-port.port)
-    → EndsAtLock (g.M.Maint.topology c.loop-port.maint) before (g.M.Maint.registers c.look_behind.new.maint) at id)
-    (λ at id. (before : Registers)
-    → IsUnderway (g.M.Maint.topology c.args.maint.now) before
-    (g.M.Maint.registers c.args.maint.now) c.args.numbering.now.host_id
-    c.args.numbering.now.devices.items c.args.numbering.now.next_id
-    (onward c.args.switch.now.path 0)
-    → EndsAtLock (g.M.Maint.topology c.args.maint.now) before (g.M.Maint.registers c.look_behind.new.maint) at id)
     c.in_err-found.field-0.0
     c.loop-port.invariant.undetected
     c.loop-port.invariant.faults
-    (λ at id ends before underway.
-    subst (λ t. EndsAtLock t before (g.M.Maint.registers c.look_behind.new.maint) at id) c.loop-port.invariant.topology
-    (ends before (underway-as (g.M.Maint.topology c.args.maint.now) (g.M.Maint.topology c.loop-port.maint) before
-    (g.M.Maint.registers c.loop-port.maint) c.args.numbering.now.host_id c.loop-port.numbering.host_id c.loop-port.numbering.next_id
-    c.loop-port.numbering.devices.items (onward c.args.switch.now.path c.loop-port.port) c.loop-port.invariant.topology c.loop-port.invariant.host
-    (c.loop-port.invariant.tried before underway))))
+    (λ at id ends. (
+      ends.0,
+      (λ origin is. ends.1 origin (c.loop-port.invariant.follows origin is)),
+      λ before underway.
+          subst (λ t. EndsAtLock t before (g.M.Maint.registers c.look_behind.new.maint) at id) c.loop-port.invariant.topology
+          (ends.2 before (underway-as (g.M.Maint.topology c.args.maint.now) (g.M.Maint.topology c.loop-port.maint) before
+          (g.M.Maint.registers c.loop-port.maint) c.args.numbering.now.host_id c.loop-port.numbering.host_id c.loop-port.numbering.next_id
+          c.loop-port.numbering.devices.items (onward c.args.switch.now.path c.loop-port.port) c.loop-port.invariant.topology c.loop-port.invariant.host
+          (c.loop-port.invariant.tried before underway))),
+    ))
     c.in_err-found.ensures.end)
 
 pub loop-port-preserved-in_default : goal.loop-port-preserved-in_default
 loop-port-preserved-in_default g t c = record {
   whole = c.in_ok-found.ensures.whole;
   topology = (c.in_ok-found.ensures.topology ∙ c.loop-port.invariant.topology);
+  follows = λ origin is.
+      c.in_ok-found.ensures.follows origin (c.loop-port.invariant.follows origin is);
   found = found_past (g.M.Maint.topology c.args.maint.now) c.args.numbering.now.host_id
       c.loop-port.port c.args.switch.now (g.M.Maint.topology c.loop-port.maint)
       c.loop-port.numbering.host_id c.loop-port.invariant.topology c.loop-port.invariant.host
@@ -97,8 +110,8 @@ loop-port-preserved-in_default g t c = record {
       c.in_default.is before (c.loop-port.invariant.tried before underway);
   host = (c.in_ok-found.ensures.host ∙ c.loop-port.invariant.host);
   longer = omega (arith, c.loop-port.invariant.longer, c.in_ok-found.ensures.longer);
-  undetected = omega (arith, c.loop-port.invariant.undetected, c.look_behind.ensures.undetected_stays);
-  faults = omega (arith, c.loop-port.invariant.faults, c.look_behind.ensures.faults_stay);
+  undetected = c.in_ok-found.ensures.undetected ∙ c.loop-port.invariant.undetected;
+  faults = c.in_ok-found.ensures.faults ∙ c.loop-port.invariant.faults;
 }
 
 pub explore-requires : goal.explore-requires
@@ -171,55 +184,68 @@ pub returns-in_err-explore-clause-end : goal.returns-in_err-explore-clause-end
 returns-in_err-explore-clause-end g t c =
     handed_on c.from_residual-in_err-explore.result c.in_err-explore.field-0.0
     (IsEnded (g.M.Maint.undetected c.args.maint.now, g.M.Maint.undetected c.explore.new.maint)
-    (g.M.Maint.faults c.args.maint.now, g.M.Maint.faults c.explore.new.maint)
-    (λ at id. (before : Registers)
+    (g.M.Maint.faults c.args.maint.now, g.M.Maint.faults c.explore.new.maint) (g.M.Maint.IsMet c.explore.new.maint)
+    (λ at id. g.M.Maint.IsWhole c.explore.new.maint × ((origin : _) → g.M.Maint.Follows origin c.args.maint.now
+    → g.M.Maint.Follows origin c.explore.new.maint)
+    × ((before : Registers)
+    → IsUnderway (g.M.Maint.topology c.args.maint.now) before
+    (g.M.Maint.registers c.args.maint.now) c.args.numbering.now.host_id
+    c.args.numbering.now.devices.items c.args.numbering.now.next_id
+    (onward c.args.switch.now.path 0)
+    → EndsAtLock (g.M.Maint.topology c.args.maint.now) before (g.M.Maint.registers c.explore.new.maint) at id)))
+    c.from_residual-in_err-explore.ensures.1
+    (ended_longer (g.M.Maint.undetected c.args.maint.now)
+    (g.M.Maint.undetected c.look_behind.new.maint) (g.M.Maint.undetected c.explore.new.maint)
+    (g.M.Maint.faults c.args.maint.now) (g.M.Maint.faults c.look_behind.new.maint)
+    (g.M.Maint.faults c.explore.new.maint) (g.M.Maint.IsMet c.explore.new.maint)
+    (λ at id. g.M.Maint.IsWhole c.explore.new.maint × ((origin : _) → g.M.Maint.Follows origin c.look_behind.new.maint
+    → g.M.Maint.Follows origin c.explore.new.maint)
+    × ((before : Registers)
+    → IsUnderway (g.M.Maint.topology c.look_behind.new.maint) before
+    (g.M.Maint.registers c.look_behind.new.maint) c.look_behind.new.numbering.host_id
+    c.look_behind.new.numbering.devices.items c.look_behind.new.numbering.next_id
+    (onward c.in-Some.found.path 0)
+    → EndsAtLock (g.M.Maint.topology c.look_behind.new.maint) before (g.M.Maint.registers c.explore.new.maint) at id))
+    (λ at id. g.M.Maint.IsWhole c.explore.new.maint × ((origin : _) → g.M.Maint.Follows origin c.args.maint.now
+    → g.M.Maint.Follows origin c.explore.new.maint)
+    × ((before : Registers)
     → IsUnderway (g.M.Maint.topology c.args.maint.now) before
     (g.M.Maint.registers c.args.maint.now) c.args.numbering.now.host_id
     c.args.numbering.now.devices.items c.args.numbering.now.next_id
     (onward c.args.switch.now.path 0)
     → EndsAtLock (g.M.Maint.topology c.args.maint.now) before (g.M.Maint.registers c.explore.new.maint) at id))
-    c.from_residual-in_err-explore.ensures.1
-    (ended_longer (g.M.Maint.undetected c.args.maint.now)
-    (g.M.Maint.undetected c.look_behind.new.maint) (g.M.Maint.undetected c.explore.new.maint)
-    (g.M.Maint.faults c.args.maint.now) (g.M.Maint.faults c.look_behind.new.maint)
-    (g.M.Maint.faults c.explore.new.maint)
-    (λ at id. (before : Registers)
-    → IsUnderway (g.M.Maint.topology c.look_behind.new.maint) before
-    (g.M.Maint.registers c.look_behind.new.maint) c.look_behind.new.numbering.host_id
-    c.look_behind.new.numbering.devices.items c.look_behind.new.numbering.next_id
-    (onward c.in-Some.found.path 0)
-    → EndsAtLock (g.M.Maint.topology c.look_behind.new.maint) before (g.M.Maint.registers c.explore.new.maint) at id)
-    (λ at id. (before : Registers)
-    → IsUnderway (g.M.Maint.topology c.args.maint.now) before
-    (g.M.Maint.registers c.args.maint.now) c.args.numbering.now.host_id
-    c.args.numbering.now.devices.items c.args.numbering.now.next_id
-    (onward c.args.switch.now.path 0)
-    → EndsAtLock (g.M.Maint.topology c.args.maint.now) before (g.M.Maint.registers c.explore.new.maint) at id)
     c.in_err-explore.field-0.0
-    (omega (arith, c.loop-port.invariant.undetected, c.look_behind.ensures.undetected_stays))
-    (omega (arith, c.loop-port.invariant.faults, c.look_behind.ensures.faults_stay))
-    (λ at id ends before underway.
-    subst (λ t. EndsAtLock t before (g.M.Maint.registers c.explore.new.maint) at id) (c.in_ok-found.ensures.topology ∙ c.loop-port.invariant.topology)
-    (ends before (underway-as (g.M.Maint.topology c.args.maint.now) (g.M.Maint.topology c.look_behind.new.maint) before
-    (g.M.Maint.registers c.look_behind.new.maint) c.args.numbering.now.host_id c.look_behind.new.numbering.host_id c.look_behind.new.numbering.next_id
-    c.look_behind.new.numbering.devices.items (onward c.in-Some.found.path 0)
-    (c.in_ok-found.ensures.topology ∙ c.loop-port.invariant.topology) (c.in_ok-found.ensures.host ∙ c.loop-port.invariant.host)
-    (child_underway (g.M.Maint.topology c.args.maint.now) c.args.numbering.now.host_id
-    c.loop-port.port c.args.switch.now (g.M.Maint.topology c.loop-port.maint)
-    c.loop-port.numbering.host_id c.loop-port.invariant.topology c.loop-port.invariant.host
-    (g.M.Maint.registers c.loop-port.maint) (g.M.Maint.registers c.look_behind.new.maint)
-    c.loop-port.numbering.devices.items c.look_behind.new.numbering.devices.items
-    c.loop-port.numbering.next_id c.look_behind.new.numbering.next_id
-    c.loop-port.invariant.found c.in_ok-found.field-0
-    c.in_ok-found.ensures.looked c.in_ok-found.ensures.found
-    c.in-Some.found c.in-Some.is
-    before (c.loop-port.invariant.tried before underway)))))
+    (c.in_ok-found.ensures.undetected ∙ c.loop-port.invariant.undetected)
+    (c.in_ok-found.ensures.faults ∙ c.loop-port.invariant.faults)
+    (λ at id ends. (
+      ends.0,
+      (λ origin is. ends.1 origin (c.in_ok-found.ensures.follows origin
+          (c.loop-port.invariant.follows origin is))),
+      λ before underway.
+          subst (λ t. EndsAtLock t before (g.M.Maint.registers c.explore.new.maint) at id) (c.in_ok-found.ensures.topology ∙ c.loop-port.invariant.topology)
+          (ends.2 before (underway-as (g.M.Maint.topology c.args.maint.now) (g.M.Maint.topology c.look_behind.new.maint) before
+          (g.M.Maint.registers c.look_behind.new.maint) c.args.numbering.now.host_id c.look_behind.new.numbering.host_id c.look_behind.new.numbering.next_id
+          c.look_behind.new.numbering.devices.items (onward c.in-Some.found.path 0)
+          (c.in_ok-found.ensures.topology ∙ c.loop-port.invariant.topology) (c.in_ok-found.ensures.host ∙ c.loop-port.invariant.host)
+          (child_underway (g.M.Maint.topology c.args.maint.now) c.args.numbering.now.host_id
+          c.loop-port.port c.args.switch.now (g.M.Maint.topology c.loop-port.maint)
+          c.loop-port.numbering.host_id c.loop-port.invariant.topology c.loop-port.invariant.host
+          (g.M.Maint.registers c.loop-port.maint) (g.M.Maint.registers c.look_behind.new.maint)
+          c.loop-port.numbering.devices.items c.look_behind.new.numbering.devices.items
+          c.loop-port.numbering.next_id c.look_behind.new.numbering.next_id
+          c.loop-port.invariant.found c.in_ok-found.field-0
+          c.in_ok-found.ensures.looked c.in_ok-found.ensures.found
+          c.in-Some.found c.in-Some.is
+          before (c.loop-port.invariant.tried before underway)))),
+    ))
     c.in_err-explore.ensures.end)
 
 pub loop-port-preserved : goal.loop-port-preserved
 loop-port-preserved g t c = record {
   whole = c.in_ok-explore.ensures.whole;
   topology = c.in_ok-explore.ensures.topology ∙ (c.in_ok-found.ensures.topology ∙ c.loop-port.invariant.topology);
+  follows = λ origin is. c.in_ok-explore.ensures.follows origin
+      (c.in_ok-found.ensures.follows origin (c.loop-port.invariant.follows origin is));
   found = found_back (g.M.Maint.topology c.args.maint.now) c.args.numbering.now.host_id
       c.loop-port.port c.args.switch.now (g.M.Maint.topology c.loop-port.maint)
       c.loop-port.numbering.host_id c.loop-port.invariant.topology c.loop-port.invariant.host
@@ -260,18 +286,10 @@ loop-port-preserved g t c = record {
     c.in_ok-found.ensures.longer,
     c.in_ok-explore.ensures.longer,
   );
-  undetected = omega (
-    arith,
-    c.loop-port.invariant.undetected,
-    c.look_behind.ensures.undetected_stays,
-    c.explore.ensures.undetected_stays,
-  );
-  faults = omega (
-    arith,
-    c.loop-port.invariant.faults,
-    c.look_behind.ensures.faults_stay,
-    c.explore.ensures.faults_stay,
-  );
+  undetected = c.in_ok-explore.ensures.undetected
+      ∙ (c.in_ok-found.ensures.undetected ∙ c.loop-port.invariant.undetected);
+  faults = c.in_ok-explore.ensures.faults
+      ∙ (c.in_ok-found.ensures.faults ∙ c.loop-port.invariant.faults);
 }
 
 pub returns-clause-tried : goal.returns-clause-tried

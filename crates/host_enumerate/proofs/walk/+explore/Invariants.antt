@@ -12,6 +12,8 @@ abbrev pub invariant-loop-port : goal.invariant-loop-port
 invariant-loop-port g l = record {
   whole : g.M.Maint.IsWhole l.maint;
   topology : g.M.Maint.topology l.maint ≡ g.M.Maint.topology l.initial.maint;
+  follows : (origin : _) → g.M.Maint.Follows origin l.initial.maint
+      → g.M.Maint.Follows origin l.maint;
   found : IsFound (g.M.Maint.topology l.initial.maint) (g.M.Maint.registers l.maint)
       l.initial.numbering.host_id l.numbering.devices.items l.switch;
   tried : (before : Registers)
@@ -23,6 +25,6 @@ invariant-loop-port g l = record {
       (onward l.switch.path l.port);
   host : l.numbering.host_id ≡ l.initial.numbering.host_id;
   longer : length l.initial.numbering.devices.items ≤ length l.numbering.devices.items;
-  undetected : g.M.Maint.undetected l.initial.maint ≤ g.M.Maint.undetected l.maint;
-  faults : g.M.Maint.faults l.initial.maint ≤ g.M.Maint.faults l.maint;
+  undetected : g.M.Maint.undetected l.maint ≡ g.M.Maint.undetected l.initial.maint;
+  faults : g.M.Maint.faults l.maint ≡ g.M.Maint.faults l.initial.maint;
 }

@@ -96,53 +96,64 @@ pub returns-in_err-kind-clause-end : goal.returns-in_err-kind-clause-end
 returns-in_err-kind-clause-end g c =
     handed_on c.from_residual-in_err-kind.result c.in_err-kind.field-0.0
     (IsEnded (g.M.Maint.undetected c.args.maint.now, g.M.Maint.undetected c.meet.new.maint)
-    (g.M.Maint.faults c.args.maint.now, g.M.Maint.faults c.meet.new.maint)
-    (λ at id. (before : Registers)
+    (g.M.Maint.faults c.args.maint.now, g.M.Maint.faults c.meet.new.maint) (g.M.Maint.IsMet c.meet.new.maint)
+    (λ at id. g.M.Maint.IsWhole c.meet.new.maint × ((origin : _) → g.M.Maint.Follows origin c.args.maint.now
+    → g.M.Maint.Follows origin c.meet.new.maint)
+    × ((before : Registers)
+    → IsUnderway (g.M.Maint.topology c.args.maint.now) before
+    (g.M.Maint.registers c.args.maint.now) c.args.numbering.now.host_id
+    c.args.numbering.now.devices.items c.args.numbering.now.next_id
+    (onward c.args.switch.now.path c.args.port)
+    → EndsAtLock (g.M.Maint.topology c.args.maint.now) before (g.M.Maint.registers c.meet.new.maint)
+    at id)))
+    c.from_residual-in_err-kind.ensures.1
+    (ended_longer (g.M.Maint.undetected c.args.maint.now)
+    (g.M.Maint.undetected c.set_entry.new.maint) (g.M.Maint.undetected c.meet.new.maint)
+    (g.M.Maint.faults c.args.maint.now) (g.M.Maint.faults c.set_entry.new.maint)
+    (g.M.Maint.faults c.meet.new.maint) (g.M.Maint.IsMet c.meet.new.maint)
+    (λ at id. g.M.Maint.IsWhole c.meet.new.maint × ((origin : _) → g.M.Maint.Follows origin c.set_entry.new.maint
+    → g.M.Maint.Follows origin c.meet.new.maint)
+    × ((before : Registers)
+    → IsUnderway (g.M.Maint.topology c.set_entry.new.maint) before
+    (g.M.Maint.registers c.set_entry.new.maint) c.args.numbering.now.host_id
+    c.args.numbering.now.devices.items c.args.numbering.now.next_id c.onward-path.result
+    → EndsAtLock (g.M.Maint.topology c.set_entry.new.maint) before
+    (g.M.Maint.registers c.meet.new.maint) at id))
+    (λ at id. g.M.Maint.IsWhole c.meet.new.maint × ((origin : _) → g.M.Maint.Follows origin c.args.maint.now
+    → g.M.Maint.Follows origin c.meet.new.maint)
+    × ((before : Registers)
     → IsUnderway (g.M.Maint.topology c.args.maint.now) before
     (g.M.Maint.registers c.args.maint.now) c.args.numbering.now.host_id
     c.args.numbering.now.devices.items c.args.numbering.now.next_id
     (onward c.args.switch.now.path c.args.port)
     → EndsAtLock (g.M.Maint.topology c.args.maint.now) before (g.M.Maint.registers c.meet.new.maint)
     at id))
-    c.from_residual-in_err-kind.ensures.1
-    (ended_longer (g.M.Maint.undetected c.args.maint.now)
-    (g.M.Maint.undetected c.set_entry.new.maint) (g.M.Maint.undetected c.meet.new.maint)
-    (g.M.Maint.faults c.args.maint.now) (g.M.Maint.faults c.set_entry.new.maint)
-    (g.M.Maint.faults c.meet.new.maint)
-    (λ at id. (before : Registers)
-    → IsUnderway (g.M.Maint.topology c.set_entry.new.maint) before
-    (g.M.Maint.registers c.set_entry.new.maint) c.args.numbering.now.host_id
-    c.args.numbering.now.devices.items c.args.numbering.now.next_id c.onward-path.result
-    → EndsAtLock (g.M.Maint.topology c.set_entry.new.maint) before
-    (g.M.Maint.registers c.meet.new.maint) at id)
-    (λ at id. (before : Registers)
-    → IsUnderway (g.M.Maint.topology c.args.maint.now) before
-    (g.M.Maint.registers c.args.maint.now) c.args.numbering.now.host_id
-    c.args.numbering.now.devices.items c.args.numbering.now.next_id
-    (onward c.args.switch.now.path c.args.port)
-    → EndsAtLock (g.M.Maint.topology c.args.maint.now) before (g.M.Maint.registers c.meet.new.maint)
-    at id)
     c.in_err-kind.field-0.0
-    (omega (arith, c.read.ensures.undetected_stays, c.set_entry.ensures.undetected_stays))
-    (omega (arith, c.read.ensures.faults_stay, c.set_entry.ensures.faults_stay))
-    (λ at id ends before underway.
-    subst (λ t. EndsAtLock t before (g.M.Maint.registers c.meet.new.maint) at id)
-    (c.in_ok-set_entry.ensures.topology ∙ c.in_ok-status.ensures.topology)
-    (ends before (underway_here (g.M.Maint.topology c.args.maint.now) (g.M.Maint.topology c.set_entry.new.maint)
-    (g.M.Maint.registers c.args.maint.now) (g.M.Maint.registers c.read.new.maint) (g.M.Maint.registers c.set_entry.new.maint)
-    c.args.numbering.now.host_id c.args.numbering.now.next_id c.args.numbering.now.devices.items c.args.switch.now c.args.port
-    c.onward-path.result c.requires.found c.requires.underway
-    (c.in_ok-set_entry.ensures.topology ∙ c.in_ok-status.ensures.topology)
-    c.in_ok-status.ensures.registers
-    (c.in_ok-set_entry.ensures.registers c.requires.found.at
-    (ap (λ t. entered t c.args.switch.now.path) c.in_ok-status.ensures.topology ∙ c.requires.found.leads))
-    (linked (g.M.Maint.topology c.args.maint.now) (g.M.Maint.registers c.args.maint.now)
-    c.args.numbering.now.host_id c.args.numbering.now.next_id c.args.numbering.now.devices.items c.args.switch.now c.args.port
-    c.requires.found c.requires.underway
-    c.from.result c.in_ok-status.status (g.M.Maint.whole_fits c.args.maint.now c.requires.whole) c.from.ensures c.requires.below
-    (c.in_ok-status.ensures.value c.requires.found.at c.requires.found.leads) c.if-status-ne-LINKED.false)
-    c.requires.below c.requires.apart c.onward-path.ensures
-    before underway)))
+    (c.in_ok-set_entry.ensures.undetected ∙ c.in_ok-status.ensures.undetected)
+    (c.in_ok-set_entry.ensures.faults ∙ c.in_ok-status.ensures.faults)
+    (λ at id ends. (
+      ends.0,
+      (λ origin is. ends.1 origin (c.in_ok-set_entry.ensures.follows origin
+          (c.in_ok-status.ensures.follows origin is))),
+      λ before underway.
+          subst (λ t. EndsAtLock t before (g.M.Maint.registers c.meet.new.maint) at id)
+          (c.in_ok-set_entry.ensures.topology ∙ c.in_ok-status.ensures.topology)
+          (ends.2 before (underway_here (g.M.Maint.topology c.args.maint.now) (g.M.Maint.topology c.set_entry.new.maint)
+          (g.M.Maint.registers c.args.maint.now) (g.M.Maint.registers c.read.new.maint) (g.M.Maint.registers c.set_entry.new.maint)
+          c.args.numbering.now.host_id c.args.numbering.now.next_id c.args.numbering.now.devices.items c.args.switch.now c.args.port
+          c.onward-path.result c.requires.found c.requires.underway
+          (c.in_ok-set_entry.ensures.topology ∙ c.in_ok-status.ensures.topology)
+          c.in_ok-status.ensures.registers
+          (c.in_ok-set_entry.ensures.registers c.requires.found.at
+          (ap (λ t. entered t c.args.switch.now.path) c.in_ok-status.ensures.topology ∙ c.requires.found.leads))
+          (linked (g.M.Maint.topology c.args.maint.now) (g.M.Maint.registers c.args.maint.now)
+          c.args.numbering.now.host_id c.args.numbering.now.next_id c.args.numbering.now.devices.items c.args.switch.now c.args.port
+          c.requires.found c.requires.underway
+          c.from.result c.in_ok-status.status (g.M.Maint.whole_fits c.args.maint.now c.requires.whole) c.from.ensures c.requires.below
+          (c.in_ok-status.ensures.value c.requires.found.at c.requires.found.leads) c.if-status-ne-LINKED.false)
+          c.requires.below c.requires.apart c.onward-path.ensures
+          before underway)),
+    ))
     c.in_err-kind.ensures.end)
 
 pub returns-in_default-clause-looked : goal.returns-in_default-clause-looked

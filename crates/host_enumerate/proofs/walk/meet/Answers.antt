@@ -86,12 +86,24 @@ returns-in-Met-clause-tried g c =
     (c.in_ok-take.ensures.holder c.requires.askable.0 c.requires.askable.1.leads)
 
 pub returns-in-Other-clause-end : goal.returns-in-Other-clause-end
-returns-in-Other-clause-end g c before underway =
-    subst (λ l. EndsAtLock (g.M.Maint.topology c.args.maint.now) before
-    (g.M.Maint.registers c.take.new.maint) l c.in-Other.id) (sym c.copied.ensures)
-    (other_ends (g.M.Maint.topology c.args.maint.now)
-    (g.M.Maint.registers c.args.maint.now) c.args.numbering.now.host_id
-    c.args.numbering.now.next_id c.args.numbering.now.devices.items c.args.path.now
-    c.requires.askable.0 c.requires.underway c.requires.next c.requires.askable.1
-    (g.M.Maint.registers c.take.new.maint) c.in_ok-take.field-0 c.in-Other.id c.in-Other.is
-    (c.in_ok-take.ensures.holder c.requires.askable.0 c.requires.askable.1.leads) before underway)
+returns-in-Other-clause-end g c = (
+  (
+    c.in_ok-take.ensures.whole,
+    c.in_ok-take.ensures.follows,
+    λ before underway.
+        subst (λ l. EndsAtLock (g.M.Maint.topology c.args.maint.now) before
+        (g.M.Maint.registers c.take.new.maint) l c.in-Other.id) (sym c.copied.ensures)
+        (other_ends (g.M.Maint.topology c.args.maint.now)
+        (g.M.Maint.registers c.args.maint.now) c.args.numbering.now.host_id
+        c.args.numbering.now.next_id c.args.numbering.now.devices.items c.args.path.now
+        c.requires.askable.0 c.requires.underway c.requires.next c.requires.askable.1
+        (g.M.Maint.registers c.take.new.maint) c.in_ok-take.field-0 c.in-Other.id c.in-Other.is
+        (c.in_ok-take.ensures.holder c.requires.askable.0 c.requires.askable.1.leads) before underway),
+  ),
+  c.in_ok-take.ensures.undetected,
+  c.in_ok-take.ensures.faults,
+)
+
+pub returns-in-Other-clause-leaves : goal.returns-in-Other-clause-leaves
+returns-in-Other-clause-leaves g c origin is =
+    g.M.Maint.follows_leaves origin c.take.new.maint (c.in_ok-take.ensures.follows origin is)

@@ -1,5 +1,5 @@
 use Rattle.std.proofs.Common.{rules, ◌∙◌, sym, ap}
-use Rattle.fabric_map.specs.Topology.{peer_in}
+use Rattle.fabric_script.specs.Peers.{peer_in}
 use Rattle.host_enumerate.proofs.PlainWalks.{linked-inside, walk-endpoint, walk-discarded, walk-passed}
 use Rattle.host_enumerate.proofs.plain.PlainMaint.+walk.Goals as goal
 

@@ -1,7 +1,8 @@
 use Rattle.std.proofs.Common.{◌≡◌, ◌<◌, false, refl, IsSome, length, arith, subst, sym, ap, ◌∙◌}
 use Rattle.maint_registers.specs.Devices.{Device, is_switch}
-use Rattle.fabric_map.specs.Topology.{port_at, peer_in}
-use Rattle.host_enumerate.specs.Plain.{registers_of}
+use Rattle.fabric_script.specs.Peers.{peer_in}
+use Rattle.fabric_map.specs.Topology.{port_at}
+use Rattle.fabric_map.specs.Plain.{registers_of}
 use Rattle.host_enumerate.specs.Checking.{IsNewFabric}
 use Rattle.host_enumerate.proofs.Accessed.{registers_of-read}
 use Rattle.host_enumerate.proofs.Checked.{new_fabric}

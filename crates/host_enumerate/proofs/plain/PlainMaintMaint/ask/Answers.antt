@@ -3,7 +3,7 @@ use Rattle.fabric_script.specs.declared.ports.PortRef.{PortRef}
 use Rattle.std.proofs.lemmas.Option.{same_Some}
 use Rattle.fabric_map.specs.Topology.{port_at}
 use Rattle.host_enumerate.specs.Accesses.{after_access}
-use Rattle.host_enumerate.specs.Plain.{topology_of, registers_of}
+use Rattle.fabric_map.specs.Plain.{topology_of, registers_of}
 use Rattle.host_enumerate.proofs.Accessed.{accessed-registers, accessed-topology, accessed-whole}
 use Rattle.host_enumerate.proofs.PlainWalks.{walk-inside}
 use Rattle.host_enumerate.proofs.plain.PlainMaintMaint.ask.Goals as goal

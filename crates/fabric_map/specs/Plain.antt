@@ -1,9 +1,10 @@
--- What plain registers are as a fabric.
+-- What the registers and links of a list of devices are as a topology.
 use Rattle.std.specs.Prelude.{ℕ, false, List, length, Option, Some, None, slice_get, slice_index_or, if◌then◌else◌}
 use Rattle.std.specs.Option.{option_and_then}
 use Rattle.fabric_script.specs.declared.ports.PortRef.{PortRef}
 use Rattle.maint_registers.specs.Devices.{Device, is_switch, new_endpoint}
-use Rattle.fabric_map.specs.Topology.{Topology, peer_in}
+use Rattle.fabric_script.specs.Peers.{peer_in}
+use Rattle.fabric_map.specs.Topology.{Topology}
 use Rattle.fabric_map.specs.Routes.{Registers}
 
 -- the number of ports of a switch

@@ -1,0 +1,46 @@
+-- What a change of one of several devices does to them all.
+use Rattle.std.proofs.Common.{◌≡◌, ◌≢◌, ℕ, zero, suc, List, [], ◌∷◌, length, map, option_map, slice_get, refl, sym, ap, ◌∙◌}
+use Rattle.std.proofs.lemmas.Option.{slice_get-map}
+use Rattle.maint_registers.specs.Devices.{Device, is_switch}
+use Rattle.maint_registers.specs.Changes.{with_device}
+
+pub length-with_device : (devices : List Device) (n : ℕ) (change : Device → Device)
+    → length (with_device devices n change) ≡ length devices
+length-with_device [] n change = refl
+length-with_device (device ∷ devices) zero change = refl
+length-with_device (device ∷ devices) (suc n) change =
+    ap suc (length-with_device devices n change)
+
+pub device-changed : (devices : List Device) (n : ℕ) (change : Device → Device)
+    → slice_get (with_device devices n change) n ≡ option_map change (slice_get devices n)
+device-changed [] n change = refl
+device-changed (device ∷ devices) zero change = refl
+device-changed (device ∷ devices) (suc n) change = device-changed devices n change
+
+pub device-kept : (devices : List Device) (n m : ℕ) (change : Device → Device) → m ≢ n
+    → slice_get (with_device devices n change) m ≡ slice_get devices m
+device-kept [] n m change apart = refl
+device-kept (device ∷ devices) zero zero change apart = absurd (apart refl)
+device-kept (device ∷ devices) zero (suc m) change apart = refl
+device-kept (device ∷ devices) (suc n) zero change apart = refl
+device-kept (device ∷ devices) (suc n) (suc m) change apart =
+    device-kept devices n m change (λ same. apart (ap suc same))
+
+-- what the change leaves of a device, it leaves of all
+pub map-with_device : {A : Type 0} (view : Device → A) (devices : List Device) (n : ℕ)
+    (change : Device → Device) → ((device : Device) → view (change device) ≡ view device)
+    → map view (with_device devices n change) ≡ map view devices
+map-with_device view [] n change same = refl
+map-with_device view (device ∷ devices) zero change same =
+    ap (λ x. x ∷ map view devices) (same device)
+map-with_device view (device ∷ devices) (suc n) change same =
+    ap (λ xs. view device ∷ xs) (map-with_device view devices n change same)
+
+pub kinds_stay : (devices : List Device) (p n : ℕ) (change : Device → Device)
+    → ((device : Device) → is_switch (change device) ≡ is_switch device)
+    → option_map is_switch (slice_get (with_device devices p change) n)
+    ≡ option_map is_switch (slice_get devices n)
+kinds_stay devices p n change same =
+    sym (slice_get-map is_switch (with_device devices p change) n)
+    ∙ ap (λ kinds. slice_get kinds n) (map-with_device is_switch devices p change same)
+    ∙ slice_get-map is_switch devices n
