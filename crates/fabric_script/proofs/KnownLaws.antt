@@ -1,17 +1,19 @@
 -- What is known with one more line.
-use Rattle.std.proofs.Common.{◌≡◌, ℕ, zero, suc, ◌+◌, ◌<◌, ◌≤◌, nat_le, nat_lt, Bool, true, false, ◌&&◌, ◌||◌, List, [], ◌∷◌, ◌++◌, Contains, length, length-append, refl, sym, ap, ◌∙◌, ◌⊎◌, inl, inr, arith}
+use Rattle.std.proofs.Common.{◌≡◌, ◌≢◌, ℕ, zero, suc, ◌+◌, ◌<◌, ◌≤◌, nat_le, nat_lt, Bool, true, false, ◌&&◌, ◌||◌, List, [], ◌∷◌, ◌++◌, Contains, length, length-append, refl, sym, ap, ◌∙◌, ◌⊎◌, inl, inr, arith}
 use Rattle.std.proofs.lemmas.Bool.{cases_lt}
 use Rattle.std.proofs.lemmas.Bool.Decides.{nat_tests}
 use Rattle.std.proofs.lemmas.List.{get_or_append_left}
 use Rattle.std.proofs.Math.Seq.{get_or-append_seam}
 use Rattle.fabric_script.specs.declared.ports.PortRef.{PortRef}
 use Rattle.fabric_script.specs.declared.known.Node.{Node}
+use Rattle.fabric_script.specs.declared.known.Mode.{Mode}
+use Rattle.fabric_script.specs.declared.known.Mode.TheVariants as Mode
 use Rattle.fabric_script.specs.declared.reasons.Reason.TheVariants.{TooMuchWork}
 use Rattle.fabric_script.specs.declared.lines.Line.{Line}
 use Rattle.fabric_script.specs.declared.lines.Line.TheVariants.{Endpoint, Switch, Link}
 use Rattle.fabric_script.specs.Names.{is_name, name_of}
-use Rattle.fabric_script.specs.Known.{Known, IsOrderly, known_after, nodes_after, links_after, ports_of, cost_of, nothing}
-use Rattle.fabric_script.specs.Refusals.{makes_node}
+use Rattle.fabric_script.specs.Known.{Known, IsOrderly, known_after, nodes_after, links_after, ports_of, cost_of, nothing_in}
+use Rattle.fabric_script.specs.Refusals.{makes_node, counts_work, exceeds}
 use Rattle.fabric_script.specs.Reading.{MayBe, IsFree}
 use Rattle.fabric_script.proofs.Exclusion.{named_is_there}
 
@@ -19,21 +21,32 @@ not_either : (a b : Bool) → a || b ≡ false → (a ≡ false) × (b ≡ false
 not_either true b e = absurd cc
 not_either false b e = (refl, e)
 
+-- work is counted, but for one event alone
+counts : (mode : Mode) → mode ≢ Mode.Event → counts_work mode ≡ true
+counts Mode.Script apart = refl
+counts Mode.SetUp apart = refl
+counts Mode.Event apart = absurd (apart refl)
+
+within_bounds : (known : Known) (line : Line) → known.mode ≢ Mode.Event → IsFree known line
+    → exceeds known line ≡ false
+within_bounds known line apart free =
+    ap (λ counted. counted && exceeds known line) (sym (counts known.mode apart)) ∙ free TooMuchWork
+
 -- a line that is free is within the cost, and a node within the number of nodes
-pub within_cost : (known : Known) (line : Line) → IsFree known line → known.cost + cost_of known.links line ≤ 100000
-within_cost known line free =
-    let parts = not_either (makes_node line && nat_le 64 (length known.names)) (nat_lt 100000 (known.cost + cost_of known.links line)) (free TooMuchWork) in
+pub within_cost : (known : Known) (line : Line) → known.mode ≢ Mode.Event → IsFree known line → known.cost + cost_of known.links line ≤ 100000
+within_cost known line apart free =
+    let parts = not_either (makes_node line && nat_le 64 (length known.names)) (nat_lt 100000 (known.cost + cost_of known.links line)) (within_bounds known line apart free) in
     let test = parts.1 in
     grind (arith, nat_tests, test)
 
-pub within_nodes : (known : Known) (line : Line) → IsFree known line → makes_node line ≡ true → length known.names < 64
-within_nodes known line free makes =
-    let parts = not_either (makes_node line && nat_le 64 (length known.names)) (nat_lt 100000 (known.cost + cost_of known.links line)) (free TooMuchWork) in
+pub within_nodes : (known : Known) (line : Line) → known.mode ≢ Mode.Event → IsFree known line → makes_node line ≡ true → length known.names < 64
+within_nodes known line apart free makes =
+    let parts = not_either (makes_node line && nat_le 64 (length known.names)) (nat_lt 100000 (known.cost + cost_of known.links line)) (within_bounds known line apart free) in
     let test : nat_le 64 (length known.names) ≡ false = rw makes at parts.0 in
     grind (arith, nat_tests, test)
 
-pub nothing-orderly : IsOrderly nothing
-nothing-orderly = record { named = λ n within. absurd (omega arith); apart = λ m n within within' e. absurd (omega arith) }
+pub nothing-orderly : (mode : Mode) → IsOrderly (nothing_in mode)
+nothing-orderly mode = record { named = λ n within. absurd (omega arith); apart = λ m n within within' e. absurd (omega arith) }
 
 -- one more name, which is none of the others
 pushed_old : (names : List (List ℕ)) (new : List ℕ) (n : ℕ) → n < length names → name_of (names ++ new ∷ []) n ≡ name_of names n

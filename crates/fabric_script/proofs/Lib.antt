@@ -12,3 +12,8 @@ pub mod KnownLaws
 pub mod ScriptLaws
 pub mod Joins
 pub mod PrintLaws
+pub mod SetUpLaws
+pub mod AdviceLaws
+pub mod SoakLaws
+pub mod SoakPasses
+pub mod PeerLaws

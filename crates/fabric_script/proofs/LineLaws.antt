@@ -111,7 +111,7 @@ small_fields F.Move = (tt, tt)
 small_fields F.Collect = (tt, tt)
 small_fields F.Run = (omega arith, tt)
 
-same_value : (known : Known) (field : Field) (v w : Value) → IsOrderly known → IsSmall field → Fits known field v → Fits known field w → value_text known.names v ≡ value_text known.names w → v ≡ w
+pub same_value : (known : Known) (field : Field) (v w : Value) → IsOrderly known → IsSmall field → Fits known field v → Fits known field w → value_text known.names v ≡ value_text known.names w → v ≡ w
 same_value known NewName (Named a) (Named b) orderly small f g e = ap (λ n. Named n) e
 same_value known Node (AtNode m) (AtNode n) orderly small f g e = ap (λ n. AtNode n) (orderly.apart m n f g e)
 same_value known Port (AtPort p) (AtPort q) orderly small f g e =
@@ -141,7 +141,7 @@ same_value known Hex _ _ orderly small f g e = absurd f
 same_value known (Digits count) _ _ orderly small f g e = absurd f
 same_value known Character _ _ orderly small f g e = absurd f
 
-same_values : (known : Known) (fields : List Field) (vs ws : List Value) → IsOrderly known → AreSmall fields → FitAll known fields vs → FitAll known fields ws → map (value_text known.names) vs ≡ map (value_text known.names) ws → vs ≡ ws
+pub same_values : (known : Known) (fields : List Field) (vs ws : List Value) → IsOrderly known → AreSmall fields → FitAll known fields vs → FitAll known fields ws → map (value_text known.names) vs ≡ map (value_text known.names) ws → vs ≡ ws
 same_values known [] [] [] orderly small f g e = refl
 same_values known (field ∷ fields) (v ∷ vs) (w ∷ ws) orderly small f g e =
     let here : value_text known.names v ≡ value_text known.names w = cc in

@@ -15,6 +15,7 @@ use Rattle.fabric_script.specs.Names.{name_of}
 use Rattle.fabric_script.specs.Forms.{Field, NewName, Node, Port, Number, Hex, Digits, Character, keyword_of, fields_of}
 use Rattle.fabric_script.specs.Texts.{Value, Named, AtNode, AtPort, Counted, Bytes, InDigits, Code, value_text}
 use Rattle.fabric_script.specs.Lines.{form_of, values_of, line_words, line_text, new_name, words_of}
+use Rattle.fabric_script.specs.declared.known.Mode.TheVariants as Mode
 use Rattle.fabric_script.specs.Known.{Known, IsOrderly, nothing, known_after, names_after}
 use Rattle.fabric_script.specs.Hits.{Fits, FitAll}
 use Rattle.fabric_script.specs.Reading.{new_name_in, second_word, MayBe, IsFree, Spells}
@@ -156,7 +157,7 @@ printed_from number known names (line ∷ lines) orderly passes =
     kept false A B e h = h
 
 pub printed : (names : List (List ℕ)) (lines : List Numbered) → Passes names lines → IsScript (script_text names lines) names (renumbered 1 lines)
-printed names lines passes = printed_from 1 nothing names lines nothing-orderly passes
+printed names lines passes = printed_from 1 nothing names lines (nothing-orderly Mode.Script) passes
 
 -- ---- the nodes of a script that passes have names
 

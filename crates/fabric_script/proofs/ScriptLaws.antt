@@ -19,11 +19,12 @@ use Rattle.fabric_script.specs.declared.scripts.ScriptEnd.{ScriptEnd}
 use Rattle.fabric_script.specs.declared.scripts.ScriptEnd.TheVariants.{Refused, NoMemory}
 use Rattle.fabric_script.specs.Names.{name_of}
 use Rattle.fabric_script.specs.Lines.{new_name}
-use Rattle.fabric_script.specs.Known.{Known, IsOrderly, nothing, known_after, names_after}
+use Rattle.fabric_script.specs.declared.known.Mode.{Mode}
+use Rattle.fabric_script.specs.Known.{Known, IsOrderly, nothing_in, known_after, names_after}
 use Rattle.fabric_script.specs.Reasons.{reason_number}
 use Rattle.fabric_script.specs.LineWords.{IsNext}
 use Rattle.fabric_script.specs.Reading.{new_name_in, MayBe, Spells, LeastHit}
-use Rattle.fabric_script.specs.Scripts.{pieces_of, is_skipped, KeptThen, SpellsFrom, IsScript, RefusedAt, PassesFrom, Passes}
+use Rattle.fabric_script.specs.Scripts.{pieces_of, is_skipped, KeptThen, SpellsFrom, IsScriptIn, RefusedIn, PassesFrom, PassesIn}
 use Rattle.fabric_script.proofs.LineLaws.{same_line}
 use Rattle.fabric_script.proofs.ReadLaws.{spelled_no_hit}
 use Rattle.fabric_script.proofs.KnownLaws.{nothing-orderly, orderly-after}
@@ -88,11 +89,11 @@ HitsFrom-from_parts number known end line r (t ∷ ts) text behind lines spelled
     (λ h. inr (h.0, h.3, HitsFrom-from_parts (suc number) (known_after known (new_name_in t h.0) h.0) end line r ts text behind h.1 h.4 kept at' hits))
     (is_skipped t) spelled
 
-HitsFrom-from_refused : (bytes : List ℕ) (line reason : ℕ) → RefusedAt bytes line reason → HitsFrom 1 nothing (pieces_of bytes) line reason
-HitsFrom-from_refused bytes line reason r =
-    subst (λ n. HitsFrom 1 nothing (pieces_of bytes) line n) (sym r.named)
-    (subst (λ texts. HitsFrom 1 nothing texts line (reason_number r.reason)) (sym r.split)
-    (HitsFrom-from_parts 1 nothing r.known line r.reason r.before r.text r.behind r.lines r.spelled r.kept (omega (arith, r.place)) r.least))
+HitsFrom-from_refused : (mode : Mode) → (bytes : List ℕ) (line reason : ℕ) → RefusedIn mode bytes line reason → HitsFrom 1 (nothing_in mode) (pieces_of bytes) line reason
+HitsFrom-from_refused mode bytes line reason r =
+    subst (λ n. HitsFrom 1 (nothing_in mode) (pieces_of bytes) line n) (sym r.named)
+    (subst (λ texts. HitsFrom 1 (nothing_in mode) texts line (reason_number r.reason)) (sym r.split)
+    (HitsFrom-from_parts 1 (nothing_in mode) r.known line r.reason r.before r.text r.behind r.lines r.spelled r.kept (omega (arith, r.place)) r.least))
 
 -- the least reason is one
 pub least_once : (known : Known) (text : List ℕ) (r q : Reason) → LeastHit known text r → LeastHit known text q → reason_number r ≡ reason_number q
@@ -132,33 +133,33 @@ HitsFrom-not_spelled number known end (text ∷ texts) line reason lines orderly
     ])
     (is_skipped text) h spelled
 
-pub refused_once : (bytes : List ℕ) (line reason line' reason' : ℕ) → RefusedAt bytes line reason → RefusedAt bytes line' reason' → (line ≡ line') × (reason ≡ reason')
-refused_once bytes line reason line' reason' a b = HitsFrom-once 1 nothing (pieces_of bytes) line reason line' reason' nothing-orderly (HitsFrom-from_refused bytes line reason a) (HitsFrom-from_refused bytes line' reason' b)
+pub refused_once : (mode : Mode) → (bytes : List ℕ) (line reason line' reason' : ℕ) → RefusedIn mode bytes line reason → RefusedIn mode bytes line' reason' → (line ≡ line') × (reason ≡ reason')
+refused_once mode bytes line reason line' reason' a b = HitsFrom-once 1 (nothing_in mode) (pieces_of bytes) line reason line' reason' (nothing-orderly mode) (HitsFrom-from_refused mode bytes line reason a) (HitsFrom-from_refused mode bytes line' reason' b)
 
-pub script_once : (bytes : List ℕ) (names names' : List (List ℕ)) (lines lines' : List Numbered) → IsScript bytes names lines → IsScript bytes names' lines' → (names ≡ names') × (lines ≡ lines')
-script_once bytes names names' lines lines' a b =
-    let same = same_lines 1 nothing (pieces_of bytes) lines lines' a.0 b.0 nothing-orderly a.2 b.2 in
+pub script_once : (mode : Mode) → (bytes : List ℕ) (names names' : List (List ℕ)) (lines lines' : List Numbered) → IsScriptIn mode bytes names lines → IsScriptIn mode bytes names' lines' → (names ≡ names') × (lines ≡ lines')
+script_once mode bytes names names' lines lines' a b =
+    let same = same_lines 1 (nothing_in mode) (pieces_of bytes) lines lines' a.0 b.0 (nothing-orderly mode) a.2 b.2 in
     (sym a.1 ∙ ap {A = Known} (λ k. k.names) same.1 ∙ b.1, same.0)
 
-pub not_refused : (bytes : List ℕ) (names : List (List ℕ)) (lines : List Numbered) (line reason : ℕ) → IsScript bytes names lines → RefusedAt bytes line reason → ⊥
-not_refused bytes names lines line reason script refused = HitsFrom-not_spelled 1 nothing script.0 (pieces_of bytes) line reason lines nothing-orderly (HitsFrom-from_refused bytes line reason refused) script.2
+pub not_refused : (mode : Mode) → (bytes : List ℕ) (names : List (List ℕ)) (lines : List Numbered) (line reason : ℕ) → IsScriptIn mode bytes names lines → RefusedIn mode bytes line reason → ⊥
+not_refused mode bytes names lines line reason script refused = HitsFrom-not_spelled 1 (nothing_in mode) script.0 (pieces_of bytes) line reason lines (nothing-orderly mode) (HitsFrom-from_refused mode bytes line reason refused) script.2
 
 -- ---- what an answer means the other way round
 
-pub only_script : (bytes : List ℕ) (result : Result Script ScriptEnd) → IfOk result (λ script. IsScript bytes script.names.items script.lines.items) → ((refusal : Refusal) → IsErrOf result (Refused refusal) → RefusedAt bytes refusal.line refusal.reason)
-    → (names : List (List ℕ)) (lines : List Numbered) → IsScript bytes names lines → IfOk result (λ script. (script.names.items ≡ names) × (script.lines.items ≡ lines)) × (IsErrOf result NoMemory ⊎ IsOk result)
-only_script bytes (Ok script) is refused names lines spelled = (script_once bytes script.names.items names script.lines.items lines is spelled, inr refl)
-only_script bytes (Err (Refused refusal)) is refused names lines spelled = absurd (not_refused bytes names lines refusal.line refusal.reason spelled (refused refusal refl))
-only_script bytes (Err NoMemory) is refused names lines spelled = (tt, inl refl)
+pub only_script : (mode : Mode) → (bytes : List ℕ) (result : Result Script ScriptEnd) → IfOk result (λ script. IsScriptIn mode bytes script.names.items script.lines.items) → ((refusal : Refusal) → IsErrOf result (Refused refusal) → RefusedIn mode bytes refusal.line refusal.reason)
+    → (names : List (List ℕ)) (lines : List Numbered) → IsScriptIn mode bytes names lines → IfOk result (λ script. (script.names.items ≡ names) × (script.lines.items ≡ lines)) × (IsErrOf result NoMemory ⊎ IsOk result)
+only_script mode bytes (Ok script) is refused names lines spelled = (script_once mode bytes script.names.items names script.lines.items lines is spelled, inr refl)
+only_script mode bytes (Err (Refused refusal)) is refused names lines spelled = absurd (not_refused mode bytes names lines refusal.line refusal.reason spelled (refused refusal refl))
+only_script mode bytes (Err NoMemory) is refused names lines spelled = (tt, inl refl)
 
-pub only_refusal : (bytes : List ℕ) (result : Result Script ScriptEnd) → IfOk result (λ script. IsScript bytes script.names.items script.lines.items) → ((refusal : Refusal) → IsErrOf result (Refused refusal) → RefusedAt bytes refusal.line refusal.reason)
-    → (line reason : ℕ) → RefusedAt bytes line reason → IsErrOf result (Refused record { line = line; reason = reason }) ⊎ IsErrOf result NoMemory
-only_refusal bytes (Ok script) is refused line reason hits = absurd (not_refused bytes script.names.items script.lines.items line reason is hits)
-only_refusal bytes (Err (Refused refusal)) is refused line reason hits =
-    let same = refused_once bytes refusal.line refusal.reason line reason (refused refusal refl) hits in
+pub only_refusal : (mode : Mode) → (bytes : List ℕ) (result : Result Script ScriptEnd) → IfOk result (λ script. IsScriptIn mode bytes script.names.items script.lines.items) → ((refusal : Refusal) → IsErrOf result (Refused refusal) → RefusedIn mode bytes refusal.line refusal.reason)
+    → (line reason : ℕ) → RefusedIn mode bytes line reason → IsErrOf result (Refused record { line = line; reason = reason }) ⊎ IsErrOf result NoMemory
+only_refusal mode bytes (Ok script) is refused line reason hits = absurd (not_refused mode bytes script.names.items script.lines.items line reason is hits)
+only_refusal mode bytes (Err (Refused refusal)) is refused line reason hits =
+    let same = refused_once mode bytes refusal.line refusal.reason line reason (refused refusal refl) hits in
     let equal : refusal ≡ record { line = line; reason = reason } = ap {A = ℕ} {B = Refusal} (λ l. record { line = l; reason = refusal.reason }) same.0 ∙ ap {A = ℕ} {B = Refusal} (λ r. record { line = line; reason = r }) same.1 in
     inl (ap {A = Refusal} {B = Result Script ScriptEnd} (λ r. Err (Refused r)) equal)
-only_refusal bytes (Err NoMemory) is refused line reason hits = inr refl
+only_refusal mode bytes (Err NoMemory) is refused line reason hits = inr refl
 
 -- ---- a loop that reads a piece at a time
 
@@ -184,8 +185,8 @@ SpellsFrom-keep number known end (t ∷ ts) text lines n line kept at spells spe
     (is_skipped t) spelled
 
 -- the n-th of the pieces is hit, and those before it spell lines
-pub RefusedAt-from_turn : (bytes : List ℕ) (n : ℕ) (before : List (List ℕ)) (text : List ℕ) (lines : List Numbered) (known : Known) (reason : Reason) → before ≡ take n (pieces_of bytes) → n < length (pieces_of bytes) → text ≡ get_or (pieces_of bytes) n text → n ≡ length before → SpellsFrom 1 nothing before lines known → is_skipped text ≡ false → LeastHit known text reason → RefusedAt bytes (n + 1) (reason_number reason)
-RefusedAt-from_turn bytes n before text lines known reason so_far within here counted spelled kept hits =
+pub RefusedAt-from_turn : (mode : Mode) → (bytes : List ℕ) (n : ℕ) (before : List (List ℕ)) (text : List ℕ) (lines : List Numbered) (known : Known) (reason : Reason) → before ≡ take n (pieces_of bytes) → n < length (pieces_of bytes) → text ≡ get_or (pieces_of bytes) n text → n ≡ length before → SpellsFrom 1 (nothing_in mode) before lines known → is_skipped text ≡ false → LeastHit known text reason → RefusedIn mode bytes (n + 1) (reason_number reason)
+RefusedAt-from_turn mode bytes n before text lines known reason so_far within here counted spelled kept hits =
     let pieces = pieces_of bytes in
     let behind = drop (suc n) pieces in
     let at : drop n pieces ≡ get_or pieces n text ∷ behind = drop-cons pieces n text within in
@@ -240,5 +241,5 @@ passes_spelled number known end (text ∷ texts) lines spelled =
     (subst (λ n. MayBe known n h.0) named h.3.says.may, h.3.free, subst (λ n. PassesFrom (known_after known n h.0) end.names h.1) named rest))
     (is_skipped text) spelled
 
-pub Passes-from_script : (bytes : List ℕ) (names : List (List ℕ)) (lines : List Numbered) → IsScript bytes names lines → Passes names lines
-Passes-from_script bytes names lines script = subst (λ ns. PassesFrom nothing ns lines) script.1 (passes_spelled 1 nothing script.0 (pieces_of bytes) lines script.2)
+pub Passes-from_script : (mode : Mode) → (bytes : List ℕ) (names : List (List ℕ)) (lines : List Numbered) → IsScriptIn mode bytes names lines → PassesIn mode names lines
+Passes-from_script mode bytes names lines script = subst (λ ns. PassesFrom (nothing_in mode) ns lines) script.1 (passes_spelled 1 (nothing_in mode) script.0 (pieces_of bytes) lines script.2)

@@ -3,6 +3,8 @@ use Rattle.std.specs.Prelude.{◌≡◌, ◌<◌, ℕ, ◌+◌, ◌*◌, ◌==�
 use Rattle.std.specs.List.{list_any}
 use Rattle.fabric_script.specs.declared.ports.PortRef.{PortRef}
 use Rattle.fabric_script.specs.declared.known.Node.{Node}
+use Rattle.fabric_script.specs.declared.known.Mode.{Mode}
+use Rattle.fabric_script.specs.declared.known.Mode.TheVariants.{Script, SetUp, Event}
 use Rattle.fabric_script.specs.declared.known.Node.TheVariants.{Endpoint as AnEndpoint, Switch as ASwitch}
 use Rattle.fabric_script.specs.declared.lines.Line.{Line}
 use Rattle.fabric_script.specs.declared.lines.Line.TheVariants.{Endpoint, Switch, Link, Buffers, Route, Default, Lock, Pump, Deliver, Settle, Run}
@@ -10,17 +12,32 @@ use Rattle.fabric_script.specs.Names.{is_name, name_of}
 use Rattle.fabric_script.specs.Lines.{is_event}
 
 -- The names of the nodes and what each is, in the order of their lines; the links; whether an event
--- has come; and what the events cost.
+-- has come; what the events cost; and which lines may stand.
 pub record Known : Type 0 where
   pub names : List (List ℕ)
   pub nodes : List Node
   pub links : List (PortRef × PortRef)
   pub begun : Bool
   pub cost : ℕ
+  pub mode : Mode
 
--- before the first line
+-- Names for other crates of which lines may stand: set-up lines and events behind them; set-up
+-- lines alone; one event.
+abbrev pub of_script : Mode
+of_script = Script
+
+abbrev pub of_set_up : Mode
+of_set_up = SetUp
+
+abbrev pub one_event : Mode
+one_event = Event
+
+-- before the first line, if these lines may stand
+abbrev pub nothing_in : Mode → Known
+nothing_in mode = record { names = []; nodes = []; links = []; begun = false; cost = 0; mode = mode }
+
 abbrev pub nothing : Known
-nothing = record { names = []; nodes = []; links = []; begun = false; cost = 0 }
+nothing = nothing_in Script
 
 abbrev pub node_ports : Option Node → ℕ
 node_ports None = 0
@@ -91,6 +108,7 @@ known_after known new line = record {
   links = links_after known.links line;
   begun = known.begun || is_event line;
   cost = known.cost + cost_of known.links line;
+  mode = known.mode;
 }
 
 -- The names are names, and no two are the same.

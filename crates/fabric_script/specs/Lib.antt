@@ -4,10 +4,14 @@ pub mod Texts
 pub mod Lines
 pub mod Reasons
 pub mod Known
+pub mod Peers
 pub mod Hits
 pub mod Words
 pub mod LineWords
 pub mod Refusals
 pub mod Reading
 pub mod Scripts
+pub mod SetUps
+pub mod Advice
+pub mod Soak
 pub mod LineTexts

@@ -6,6 +6,8 @@ use Rattle.fabric_script.specs.declared.reasons.Reason.TheVariants.{PortOutside,
 use Rattle.fabric_script.specs.declared.lines.Line.{Line}
 use Rattle.fabric_script.specs.declared.lines.Line.TheVariants.{Endpoint, Switch, Link, Route, Default, Send, Read, Write, Pump, Deliver, Alter, Insert, Erase, Timeout, Settle, Move, Collect}
 use Rattle.fabric_script.specs.Lines.{is_event}
+use Rattle.fabric_script.specs.declared.known.Mode.{Mode}
+use Rattle.fabric_script.specs.declared.known.Mode.TheVariants as Mode
 use Rattle.fabric_script.specs.Known.{Known, ports_of, is_switch, has_id, same_port, is_linked, cost_of}
 
 -- a port of a table: of the node, or 255 for none
@@ -51,9 +53,15 @@ kind_is_wrong known (Write node prio dest hop tid offset value) = is_switch know
 kind_is_wrong known (Collect node) = is_switch known.nodes node
 kind_is_wrong known _ = false
 
--- 12: a line of set-up stands behind an event
+-- 12: a line of set-up stands behind an event. Among set-up lines alone it is any event, and if one
+-- event is wanted it is any line of set-up.
+abbrev pub out_of_place_in : Mode → Bool → Bool → Bool
+out_of_place_in Mode.Script begun event = begun && not event
+out_of_place_in Mode.SetUp begun event = event
+out_of_place_in Mode.Event begun event = not event
+
 abbrev pub out_of_place : Known → Line → Bool
-out_of_place known line = known.begun && not (is_event line)
+out_of_place known line = out_of_place_in known.mode known.begun (is_event line)
 
 -- 13: the port has no link
 abbrev pub not_linked : Known → Line → Bool
@@ -71,10 +79,20 @@ makes_node (Endpoint name id) = true
 makes_node (Switch name ports) = true
 makes_node _ = false
 
--- 14: it is the 65th node, or the cost up to and with the line is above 100,000
-abbrev pub too_much_work : Known → Line → Bool
-too_much_work known line = (makes_node line && nat_le 64 (length known.names))
+-- of one event alone no cost is counted
+abbrev pub counts_work : Mode → Bool
+counts_work Mode.Script = true
+counts_work Mode.SetUp = true
+counts_work Mode.Event = false
+
+-- it is the 65th node, or the cost up to and with the line is above 100,000
+abbrev pub exceeds : Known → Line → Bool
+exceeds known line = (makes_node line && nat_le 64 (length known.names))
     || nat_lt 100000 (known.cost + cost_of known.links line)
+
+-- 14: the bounds are exceeded, if work is counted
+abbrev pub too_much_work : Known → Line → Bool
+too_much_work known line = counts_work known.mode && exceeds known line
 
 -- a reason hits the line
 abbrev pub refuses : Known → Reason → Line → Bool

@@ -5,7 +5,9 @@ use Rattle.fabric_script.specs.declared.reasons.Reason.{Reason}
 use Rattle.fabric_script.specs.declared.lines.Line.{Line}
 use Rattle.fabric_script.specs.declared.lines.Numbered.{Numbered}
 use Rattle.fabric_script.specs.Lines.{new_name}
-use Rattle.fabric_script.specs.Known.{Known, nothing, known_after}
+use Rattle.fabric_script.specs.declared.known.Mode.{Mode}
+use Rattle.fabric_script.specs.declared.known.Mode.TheVariants as Mode
+use Rattle.fabric_script.specs.Known.{Known, nothing_in, known_after}
 use Rattle.fabric_script.specs.Reasons.{reason_number}
 use Rattle.fabric_script.specs.Reading.{new_name_in, MayBe, IsFree, Spells, LeastHit}
 
@@ -32,14 +34,18 @@ SpellsFrom number known (text ∷ texts) lines end = MatchBool (is_skipped text)
     (SpellsFrom (suc number) known texts lines end)
     (KeptThen (λ next rest. SpellsFrom (suc number) next texts rest end) number known text lines)
 
+-- the bytes spell these names and lines, if such lines may stand
+abbrev pub IsScriptIn : Mode → List ℕ → List (List ℕ) → List Numbered → Type 0
+IsScriptIn mode bytes names lines =
+    (end : Known) × (end.names ≡ names) × SpellsFrom 1 (nothing_in mode) (pieces_of bytes) lines end
+
 -- the bytes spell a script of these names and lines
 abbrev pub IsScript : List ℕ → List (List ℕ) → List Numbered → Type 0
-IsScript bytes names lines =
-    (end : Known) × (end.names ≡ names) × SpellsFrom 1 nothing (pieces_of bytes) lines end
+IsScript bytes names lines = IsScriptIn Mode.Script bytes names lines
 
 -- The bytes are refused: this line, counted from 1, is the first that any reason hits, and this is
 -- the number of the least that hits it.
-pub record RefusedAt (bytes : List ℕ) (line number : ℕ) : Type 0 where
+pub record RefusedIn (mode : Mode) (bytes : List ℕ) (line number : ℕ) : Type 0 where
   pub before : List (List ℕ)
   pub text : List ℕ
   pub behind : List (List ℕ)
@@ -47,11 +53,15 @@ pub record RefusedAt (bytes : List ℕ) (line number : ℕ) : Type 0 where
   pub known : Known
   pub reason : Reason
   pub split : pieces_of bytes ≡ before ++ text ∷ behind
-  pub spelled : SpellsFrom 1 nothing before lines known
+  pub spelled : SpellsFrom 1 (nothing_in mode) before lines known
   pub kept : is_skipped text ≡ false
   pub place : line ≡ length before + 1
   pub named : number ≡ reason_number reason
   pub least : LeastHit known text reason
+
+-- the bytes are refused as a script
+abbrev pub RefusedAt : List ℕ → ℕ → ℕ → Type 0
+RefusedAt bytes line number = RefusedIn Mode.Script bytes line number
 
 -- each line may be said and no reason hits it, and the names at the end are these
 abbrev pub PassesFrom : Known → List (List ℕ) → List Numbered → Type 0
@@ -60,10 +70,15 @@ PassesFrom known names (line ∷ lines) =
     MayBe known (new_name names line.line) line.line × IsFree known line.line
     × PassesFrom (known_after known (new_name names line.line) line.line) names lines
 
+-- The names are those of the lines of the nodes, in their order, and no reason hits one of the
+-- lines, if such lines may stand.
+abbrev pub PassesIn : Mode → List (List ℕ) → List Numbered → Type 0
+PassesIn mode names lines = PassesFrom (nothing_in mode) names lines
+
 -- A script passes: its names are those of the lines of its nodes, in their order, and no reason
 -- hits one of its lines.
 abbrev pub Passes : List (List ℕ) → List Numbered → Type 0
-Passes names lines = PassesFrom nothing names lines
+Passes names lines = PassesIn Mode.Script names lines
 
 -- the same lines, numbered anew from this number on
 abbrev pub renumbered : ℕ → List Numbered → List Numbered

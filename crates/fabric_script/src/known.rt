@@ -1,13 +1,15 @@
 //! What is known of the earlier lines.
 
-ghost use Rattle.std.specs.Prelude.{◌≡◌, ◌+◌, ◌*◌, ◌^◌, ◌<◌, ◌≤◌, true, false, ◌∷◌, [], ◌++◌, Contains, length, MatchOption, MatchResult, IfOk};
+ghost use Rattle.fabric_script.specs.declared.known.Mode.TheVariants.{Event};
+ghost use Rattle.std.specs.Prelude.{◌≡◌, ◌≢◌, ◌+◌, ◌*◌, ◌^◌, ◌<◌, ◌≤◌, true, false, ◌∷◌, [], ◌++◌, Contains, length, MatchOption, MatchResult, IfOk};
+ghost use Rattle.fabric_script.specs.SetUps.{for_event};
 ghost use Rattle.fabric_script.specs.Names.{is_name};
 ghost use Rattle.fabric_script.specs.Lines.{words_of};
 ghost use Rattle.fabric_script.specs.Reading.{Spells, new_name_in, second_word};
 ghost use Rattle.fabric_script.specs.Forms.{NewName as ANewName, Node as ANode, Port as APort};
 ghost use Rattle.fabric_script.specs.Texts.{Named, AtNode, AtPort, value_text};
 ghost use Rattle.fabric_script.specs.Hits.{Fits, Hits};
-ghost use Rattle.fabric_script.specs.Known.{nothing, ports_of, is_switch, has_this_id, has_id, is_linked, cost_of, known_after};
+ghost use Rattle.fabric_script.specs.Known.{nothing_in, ports_of, is_switch, has_this_id, has_id, is_linked, cost_of, known_after};
 
 use crate::lines::Line;
 use crate::names::{Name, find, is_name};
@@ -19,6 +21,17 @@ use std::marker::Model;
 
 /// The most nodes that a script may have.
 pub(crate) const MOST_NODES: usize = 64;
+
+/// Which lines may stand.
+#[derive(Clone, Copy, Debug, PartialEq, Eq)]
+pub(crate) enum Mode {
+    /// Set-up lines, and events behind them.
+    Script,
+    /// Set-up lines alone.
+    SetUp,
+    /// One event, whatever it costs.
+    Event,
+}
 
 /// What a node is.
 #[derive(Clone, Copy, Debug, PartialEq, Eq)]
@@ -37,6 +50,7 @@ pub(crate) struct Known {
     links: Vec<(PortRef, PortRef)>,
     begun: bool,
     cost: u32,
+    mode: Mode,
 }
 
 impl Model for Known {
@@ -51,6 +65,7 @@ impl Model for Known {
       links = k.links.items;
       begun = k.begun;
       cost = k.cost;
+      mode = k.mode;
     } };
 
     ghost invariant = { λ k. length k.names.items ≤ 64 };
@@ -58,8 +73,8 @@ impl Model for Known {
 
 impl Known {
     /// Before the first line.
-    pub(crate) fn new(alloc: Global) -> Known
-        ensures { result ≡ nothing }
+    pub(crate) fn new(alloc: Global, mode: Mode) -> Known
+        ensures { result ≡ nothing_in mode }
     {
         Known {
             names: Vec::new(alloc),
@@ -67,13 +82,15 @@ impl Known {
             links: Vec::new(alloc),
             begun: false,
             cost: 0,
+            mode,
         }
     }
 
     /// Adds a line, which a text spells after the earlier ones.
     pub(crate) fn add(&mut self, line: &Line, text: &[u8]) -> Result<(), AllocError>
         requires spelled { Spells self.old text.now line.now }
-        requires few { length self.old.links ≤ 16777216 }
+        requires lines { self.old.mode ≢ Event }
+        requires few { length self.old.links ≤ 33554432 }
         ensures { IfOk result (λ _. self.new
             ≡ known_after self.old (new_name_in text.now line.now) line.now) }
     {
@@ -112,6 +129,13 @@ impl Known {
         ensures { result.items ≡ self.names }
     {
         self.names
+    }
+
+    /// The names of the nodes, in the order of their lines.
+    pub(crate) fn names(&self) -> &[Name]
+        ensures { result.now ≡ self.now.names }
+    {
+        self.names.as_slice()
     }
 
     /// The number of the next node.
@@ -222,6 +246,20 @@ impl Known {
         self.begun
     }
 
+    /// One event alone may stand from now on.
+    pub(crate) fn expect_event(&mut self)
+        ensures { self.new ≡ for_event self.old }
+    {
+        self.mode = Mode::Event;
+    }
+
+    /// Which lines may stand.
+    pub(crate) fn mode(&self) -> Mode
+        ensures { result ≡ self.now.mode }
+    {
+        self.mode
+    }
+
     /// What the events have cost.
     pub(crate) fn cost(&self) -> u32
         ensures { result ≡ self.now.cost }
@@ -231,7 +269,7 @@ impl Known {
 
     /// What a line costs.
     pub(crate) fn cost_of(&self, line: &Line) -> u64
-        requires { length self.now.links ≤ 16777216 }
+        requires { length self.now.links ≤ 33554432 }
         ensures cost { result ≡ cost_of self.now.links line.now }
         ensures fits { result < 2 ^ 63 }
     {

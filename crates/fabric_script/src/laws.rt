@@ -8,7 +8,8 @@ ghost use Rattle.fabric_script.specs.declared.reasons.Reason.{Reason as AReason}
 ghost use Rattle.fabric_script.specs.Known.{Known as AKnown, IsOrderly};
 ghost use Rattle.fabric_script.specs.Reading.{HitsText, Spells, LeastHit};
 ghost use Rattle.fabric_script.specs.Reasons.{reason_number};
-ghost use Rattle.fabric_script.specs.Scripts.{IsScript, RefusedAt};
+ghost use Rattle.fabric_script.specs.LineTexts.{script_text};
+ghost use Rattle.fabric_script.specs.Scripts.{IsScript, Passes, RefusedAt, renumbered};
 
 /// A text is one line at most, whatever the earlier lines said.
 pub fn one_line()
@@ -47,4 +48,10 @@ pub fn one_refusal()
 pub fn script_or_refusal()
     ensures { (bytes : List ℕ) (names : List (List ℕ)) (lines : List NumberedLine) (line reason : ℕ)
         → IsScript bytes names lines → RefusedAt bytes line reason → ⊥ }
+{}
+
+/// A script that passes is spelled by its text, with its lines numbered anew.
+pub fn printed_scripts_are_read()
+    ensures { (names : List (List ℕ)) (lines : List NumberedLine) → Passes names lines
+        → IsScript (script_text names lines) names (renumbered 1 lines) }
 {}

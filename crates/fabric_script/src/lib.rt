@@ -8,17 +8,27 @@
 //! - `Names`, `Texts`, `Lines`: the text of each word, and the words of a line;
 //! - `Hits`: which words each kind may be, and which reason hits the others;
 //! - `Refusals`: the reasons that look at a whole line, after what `Known` says of the earlier ones;
-//! - `Reading`, `Scripts`: which lines and which bytes are spelled, and which are refused.
+//! - `Reading`, `Scripts`: which lines and which bytes are spelled, and which are refused;
+//! - `SetUps`: what is known of one event behind set-up lines.
+//!
+//! `parse_set_up` reads set-up lines alone. `read_set_up` does so too, and keeps in `SetUp` what is
+//! known behind them, so that `SetUp::read_event` reads one event after another.
 //!
 //! The types are `Script`, its `Numbered` lines, `Line` and their parts `Name`, `Hex` and
 //! `PortRef`; `Reason`, `Refusal` and `ScriptEnd` say why there is no script. The module `laws` has
 //! each law as the contract of a function with an empty body: a text is one line at most, and no
-//! reason hits it then; bytes spell one script at most, or are refused once.
+//! reason hits it then; bytes spell one script at most, or are refused once; a script that passes is
+//! spelled by its text.
+//!
+//! `advise` says what in the text of a refused line is to blame.
 //!
 //! It leaves out what a line does. Only the lines, the names and the bytes of a script take memory,
 //! and no word does.
 #![tactic(auto)]
 
+mod advice;
+#[cfg(test)]
+mod advice_tests;
 mod forms;
 mod hex;
 mod known;
@@ -32,16 +42,27 @@ mod ports;
 mod reasons;
 mod refusals;
 mod scripts;
+mod set_ups;
+mod soak;
+#[cfg(test)]
+mod soak_tests;
 #[cfg(test)]
 mod tests;
 mod words;
 
+pub use advice::{Advice, WordKind, advise};
 pub use hex::Hex;
-pub use laws::{line_or_reason, one_line, one_reason, one_refusal, one_script, script_or_refusal};
+pub use laws::{
+    line_or_reason, one_line, one_reason, one_refusal, one_script, printed_scripts_are_read,
+    script_or_refusal,
+};
 pub use line_texts::{line_text, print};
 pub use lines::{Line, Numbered, Script};
 pub use names::{Name, read_name};
 pub use numbers::read_number;
 pub use ports::PortRef;
 pub use reasons::Reason;
-pub use scripts::{Refusal, ScriptEnd, parse};
+pub use scripts::{Refusal, ScriptEnd, parse, parse_set_up};
+pub use set_ups::{EventEnd, SetUp, read_set_up};
+pub use soak::soak_script;
+pub use words::split_word;

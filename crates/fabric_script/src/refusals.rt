@@ -5,7 +5,7 @@ ghost use Rattle.fabric_script.specs.declared.reasons.Reason.{Reason as AReason}
 ghost use Rattle.fabric_script.specs.Reasons.{reason_number};
 ghost use Rattle.fabric_script.specs.Refusals.{refuses, is_outside, is_bad_length, entry_is_outside, port_is_taken, id_is_taken, length_is_bad, kind_is_wrong, out_of_place, not_linked, too_much_work, makes_node};
 
-use crate::known::{Known, MOST_NODES};
+use crate::known::{Known, MOST_NODES, Mode};
 use crate::lines::Line;
 use crate::ports::same_port;
 use crate::reasons::Reason;
@@ -22,7 +22,7 @@ const MAINTENANCE: u8 = 8;
 
 /// The least reason that hits a line whose words all say something.
 pub(crate) fn refusal(known: &Known, line: &Line) -> Option<Reason>
-    requires { length known.now.links ≤ 16777216 }
+    requires { length known.now.links ≤ 33554432 }
     ensures { MatchOption result
         ((reason : AReason) → refuses known.now reason line.now ≡ false)
         (λ reason. (refuses known.now reason line.now ≡ true)
@@ -44,7 +44,7 @@ pub(crate) fn refusal(known: &Known, line: &Line) -> Option<Reason>
     if kind_is_wrong(known, line) {
         return Some(Reason::WrongKind);
     }
-    if known.begun() && !line.is_event() {
+    if out_of_place(known, line) {
         return Some(Reason::OutOfPlace);
     }
     if not_linked(known, line) {
@@ -54,6 +54,17 @@ pub(crate) fn refusal(known: &Known, line: &Line) -> Option<Reason>
         return Some(Reason::TooMuchWork);
     }
     None
+}
+
+/// Whether a line may not stand where it does.
+fn out_of_place(known: &Known, line: &Line) -> bool
+    ensures { result ≡ out_of_place known.now line.now }
+{
+    match known.mode() {
+        Mode::Script => known.begun() && !line.is_event(),
+        Mode::SetUp => line.is_event(),
+        Mode::Event => !line.is_event(),
+    }
 }
 
 /// Whether the port of a table is none of the switch.
@@ -146,11 +157,12 @@ fn not_linked(known: &Known, line: &Line) -> bool
 
 /// Whether there are too many nodes, or the events cost too much.
 fn too_much_work(known: &Known, line: &Line) -> bool
-    requires { length known.now.links ≤ 16777216 }
+    requires { length known.now.links ≤ 33554432 }
     ensures { result ≡ too_much_work known.now line.now }
 {
-    makes_node(line) && known.count() >= MOST_NODES
-        || u64::from(known.cost()) + known.cost_of(line) > MOST_COST
+    known.mode() != Mode::Event
+        && (makes_node(line) && known.count() >= MOST_NODES
+            || u64::from(known.cost()) + known.cost_of(line) > MOST_COST)
 }
 
 /// Whether the line makes a node.

@@ -1,14 +1,16 @@
 //! A script from its bytes.
 
-ghost use Rattle.std.specs.Prelude.{◌≡◌, ℕ, ◌≤◌, ◌⊎◌, List, length, IfOk, IsOk, IsErrOf};
+ghost use Rattle.std.specs.Prelude.{◌≡◌, ◌≢◌, ℕ, ◌≤◌, ◌⊎◌, List, length, IfOk, IsOk, IsErrOf};
 ghost use Rattle.fabric_script.specs.declared.lines.Numbered.{Numbered as NumberedLine};
-ghost use Rattle.fabric_script.specs.Known.{IsOrderly, nothing};
+ghost use Rattle.fabric_script.specs.Known.{IsOrderly, nothing_in};
+ghost use Rattle.fabric_script.specs.declared.known.Mode.TheVariants.{Script as OfScript, SetUp as OfSetUp, Event as OfEvent};
 ghost use Rattle.fabric_script.specs.Reading.{ReadsText};
-ghost use Rattle.fabric_script.specs.Scripts.{IsScript, Passes, RefusedAt, SpellsFrom, pieces_of, is_skipped};
+ghost use Rattle.fabric_script.specs.Scripts.{IsScript, IsScriptIn, Passes, RefusedAt, RefusedIn, SpellsFrom, pieces_of, is_skipped};
+ghost use Rattle.fabric_script.specs.SetUps.{NoEvents};
 ghost use Rattle.fabric_script.specs.declared.scripts.ScriptEnd.TheVariants.{NoMemory};
 
 use crate::forms::form_named;
-use crate::known::Known;
+use crate::known::{Known, Mode};
 use crate::line_words::take_line;
 use crate::lines::{Line, Numbered, Script};
 use crate::reasons::Reason;
@@ -70,20 +72,52 @@ pub fn parse(alloc: Global, bytes: &[u8]) -> Result<Script, ScriptEnd>
         → IsErrOf result (ScriptEnd.Refused record { line = line; reason = reason })
         ⊎ IsErrOf result ScriptEnd.NoMemory }
 {
-    let mut known = Known::new(alloc);
-    let lines = read_lines(alloc, bytes, &mut known)?;
+    let mut known = Known::new(alloc, Mode::Script);
+    let lines = read_lines(alloc, bytes, Mode::Script, &mut known)?;
+    let names = known.into_names();
+    Ok(Script { names, lines })
+}
+
+/// The script of set-up lines alone that the bytes spell, as `parse` reads a script. Any event is
+/// out of place.
+pub fn parse_set_up(alloc: Global, bytes: &[u8]) -> Result<Script, ScriptEnd>
+    requires { length bytes.now ≤ 16777216 }
+    ensures script { IfOk result (λ script.
+        IsScriptIn OfSetUp bytes.now script.names.items script.lines.items) }
+    ensures passes { IfOk result (λ script. Passes script.names.items script.lines.items) }
+    ensures no_events { IfOk result (λ script. NoEvents script.lines.items) }
+    ensures refused { (refusal : _) → IsErrOf result (ScriptEnd.Refused refusal)
+        → RefusedIn OfSetUp bytes.now refusal.line refusal.reason }
+    ensures only { (names : List (List ℕ)) (lines : List NumberedLine)
+        → IsScriptIn OfSetUp bytes.now names lines
+        → IfOk result (λ script. (script.names.items ≡ names) × (script.lines.items ≡ lines))
+        × (IsErrOf result ScriptEnd.NoMemory ⊎ IsOk result) }
+    ensures refusal_only { (line reason : ℕ) → RefusedIn OfSetUp bytes.now line reason
+        → IsErrOf result (ScriptEnd.Refused record { line = line; reason = reason })
+        ⊎ IsErrOf result ScriptEnd.NoMemory }
+{
+    let mut known = Known::new(alloc, Mode::SetUp);
+    let lines = read_lines(alloc, bytes, Mode::SetUp, &mut known)?;
     let names = known.into_names();
     Ok(Script { names, lines })
 }
 
 /// The kept lines, each with its number, and what is known at their end.
-fn read_lines(alloc: Global, bytes: &[u8], known: &mut Known) -> Result<Vec<Numbered>, ScriptEnd>
+pub(crate) fn read_lines(
+    alloc: Global,
+    bytes: &[u8],
+    mode: Mode,
+    known: &mut Known,
+) -> Result<Vec<Numbered>, ScriptEnd>
     requires few { length bytes.now ≤ 16777216 }
-    requires nothing { known.old ≡ nothing }
+    requires nothing { known.old ≡ nothing_in mode }
+    requires lines { mode ≢ OfEvent }
     ensures lines { IfOk result (λ lines.
-        SpellsFrom 1 nothing (pieces_of bytes.now) lines.items known.new) }
+        SpellsFrom 1 (nothing_in mode) (pieces_of bytes.now) lines.items known.new) }
     ensures refused { (refusal : _) → IsErrOf result (ScriptEnd.Refused refusal)
-        → RefusedAt bytes.now refusal.line refusal.reason }
+        → RefusedIn mode bytes.now refusal.line refusal.reason }
+    ensures orderly { IfOk result (λ _. IsOrderly known.new) }
+    ensures few { IfOk result (λ _. length known.new.links ≤ 33554432) }
 {
     let mut lines = Vec::new(alloc);
     let mut number = 0;
@@ -117,9 +151,13 @@ fn is_skipped(text: &[u8]) -> bool
 }
 
 /// The line that a text is, or the least reason that hits it.
-fn read_line(alloc: Global, known: &Known, text: &[u8]) -> Result<Result<Line, Reason>, AllocError>
+pub(crate) fn read_line(
+    alloc: Global,
+    known: &Known,
+    text: &[u8],
+) -> Result<Result<Line, Reason>, AllocError>
     requires orderly { IsOrderly known.now }
-    requires few { length known.now.links ≤ 16777216 }
+    requires few { length known.now.links ≤ 33554432 }
     ensures { IfOk result (λ read. ReadsText known.now text.now read) }
 {
     let mut words = Words::new(text);

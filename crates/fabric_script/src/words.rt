@@ -3,7 +3,7 @@
 //! A word that a reason hits is answered by a stand-in, and the least reason is noted. So a form
 //! reads all its words in one go, and asks at their end.
 
-ghost use Rattle.std.specs.Prelude.{◌≡◌, ◌∷◌, ◌≤◌, Some, IfOk};
+ghost use Rattle.std.specs.Prelude.{◌≡◌, ◌∷◌, ◌≤◌, [], Some, IfOk, IsTrue, ◌↔◌};
 ghost use Rattle.fabric_script.specs.Lines.{words_of};
 ghost use Rattle.fabric_script.specs.Forms.{NewName, Node, Port, Number, Hex as AHex, Digits, Character};
 ghost use Rattle.fabric_script.specs.Texts.{Named, AtNode, AtPort, Counted, Bytes, InDigits, Code};
@@ -149,6 +149,13 @@ impl<'a> Words<'a> {
             .unwrap_or(Char::Invalid)
     }
 
+    /// Whether no word is left.
+    pub(crate) fn is_done(&self) -> bool
+        ensures { IsTrue result ↔ (self.now.words ≡ []) }
+    {
+        self.rest.is_none()
+    }
+
     /// The least reason that hits a word, where no word may be left.
     pub(crate) fn end(&self) -> Option<Reason>
         ensures { result ≡ end_of self.now }
@@ -170,8 +177,8 @@ fn lesser(hit: Option<Reason>, reason: Reason) -> Reason
     }
 }
 
-/// The first word of a line, and what stands behind its space.
-fn split_word(text: &[u8]) -> (&[u8], Option<&[u8]>)
+/// The first word of a line, and what stands behind its space, if it has one.
+pub fn split_word(text: &[u8]) -> (&[u8], Option<&[u8]>)
     ensures { words_of text.now ≡ result.0.now ∷ words_left result.1 }
 {
     for (i, byte) in text.iter().enumerate() {

@@ -1,0 +1,145 @@
+//! Set-up lines alone, and the events that may stand behind them.
+
+ghost use Rattle.std.specs.Prelude.{◌≡◌, ◌≢◌, ℕ, ◌≤◌, ◌⊎◌, length, MatchOption, IfOk, IsOk, IsErrOf};
+ghost use Rattle.fabric_script.specs.declared.lines.Line.{Line as ALine};
+ghost use Rattle.fabric_script.specs.declared.ports.PortRef.{PortRef as APortRef};
+ghost use Rattle.fabric_script.specs.Forms.{Node as ANode, Port as APort};
+ghost use Rattle.fabric_script.specs.Hits.{Fits};
+ghost use Rattle.fabric_script.specs.Texts.{AtNode, AtPort, value_text};
+ghost use Rattle.fabric_script.specs.Known.{is_linked, nothing_in, Known as AKnown};
+ghost use Rattle.fabric_script.specs.declared.known.Mode.TheVariants.{SetUp as OfSetUp};
+ghost use Rattle.fabric_script.specs.Reading.{Spells};
+ghost use Rattle.fabric_script.specs.Scripts.{Passes, RefusedIn, SpellsFrom, pieces_of};
+ghost use Rattle.fabric_script.specs.SetUps.{for_event, IsReady, IsRefused, NoEvents};
+ghost use Rattle.fabric_script.specs.declared.set_ups.EventEnd.TheVariants.{NoMemory};
+
+use crate::known::{Known, Mode};
+use crate::lines::{Line, Numbered};
+use crate::names::Name;
+use crate::ports::PortRef;
+use crate::scripts::{ScriptEnd, read_line, read_lines};
+use std::alloc::{AllocError, Global};
+use std::marker::Model;
+
+/// Why there is no event.
+#[derive(Clone, Copy, Debug, PartialEq, Eq)]
+pub enum EventEnd {
+    /// The line is refused: the number of the least reason that hits it.
+    Refused(u8),
+    /// Memory ran out.
+    NoMemory,
+}
+
+impl From<AllocError> for EventEnd {
+    ghost from_gives = { λ _ end. end ≡ NoMemory };
+
+    fn from(_: AllocError) -> Self {
+        EventEnd::NoMemory
+    }
+}
+
+/// Set-up lines alone, and what is known behind them.
+#[derive(Drop)]
+pub struct SetUp {
+    lines: Vec<Numbered>,
+    known: Known,
+}
+
+impl Model for SetUp {
+    ghost use Rattle.fabric_script.specs.SetUps.{IsReady, SetUpLines};
+
+    ghost Value = { SetUpLines };
+
+    ghost view = { λ s. record { lines = s.lines.items; known = s.known } };
+
+    ghost invariant = { λ s. IsReady s.known };
+}
+
+/// The set-up lines that the bytes spell, as `parse` reads a script, of at most 16,777,216 bytes.
+/// Any event is out of place.
+pub fn read_set_up(alloc: Global, bytes: &[u8]) -> Result<SetUp, ScriptEnd>
+    requires { length bytes.now ≤ 16777216 }
+    ensures spelled { IfOk result (λ set_up. (end : AKnown)
+        × SpellsFrom 1 (nothing_in OfSetUp) (pieces_of bytes.now) set_up.lines end
+        × (set_up.known ≡ for_event end)) }
+    ensures passes { IfOk result (λ set_up. Passes set_up.known.names set_up.lines) }
+    ensures no_events { IfOk result (λ set_up. NoEvents set_up.lines) }
+    ensures ready { IfOk result (λ set_up. IsReady set_up.known) }
+    ensures refused { (refusal : _) → IsErrOf result (ScriptEnd.Refused refusal)
+        → RefusedIn OfSetUp bytes.now refusal.line refusal.reason }
+{
+    let mut known = Known::new(alloc, Mode::SetUp);
+    let lines = read_lines(alloc, bytes, Mode::SetUp, &mut known)?;
+    known.expect_event();
+    Ok(SetUp { lines, known })
+}
+
+impl SetUp {
+    /// The lines.
+    pub fn lines(&self) -> &[Numbered]
+        ensures { result.now ≡ self.now.lines }
+    {
+        self.lines.as_slice()
+    }
+
+    /// The names of the nodes, in the order of their lines.
+    pub fn names(&self) -> &[Name]
+        ensures { result.now ≡ self.now.known.names }
+    {
+        self.known.names()
+    }
+
+    /// The number of the node that a word names.
+    pub fn read_node(&self, word: &[u8]) -> Option<u8>
+        ensures { MatchOption result
+            ((n : ℕ) → Fits self.now.known ANode (AtNode n)
+            → word.now ≢ value_text self.now.known.names (AtNode n))
+            (λ n. Fits self.now.known ANode (AtNode n)
+            × (word.now ≡ value_text self.now.known.names (AtNode n))) }
+    {
+        match self.known.read_node(word) {
+            Ok(n) => Some(n),
+            Err(_) => None,
+        }
+    }
+
+    /// The port that a word names.
+    pub fn read_port(&self, word: &[u8]) -> Option<PortRef>
+        ensures { MatchOption result
+            ((p : APortRef) → Fits self.now.known APort (AtPort p)
+            → word.now ≢ value_text self.now.known.names (AtPort p))
+            (λ p. Fits self.now.known APort (AtPort p)
+            × (word.now ≡ value_text self.now.known.names (AtPort p))) }
+    {
+        match self.known.read_port(word) {
+            Ok(port) => Some(port),
+            Err(_) => None,
+        }
+    }
+
+    /// Whether a port has a link.
+    pub fn is_linked(&self, port: PortRef) -> bool
+        ensures { result ≡ is_linked self.now.known.links port }
+    {
+        self.known.is_linked(port)
+    }
+
+    /// The event that a line spells behind the set-up lines. A line of set-up is out of place, no
+    /// cost is counted, and an empty line and a comment are of no form.
+    pub fn read_event(&self, alloc: Global, line: &[u8]) -> Result<Line, EventEnd>
+        // What is answered is spelled so, and what is refused is refused so.
+        ensures event { IfOk result (λ event. Spells self.now.known line.now event) }
+        ensures refused { (number : ℕ) → IsErrOf result (EventEnd.Refused number)
+            → IsRefused self.now.known line.now number }
+        // What is spelled is answered and what is refused so is refused, unless memory runs out.
+        ensures only { (event : ALine) → Spells self.now.known line.now event
+            → IfOk result (λ read. read ≡ event) × (IsErrOf result NoMemory ⊎ IsOk result) }
+        ensures refusal_only { (number : ℕ) → IsRefused self.now.known line.now number
+            → IsErrOf result (EventEnd.Refused number) ⊎ IsErrOf result NoMemory }
+    {
+        match read_line(alloc, &self.known, line)? {
+            Ok(event) => Ok(event),
+            Err(reason) => Err(EventEnd::Refused(reason.number())),
+        }
+    }
+}
