@@ -4,13 +4,11 @@ use Rattle.std.specs.List.{AllByRecursion}
 use Rattle.std.proofs.lemmas.Bool.{eq-eqb}
 use Rattle.rio_packets.specs.Fields.{prio_of, dest_of}
 use Rattle.maint_registers.specs.Devices.{Device, is_switch}
-use Rattle.maint_registers.specs.Access.{value_at, written_at}
-use Rattle.maint_registers.proofs.SameLaws.{written_same}
-use Rattle.maint_packets.specs.declared.request.Op.{Op}
-use Rattle.maint_packets.specs.declared.request.Op.TheVariants.{Read, Write, BadRead, BadWrite}
+use Rattle.maint_registers.proofs.SameLaws.{same_kind}
 use Rattle.maint_packets.specs.declared.request.Request.{Request}
 use Rattle.maint_packets.specs.Requests.{request_of}
-use Rattle.maint_packets.specs.Answers.{after_read, after_write, answered_to, answered}
+use Rattle.maint_packets.specs.Answers.{answered}
+use Rattle.maint_packets.proofs.AnswerLaws.{answered_same}
 use Rattle.fabric_script.specs.declared.ports.PortRef.{PortRef}
 use Rattle.fabric_model.specs.Network.{Item, Network, port_of, switch_at, route_at}
 use Rattle.fabric_model.specs.Serving.{device_after}
@@ -30,32 +28,11 @@ use Rattle.fabric_model.proofs.Order.{Some_of, some_without, some_with, some_bot
 
 -- ---- which nodes are switches stays
 
-same_kind : (device next : Device) → next.kind ≡ device.kind → is_switch next ≡ is_switch device
-same_kind device next same = rw same refl
-
-write_kind : (device : Device) (request : Request) (offset value : ℕ) → is_switch (after_write device request (written_at device offset value)).device ≡ is_switch device
-write_kind device request offset value = go (written_at device offset value) refl
-  where
-    go : (next : Option Device) → written_at device offset value ≡ next → is_switch (after_write device request next).device ≡ is_switch device
-    go None is = refl
-    go (Some next) is = same_kind device next (written_same device next offset value is).kind
-
-read_kind : (device : Device) (request : Request) (o : Option ℕ) → is_switch (after_read device request o).device ≡ is_switch device
-read_kind device request None = refl
-read_kind device request (Some value) = refl
-
-answer_kind : (device : Device) (request : Request) (port : ℕ) → is_switch (answered device request port).device ≡ is_switch device
-answer_kind device request port = by_op request.op
-  where
-    by_op : (op : Op) → is_switch (answered_to device request port op).device ≡ is_switch device
-    by_op Read = read_kind device request (value_at device request.offset port)
-    by_op (Write value) = write_kind device request request.offset value
-    by_op BadRead = refl
-    by_op BadWrite = refl
-
-device_kind : (port : ℕ) (request : Option Request) (device : Device) → is_switch (device_after port request device) ≡ is_switch device
+device_kind : (port : ℕ) (request : Option Request) (device : Device)
+    → is_switch (device_after port request device) ≡ is_switch device
 device_kind port None device = refl
-device_kind port (Some request) device = answer_kind device request port
+device_kind port (Some request) device =
+    same_kind device (answered device request port).device (answered_same device request port)
 
 pub switches_stay : (net : Network) (step : Step) (n : ℕ) → switch_at (after net step) n ≡ switch_at net n
 switches_stay net (ByDevice (Answer p packet response)) n = kinds_stay net.registers p.node n (device_after p.port (request_of packet)) (device_kind p.port (request_of packet))

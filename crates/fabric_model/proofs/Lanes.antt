@@ -7,7 +7,8 @@ use Rattle.rio_packets.specs.LinkForm.{Passes}
 use Rattle.fabric_script.specs.declared.ports.PortRef.{PortRef}
 use Rattle.fabric_model.specs.Network.{Item, Network, first_packet}
 use Rattle.fabric_model.specs.Steps.{Step, after, LegalFrom}
-use Rattle.fabric_model.specs.Laws.History.{IsEmptyNetwork, taken_by, ended_by, ended}
+use Rattle.fabric_model.specs.Laws.History.{IsEmptyNetwork, End, taken_by, ended_by, ended}
+use Rattle.fabric_model.specs.Laws.Forms.{IsFormed}
 use Rattle.fabric_model.specs.Laws.Priorities.{ByPriority}
 use Rattle.fabric_model.specs.Laws.Holding.{Place, Received, Waiting, Over, items_at}
 use Rattle.fabric_model.proofs.Joining.{carried}
@@ -23,37 +24,79 @@ HasPriority (Over e) item = ⊤
 abbrev StandsWell : Place → Item → Type 0
 StandsWell place item = Passes item.now × HasPriority place item
 
-goes_to : (net : Network) (from to : Place) (item moved : Item) → Allowed net from to item moved → Along item moved → HasPriority from item → HasPriority to moved
+goes_to : (net : Network) (from to : Place) (item moved : Item) → Allowed net from to item moved
+    → Along item moved → HasPriority from item → HasPriority to moved
 goes_to net from to item moved (Crosses p q r item2 peer) along own = own
 goes_to net from to item moved (Turns p q item2 same named) along own = along.prio
 goes_to net from to item moved (Leaves n item2 endpoint other) along own = tt
 goes_to net from to item moved (Falls p item2 named) along own = tt
 goes_to net from to item moved (IsHeard p item2 heard) along own = tt
 
-goes_well : (net : Network) (from to : Place) (item moved : Item) → Allowed net from to item moved → StandsWell from item → StandsWell to moved
+goes_well : (net : Network) (from to : Place) (item moved : Item) → Allowed net from to item moved
+    → StandsWell from item → StandsWell to moved
 goes_well net from to item moved allowed well =
     let along = allowed_along net from to item moved allowed well.0 in
     (along.passes, goes_to net from to item moved allowed along well.1)
 
--- all that stands anywhere
-all_well : (start : Network) (steps : List Step) (end : Network) → IsEmptyNetwork start → LegalFrom start steps end → AllOn StandsWell (items_at end (ended start steps))
-all_well start steps end empty legal =
-    carried (λ net made out. AllOn StandsWell (items_at net out))
-    (λ net made out step needs held. AllOn-step StandsWell net (after net step) (taken_by net step) (items_at net out) (items_at (after net step) (λ e. out e ++ ended_by e net step)) (step_on net out step needs) (λ p packet passes. (passes, refl)) (goes_well net) held)
-    start [] (λ e. []) steps end (AllOn-empty StandsWell start empty) legal
+-- whatever stands in the lanes of a network is in its link form, in a list of its own priority
+abbrev pub AreWell : Network → Type 0
+AreWell net = AllOn StandsWell (items_at net (λ e. []))
 
-pub by_priority : (start : Network) (steps : List Step) (end : Network) → IsEmptyNetwork start → LegalFrom start steps end → ByPriority end
-by_priority start steps end empty legal = record { received = λ p r. only (Received p r); waiting = λ p r. only (Waiting p r) }
+-- what has ended is none of it
+lanes_alone : (net : Network) (out : End → List Item) → AllOn StandsWell (items_at net out)
+    → AreWell net
+lanes_alone net out all (Received p r) = all (Received p r)
+lanes_alone net out all (Waiting p r) = all (Waiting p r)
+lanes_alone net out all (Over e) = tt
+
+-- this stays along legal steps, whatever came before them
+pub well_on : (start : Network) (steps : List Step) (end : Network) → AreWell start
+    → LegalFrom start steps end → AreWell end
+well_on start steps end well legal =
+    lanes_alone end (ended start steps)
+    (carried (λ net made out. AllOn StandsWell (items_at net out))
+    (λ net made out step needs held. AllOn-step StandsWell net (after net step) (taken_by net step) (items_at net out) (items_at (after net step) (λ e. out e ++ ended_by e net step)) (step_on net out step needs) (λ p packet passes. (passes, refl)) (goes_well net) held)
+    start [] (λ e. []) steps end well legal)
+
+pub well_begun : (start : Network) → IsEmptyNetwork start → AreWell start
+well_begun start empty = AllOn-empty StandsWell start empty
+
+pub well_priority : (net : Network) → AreWell net → ByPriority net
+well_priority net well = record { received = λ p r. only (Received p r); waiting = λ p r. only (Waiting p r) }
   where
-    only : (place : Place) → AllByRecursion (HasPriority place) (items_at end (ended start steps) place)
-    only place = all_weaker (StandsWell place) (HasPriority place) (λ item well. well.1) (items_at end (ended start steps) place) (all_well start steps end empty legal place)
+    only : (place : Place) → AllByRecursion (HasPriority place) (items_at net (λ e. []) place)
+    only place =
+        all_weaker (StandsWell place) (HasPriority place) (λ item well. well.1)
+        (items_at net (λ e. []) place) (well place)
+
+all_both : (P Q : Item → Type 0) (items : List Item) → AllByRecursion P items
+    → AllByRecursion Q items → AllByRecursion (λ item. P item × Q item) items
+all_both P Q [] one other = tt
+all_both P Q (item ∷ items) one other = ((one.0, other.0), all_both P Q items one.1 other.1)
+
+-- the two halves of it by themselves
+pub well_by : (net : Network) → IsFormed net → ByPriority net → AreWell net
+well_by net formed own (Received p r) =
+    all_both (λ item. Passes item.now) (HasPriority (Received p r)) (net.received p r)
+    (formed.received p r) (own.received p r)
+well_by net formed own (Waiting p r) =
+    all_both (λ item. Passes item.now) (HasPriority (Waiting p r)) (net.waiting p r)
+    (formed.waiting p r) (own.waiting p r)
+well_by net formed own (Over e) = tt
 
 -- the first packet that a port has received is one in its link form
-pub first_passes : (start : Network) (steps : List Step) (end : Network) → IsEmptyNetwork start → LegalFrom start steps end → (p : PortRef) (r : ℕ) (packet : List ℕ) → first_packet (end.received p r) ≡ Some packet → Passes packet
-first_passes start steps end empty legal p r packet is = go (end.received p r) is (all_well start steps end empty legal (Received p r))
+pub well_passes : (net : Network) → AreWell net → (p : PortRef) (r : ℕ) (packet : List ℕ)
+    → first_packet (net.received p r) ≡ Some packet → Passes packet
+well_passes net well p r packet is = go (net.received p r) is (well (Received p r))
   where
-    go : (items : List Item) → first_packet items ≡ Some packet → AllByRecursion (StandsWell (Received p r)) items → Passes packet
+    go : (items : List Item) → first_packet items ≡ Some packet
+        → AllByRecursion (StandsWell (Received p r)) items → Passes packet
     go [] is all = absurd (cc)
     go (item ∷ items) is all =
         let same : item.now ≡ packet = cc in
         subst Passes same all.0.0
+
+pub by_priority : (start : Network) (steps : List Step) (end : Network) → IsEmptyNetwork start
+    → LegalFrom start steps end → ByPriority end
+by_priority start steps end empty legal =
+    well_priority end (well_on start steps end (well_begun start empty) legal)

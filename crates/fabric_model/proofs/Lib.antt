@@ -18,3 +18,6 @@ pub mod Forms
 pub mod Worked
 pub mod Around
 pub mod Emptying
+pub mod Nodes
+pub mod Stocks
+pub mod RoomLaws

@@ -1,5 +1,5 @@
 -- What a packet is as it moves on, and where a switch sends it by what its flow knows of it.
-use Rattle.std.proofs.Common.{◌≡◌, ℕ, zero, suc, ◌-◌, ◌/◌, ◌%◌, ◌≤◌, ◌<◌, ◌==◌, ◌&&◌, ◌||◌, Bool, true, false, not, nat_lt, List, length, get_or, Option, Some, None, option_map, slice_get, refl, sym, ap, subst, arith, cond}
+use Rattle.std.proofs.Common.{◌≡◌, ℕ, zero, suc, ◌-◌, ◌/◌, ◌%◌, ◌≤◌, ◌<◌, ◌==◌, ◌&&◌, Bool, true, false, not, nat_lt, List, length, get_or, Option, Some, None, option_map, slice_get, refl, sym, ap, subst, arith, cond}
 use Rattle.std.specs.Bool.{⊤}
 use Rattle.std.specs.Option.{option_and_then}
 use Rattle.std.proofs.lemmas.Bool.{false≢true, ne_eqb}
@@ -13,7 +13,7 @@ use Rattle.maint_registers.specs.Devices.{Device, is_switch}
 use Rattle.maint_registers.specs.Routes.{next_port}
 use Rattle.maint_packets.specs.declared.next_hop.Next.{Next}
 use Rattle.maint_packets.specs.declared.next_hop.Next.TheVariants.{Nowhere, RegisterUnit, Port}
-use Rattle.maint_packets.specs.NextHops.{is_foreign, is_at_end, to_port, next_of, moved}
+use Rattle.maint_packets.specs.NextHops.{is_foreign, is_spent, is_at_end, to_port, next_of, moved}
 use Rattle.fabric_model.specs.Network.{Network}
 use Rattle.fabric_model.specs.Serving.{next_at}
 use Rattle.fabric_model.specs.Laws.Leaving.{MovesTo}
@@ -80,12 +80,12 @@ moves_on old passes goes = go (is_maintenance old) refl
     some (suc n) none = omega arith
 
     go : (t : Bool) → is_maintenance old ≡ t → MovesOn old (cond t (lowered old) old)
-    go true m = moves_lowered old passes m (some (get_or old 6 0) (subst (λ t. (t && (get_or old 6 0 == 0)) ≡ false) m goes))
+    go true m = moves_lowered old passes m (some (get_or old 6 0) (subst (λ t. is_spent (cond t (Some (get_or old 6 0)) None) ≡ false) m goes))
     go false other = moves_as_is old passes other
 
 -- a packet for which a switch names a port is not at its end
 pub named_goes : (device : Device) (packet : List ℕ) (n : ℕ) → next_of device packet ≡ Port n → is_at_end packet ≡ false
-named_goes device packet n = go (is_foreign packet) (is_at_end packet) (is_request packet) (to_port (next_port device (get_or packet 2 0)))
+named_goes device packet n = go (is_foreign packet) (is_at_end packet) (is_request packet) (to_port (option_and_then (next_port device) (dest_of packet)))
   where
     go : (foreign ends asks : Bool) (next : Next) → cond foreign Nowhere (cond ends (cond asks RegisterUnit Nowhere) next) ≡ Port n → ends ≡ false
     go true ends asks next is = absurd (cc)
@@ -114,20 +114,26 @@ to_port_agrees None = tt
 to_port_agrees (Some n) = refl
 
 -- what a switch does with a packet, by what the packet says
-agrees : (narrow eight long asks : Bool) (hop dest : ℕ) (route : ℕ → Option ℕ)
-    → Agrees (by_key eight (cond (eight && (narrow && long)) (Some hop) None) (option_and_then route (cond narrow (Some dest) None)))
-    (cond (not narrow || (eight && not (eight && (narrow && long)))) Nowhere
-    (cond ((eight && (narrow && long)) && (hop == 0)) (cond ((eight && (narrow && long)) && asks) RegisterUnit Nowhere) (to_port (route dest))))
-agrees false true long asks hop dest route = tt
-agrees false false long asks hop dest route = tt
-agrees true false long asks hop dest route = to_port_agrees (route dest)
-agrees true true false asks hop dest route = tt
-agrees true true true true zero dest route = tt
-agrees true true true false zero dest route = tt
-agrees true true true asks (suc hop) dest route = rw (ne_eqb (suc hop) 0 (λ same. omega arith)) (to_port_agrees (route dest))
+agrees : (eight fits asks : Bool) (hop : ℕ) (route : Option ℕ)
+    → Agrees (by_key eight (cond (eight && fits) (Some hop) None) route)
+    (cond (eight && not (eight && fits)) Nowhere
+    (cond (is_spent (cond (eight && fits) (Some hop) None))
+    (cond ((eight && fits) && asks) RegisterUnit Nowhere) (to_port route)))
+agrees false fits asks hop route = to_port_agrees route
+agrees true false asks hop route = tt
+agrees true true true zero route = tt
+agrees true true false zero route = tt
+agrees true true asks (suc hop) route =
+    rw (ne_eqb (suc hop) 0 (λ same. omega arith)) (to_port_agrees route)
 
-pub next_agrees : (device : Device) (packet : List ℕ) → Agrees (by_key (ftype_of packet == 8) (hop_of packet) (option_and_then (next_port device) (dest_of packet))) (next_of device packet)
-next_agrees device packet = agrees (tt_of packet == 0) (ftype_of packet == 8) (is_maintenance_length (length packet)) (nat_lt (ttype_of packet) 2) (get_or packet 6 0) (get_or packet 2 0) (next_port device)
+pub next_agrees : (device : Device) (packet : List ℕ)
+    → Agrees (by_key (ftype_of packet == 8) (hop_of packet)
+    (option_and_then (next_port device) (dest_of packet))) (next_of device packet)
+next_agrees device packet =
+    agrees (ftype_of packet == 8)
+    ((tt_of packet == 0) && is_maintenance_length (length packet))
+    (nat_lt (ttype_of packet) 2) (get_or packet 6 0)
+    (option_and_then (next_port device) (dest_of packet))
 
 -- the switch that sends a packet
 pub record SentBy (net : Network) (n : ℕ) (packet : List ℕ) (next : Next) : Type 0 where

@@ -2,18 +2,9 @@
 use Rattle.std.proofs.Common.{◌≡◌, Bool, true, false, eqb, List, [], ◌∷◌, ◌++◌, Option, Some, None, ap, subst, refl, cond}
 use Rattle.std.proofs.lemmas.Bool.{and_parts, eqb-true, eq-eqb, and_from, false_from_ne_true}
 use Rattle.fabric_script.specs.declared.ports.PortRef.{PortRef}
+pub use Rattle.fabric_script.proofs.PeerLaws.{port_is, same_port-refl}
 use Rattle.fabric_model.specs.Network.{same_port, peer_in, link_in}
 use Rattle.fabric_model.specs.Laws.Proper.{AreProper}
-
-pub port_is : (p q : PortRef) → same_port p q ≡ true → p ≡ q
-port_is p q same =
-    let parts = and_parts (eqb p.node q.node) (eqb p.port q.port) same in
-    let node = eqb-true p.node q.node parts.0 in
-    let port = eqb-true p.port q.port parts.1 in
-    λ i. record { node = node i; port = port i }
-
-pub same_port-refl : (p : PortRef) → same_port p p ≡ true
-same_port-refl p = and_from (eqb p.node p.node) (eqb p.port p.port) (eq-eqb p.node p.node refl) (eq-eqb p.port p.port refl)
 
 pub apart_back : (p q : PortRef) → same_port p q ≡ false → same_port q p ≡ false
 apart_back p q apart = false_from_ne_true (same_port q p) (λ same.

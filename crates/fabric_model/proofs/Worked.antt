@@ -11,7 +11,7 @@ use Rattle.fabric_model.specs.Laws.Holding.{Place, Received, Waiting, Over, Hold
 use Rattle.fabric_model.specs.Laws.Leaving.{Once, Unchanged}
 use Rattle.fabric_model.specs.Laws.Freeing.{FreedAfterHeld}
 use Rattle.fabric_model.specs.Laws.Flows.{InOrder}
-use Rattle.fabric_model.specs.Laws.Examples.{packet, other, pair, pair_steps, first, held_once, kept_too, left_twice, left_as_other, freed_too_early, fork, overtaking}
+use Rattle.fabric_model.specs.Laws.Examples.{packet, other, pair, pair_steps, first, held_once, kept_too, left_twice, twins, left_both, left_as_other, freed_too_early, fork, overtaking}
 
 -- the packets are in their link form
 test_packet : passes packet ≡ true
@@ -47,6 +47,9 @@ kept_too_breaks holding = go (holding.placed 0 (omega arith))
 
 pub left_twice_breaks : Once pair left_twice → ⊥
 left_twice_breaks once = omega (arith, once.each)
+
+pub left_both_breaks : Once twins left_both → ⊥
+left_both_breaks once = omega (arith, once.never_twice 0)
 
 pub left_as_other_breaks : Unchanged pair left_as_other → ⊥
 left_as_other_breaks unchanged = absurd (cc unchanged.shown)

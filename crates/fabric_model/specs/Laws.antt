@@ -13,3 +13,5 @@ pub mod Forms
 pub mod Examples
 pub mod Switches
 pub mod Lawful
+pub mod Nodes
+pub mod Stock

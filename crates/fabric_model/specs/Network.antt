@@ -3,7 +3,10 @@ use Rattle.std.specs.Prelude.{◌≡◌, ℕ, zero, suc, ◌+◌, ◌-◌, Bool,
 use Rattle.rio_packets.specs.Fields.{prio_of}
 use Rattle.maint_registers.specs.Devices.{Device, is_switch}
 use Rattle.maint_registers.specs.Routes.{next_port}
+pub use Rattle.maint_registers.specs.Changes.{with_device}
 use Rattle.fabric_script.specs.declared.ports.PortRef.{PortRef}
+pub use Rattle.fabric_script.specs.Known.{same_port}
+pub use Rattle.fabric_script.specs.Peers.{peer_in}
 
 -- A packet in the network: the number that it was given, the port where it was taken and what it
 -- was then, and what it is now. A packet is the list of its bytes.
@@ -20,8 +23,8 @@ Lanes = PortRef → ℕ → List Item
 -- For each port and priority, the packets that it has received and those that wait there to be
 -- sent; for each port, the packets that the next hop holds and it has not freed yet, and how many
 -- receive buffers it has. Each node has the registers of its device, which say whether it is an
--- endpoint or a switch. The links are pairs of ports, in the order of their lines. `given` counts the
--- numbers that were given out.
+-- endpoint or a switch. The links are pairs of ports, in the order of their lines. `given` counts
+-- the numbers that were given out.
 pub record Network : Type 0 where
   pub received : Lanes
   pub waiting : Lanes
@@ -43,9 +46,6 @@ bare = record {
   given = 0;
 }
 
-abbrev pub same_port : PortRef → PortRef → Bool
-same_port p q = (p.node == q.node) && (p.port == q.port)
-
 -- the one port of an endpoint
 abbrev pub port_of : ℕ → PortRef
 port_of n = record { node = n; port = 0 }
@@ -57,12 +57,6 @@ with_lane lanes p r items q s = if same_port q p && (s == r) then items else lan
 -- the same for what is lent
 abbrev pub with_lent : (PortRef → List Item) → PortRef → List Item → PortRef → List Item
 with_lent lent p items q = if same_port q p then items else lent q
-
--- the other end of a port's link
-abbrev pub peer_in : List (PortRef × PortRef) → PortRef → Option PortRef
-peer_in [] p = None
-peer_in (link ∷ links) p = if same_port link.0 p then Some link.1
-    else (if same_port link.1 p then Some link.0 else peer_in links p)
 
 -- the link of a port, its first end first
 abbrev pub link_in : List (PortRef × PortRef) → PortRef → Option (PortRef × PortRef)
@@ -123,9 +117,3 @@ abbrev pub route_at : Network → Option ℕ → ℕ → Option ℕ
 route_at net dest n =
     option_and_then (λ d. option_and_then (λ device. next_port device d) (slice_get net.registers n))
     dest
-
--- the registers, with those of one node changed
-abbrev pub with_device : List Device → ℕ → (Device → Device) → List Device
-with_device [] n change = []
-with_device (device ∷ devices) zero change = change device ∷ devices
-with_device (device ∷ devices) (suc n) change = device ∷ with_device devices n change

@@ -1,5 +1,5 @@
--- What a device does with a packet that is first in one of its lists: where a switch sends it, and what
--- the registers answer to a request.
+-- What a device does with a packet that is first in one of its lists: where a switch sends it, and
+-- what the registers answer to a request.
 use Rattle.std.specs.Prelude.{ℕ, List, slice_get, Option, Some, None, option_map, option_and_then, if◌then◌else◌}
 use Rattle.maint_registers.specs.Devices.{Device, is_switch}
 use Rattle.maint_packets.specs.declared.next_hop.Next.{Next}

@@ -21,8 +21,8 @@ pub data NodeStep : Type 0 where
   Take : ℕ → List ℕ → NodeStep
   Leave : ℕ → List ℕ → NodeStep
 
--- What a device does with a packet that one of its ports has received: a switch moves it to a port, or
--- drops it; the registers answer it with another packet.
+-- What a device does with a packet that one of its ports has received: a switch moves it to a port,
+-- or drops it; the registers answer it with another packet.
 pub data DeviceStep : Type 0 where
   Move : PortRef → PortRef → List ℕ → DeviceStep
   Drop : PortRef → List ℕ → DeviceStep
@@ -37,7 +37,8 @@ pub data Step : Type 0 where
 abbrev pub IsFirst : Network → PortRef → List ℕ → Type 0
 IsFirst net p packet = first_packet (net.received p (prio_of packet)) ≡ Some packet
 
--- the registers of a packet's node answer it: those of an endpoint, or of a switch that sends it to them
+-- the registers of a packet's node answer it: those of an endpoint, or of a switch that sends it to
+-- them
 abbrev pub IsForRegisters : Network → PortRef → List ℕ → Type 0
 IsForRegisters net p packet =
     IsEndpoint net p.node ⊎ (next_at net p.node packet ≡ Some RegisterUnit)
@@ -63,8 +64,8 @@ Needs net (ByDevice (Move p q packet)) = (q.node ≡ p.node) × IsFirst net p pa
 -- a switch sends it nowhere
 Needs net (ByDevice (Drop p packet)) =
     IsFirst net p packet × (next_at net p.node packet ≡ Some Nowhere)
--- it is a request for the registers, which give this packet, in its link form, where the port has room to
--- send it
+-- it is a request for the registers, which give this packet, in its link form, where the port has
+-- room to send it
 Needs net (ByDevice (Answer p packet response)) = IsFirst net p packet
     × IsForRegisters net p packet × (response_at net p packet ≡ Some response) × Passes response
     × IsTrue (room_out net p (prio_of response))

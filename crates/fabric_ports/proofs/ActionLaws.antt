@@ -14,6 +14,7 @@ use Rattle.link_law.specs.declared.answers.LinkEnd.{LinkEnd}
 use Rattle.link_law.specs.declared.answers.LinkEnd.TheVariants.{Undetected, Failed, NoMemory}
 use Rattle.fabric_script.specs.declared.ports.PortRef.{PortRef}
 use Rattle.fabric_model.specs.Network.{Network}
+use Rattle.fabric_trace.specs.Known.{Seen}
 use Rattle.fabric_trace.specs.Lines.{TraceLine}
 use Rattle.fabric_trace.specs.Text.{trace_text}
 use Rattle.trace_lines.specs.Watching.{WritesNotes}
@@ -50,22 +51,22 @@ met {fabric} {port} {place} {cable} p is ports = record {
   ports_are = ports;
 }
 
-met_known : {net : Network} {lines : List TraceLine} {fabric : Fabric} {port : PortRef}
+met_known : {from : Seen} {lines : List TraceLine} {fabric : Fabric} {port : PortRef}
     {place : LinkPlace} {cable : Cable} {ports : List PortState} (x y : PortState)
     → IsMet fabric port place cable ports → slice_get ports place.a ≡ Some x
-    → slice_get ports place.b ≡ Some y → Stands net lines fabric
-    → IsKnown net lines fabric port place cable x y
-met_known {net} {lines} {fabric} {port} {place} {cable} x y m at_x at_y stands =
+    → slice_get ports place.b ≡ Some y → Stands from lines fabric
+    → IsKnown from lines fabric port place cable x y
+met_known {from} {lines} {fabric} {port} {place} {cable} x y m at_x at_y stands =
     let first = subst (λ (l : List PortState). slice_get l place.a ≡ Some x) m.ports_are at_x in
     let second = subst (λ (l : List PortState). slice_get l place.b ≡ Some y) m.ports_are at_y in
-    subst (λ (c : Cable). IsKnown net lines fabric port place c x y) (sym m.cable_is)
+    subst (λ (c : Cable). IsKnown from lines fabric port place c x y) (sym m.cable_is)
     (known x y stands m.place_is first second)
 
 -- the link is sound before
-pub met_sound : {net : Network} {lines : List TraceLine} {fabric : Fabric} {port : PortRef}
+pub met_sound : {from : Seen} {lines : List TraceLine} {fabric : Fabric} {port : PortRef}
     {place : LinkPlace} {cable : Cable} {ports : List PortState} (x y : PortState)
     → IsMet fabric port place cable ports → slice_get ports place.a ≡ Some x
-    → slice_get ports place.b ≡ Some y → Stands net lines fabric
+    → slice_get ports place.b ≡ Some y → Stands from lines fabric
     → IsSoundLink (link cable.link x y)
 met_sound x y m at_x at_y stands = known_sound (met_known x y m at_x at_y stands)
 
@@ -127,10 +128,10 @@ module _ {K : Type 0} (written : K → Option (List ℕ)) (faults : K → ℕ) (
   pub act_done : (answer : Acted) → result ≡ Ok answer → (outbox : Outbox K)
       → Writes written faults after.outbox.now outbox
       (trace_text before.names.now (lack_lines answer))
-      → (net : Network) (lines : List TraceLine) → Stands net lines fabric
-      → Blocked (line_for port action) before.names.now written faults before.outbox.now outbox net
+      → (from : Seen) (lines : List TraceLine) → Stands from lines fabric
+      → Blocked (line_for port action) before.names.now written faults before.outbox.now outbox from
       lines (fabric_with fabric place.cable cable wires next)
-  act_done answer is outbox lacks net lines stands =
+  act_done answer is outbox lacks from lines stands =
       let does = subst
       (λ r. Says written faults place action cable before r wires after two.first two.second
       two.next_first two.next_second) is two.holds in
@@ -140,23 +141,23 @@ module _ {K : Type 0} (written : K → Option (List ℕ)) (faults : K → ℕ) (
       link_blocked before.names.now action wires two.next_first two.next_second before after outbox
       answer k does.0 does.1 refl is_a is_b lacks changed
 
-  pub act_ended : (end : LinkEnd) → result ≡ Err end → (net : Network) (lines : List TraceLine)
-      → Stands net lines fabric
+  pub act_ended : (end : LinkEnd) → result ≡ Err end → (from : Seen) (lines : List TraceLine)
+      → Stands from lines fabric
       → BlockEnds (line_for port action) before.names.now written faults before.outbox.now
-      after.outbox.now net lines (event_end cable.a cable.b end)
-  act_ended (Undetected side e) is net lines stands =
+      after.outbox.now from lines (event_end cable.a cable.b end)
+  act_ended (Undetected side e) is from lines stands =
       let does = subst
       (λ r. Says written faults place action cable before r wires after two.first two.second
       two.next_first two.next_second) is two.holds in
       let k = met_known two.first two.second m two.at_first two.at_second stands in
       link_exposed before.names.now action side e before after k does.0 refl is_a is_b
-  act_ended Failed is net lines stands =
+  act_ended Failed is from lines stands =
       let does = subst
       (λ r. Says written faults place action cable before r wires after two.first two.second
       two.next_first two.next_second) is two.holds in
       let k = met_known two.first two.second m two.at_first two.at_second stands in
       link_cut before.names.now action before after k does.0 refl is_a is_b
-  act_ended NoMemory is net lines stands =
+  act_ended NoMemory is from lines stands =
       let does = subst
       (λ r. Says written faults place action cable before r wires after two.first two.second
       two.next_first two.next_second) is two.holds in
@@ -181,13 +182,13 @@ module _ {K : Type 0} (written : K → Option (List ℕ)) (faults : K → ℕ) (
 -- ---- the outbox behind the call
 
 pub ended_by : {K : Type 0} (written : K → Option (List ℕ)) (faults : K → ℕ) (line : Line)
-    (names : List (List ℕ)) (old new next : Outbox K) (net : Network) (lines : List TraceLine)
+    (names : List (List ℕ)) (old new next : Outbox K) (from : Seen) (lines : List TraceLine)
     (end why : EventEnd)
-    → next ≡ new → why ≡ end → BlockEnds line names written faults old new net lines end
-    → BlockEnds line names written faults old next net lines why
-ended_by written faults line names old new next net lines end why same is blocked =
-    subst (λ o. BlockEnds line names written faults old o net lines why) (sym same)
-    (subst (λ w. BlockEnds line names written faults old new net lines w) (sym is) blocked)
+    → next ≡ new → why ≡ end → BlockEnds line names written faults old new from lines end
+    → BlockEnds line names written faults old next from lines why
+ended_by written faults line names old new next from lines end why same is blocked =
+    subst (λ o. BlockEnds line names written faults old o from lines why) (sym same)
+    (subst (λ w. BlockEnds line names written faults old new from lines w) (sym is) blocked)
 
 pub written_by : {K : Type 0} {written : K → Option (List ℕ)} {faults : K → ℕ} {old new : Outbox K}
     {text : List ℕ} (next : Outbox K) → next ≡ new → Writes written faults old new text

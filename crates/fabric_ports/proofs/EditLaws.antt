@@ -165,13 +165,13 @@ links_changed fabric k cable wires x y at_x at_y = record {
 }
 
 -- what is known of a link whose ports stand where they are shown
-edit_known : {net : Network} {lines : List TraceLine} {fabric : Fabric} {port : PortRef}
-    {place : LinkPlace} → Stands net lines fabric → (p : IsPlaceOf fabric port place)
-    → IsKnown net lines fabric port place p.is.cable
-    (port_at (seen (begins net) lines) p.is.cable.a)
-    (port_at (seen (begins net) lines) p.is.cable.b)
-edit_known {net} {lines} {fabric} {port} {place} stands p =
-    let s = seen (begins net) lines in
+edit_known : {from : Seen} {lines : List TraceLine} {fabric : Fabric} {port : PortRef}
+    {place : LinkPlace} → Stands from lines fabric → (p : IsPlaceOf fabric port place)
+    → IsKnown from lines fabric port place p.is.cable
+    (port_at (seen from lines) p.is.cable.a)
+    (port_at (seen from lines) p.is.cable.b)
+edit_known {from} {lines} {fabric} {port} {place} stands p =
+    let s = seen from lines in
     let d = p.is.cable in
     let shown = cable_shown place.cable d stands p.is.at in
     known (port_at s d.a) (port_at s d.b) stands p (ap (slice_get fabric.ports.items) p.first
@@ -188,12 +188,12 @@ pub edit_done : {K : Type 0} (written : K → Option (List ℕ)) (faults : K →
     → ((names : List (List ℕ))
     → Writes written faults old new (trace_text names (lack_lines (acted answer))))
     → (names : List (List ℕ)) (line : Line) → edit_of line ≡ Some (port, edit)
-    → (net : Network) (lines : List TraceLine) → Stands net lines fabric
-    → Blocked line names written faults old new net lines
+    → (from : Seen) (lines : List TraceLine) → Stands from lines fabric
+    → Blocked line names written faults old new from lines
     (fabric_edited fabric place.cable cable wires)
 edit_done written faults fabric port place p cable met edit wires becomes answer answers old new
-    writes names line is net lines stands =
-    let s = seen (begins net) lines in
+    writes names line is from lines stands =
+    let s = seen from lines in
     let d = p.is.cable in
     let same : cable ≡ d = cable_is fabric.cables.items port place.cable place.side p.is cable
     met in
@@ -228,25 +228,25 @@ edit_done written faults fabric port place p cable met edit wires becomes answer
     let shows = changed_shows fabric new_fabric s t place.cable d wires x y stands.shows k.at
     changes k.good.proper others refl there in
     let is_block = edit_block s line port edit block is block_is in
-    subst (λ (c : Cable). Blocked line names written faults old new net lines
+    subst (λ (c : Cable). Blocked line names written faults old new from lines
     (fabric_edited fabric place.cable c wires)) (sym same)
     (record {
       block = block;
       prints = writes names;
       is = is_block;
-      stands = stands_on net lines fabric new_fabric line block stands is_block
+      stands = stands_on from lines fabric new_fabric line block stands is_block
           (ap (λ (z : Seen). z.unfaithful) begun ∙ stands.sent)
           (subst (ShowsFabric new_fabric) (sym begun) shows);
     })
 
 -- nothing of it is written
 pub edit_cut : {K : Type 0} (written : K → Option (List ℕ)) (faults : K → ℕ) (port : PortRef)
-    (edit : Edit) (outbox : Outbox K) (names : List (List ℕ)) (line : Line) (net : Network)
+    (edit : Edit) (outbox : Outbox K) (names : List (List ℕ)) (line : Line) (from : Seen)
     (lines : List TraceLine)
     → edit_of line ≡ Some (port, edit)
-    → BlockedShort line names written faults outbox outbox net lines
-edit_cut written faults port edit outbox names line net lines is =
-    let s = seen (begins net) lines in
+    → BlockedShort line names written faults outbox outbox from lines
+edit_cut written faults port edit outbox names line from lines is =
+    let s = seen from lines in
     record {
       block = edits s (Some (port, edit));
       front = [];

@@ -17,6 +17,7 @@ use Rattle.fabric_ports.specs.declared.fabric.Fabric.{Fabric}
 use Rattle.fabric_ports.proofs.Cables.{own_apart, seen_links}
 use Rattle.fabric_ports.proofs.PlaceLaws.{places_apart}
 use Rattle.fabric_trace.specs.Fold.{seen}
+use Rattle.fabric_trace.specs.Known.{Seen}
 use Rattle.fabric_trace.specs.Lines.{TraceLine}
 use Rattle.fabric_trace.specs.Runs.{begins}
 
@@ -82,9 +83,9 @@ no_peer (link ∷ links) p none =
     by_ends false true none later = absurd cc
     by_ends false false none later = later none
 
-pub links_stand : {net : Network} {lines : List TraceLine} {fabric : Fabric}
-    → Stands net lines fabric → map ends_of fabric.cables.items ≡ net.links
-links_stand {net} {lines} {fabric} stands = stands.shows.links ∙ seen_links (begins net) lines
+pub links_stand : {from : Seen} {lines : List TraceLine} {fabric : Fabric}
+    → Stands from lines fabric → map ends_of fabric.cables.items ≡ from.network.links
+links_stand {from} {lines} {fabric} stands = stands.shows.links ∙ seen_links from lines
 
 -- a port with a link has one that is found
 pub linked_found : (fabric : Fabric) (port : PortRef) → IsLinked fabric port
@@ -93,30 +94,30 @@ linked_found fabric port is none =
     let peer = no_peer (map ends_of fabric.cables.items) port none in
     let same = ap (λ (l : List (PortRef × PortRef)). peer_in l port)
     (sym (links_stand is.stands)) in
-    none_some (peer_in is.net.links port) is.linked (same ∙ peer)
+    none_some (peer_in is.from.network.links port) is.linked (same ∙ peer)
   where
     none_some : {X : Type 0} (o : Option X) → IsSome o → o ≡ None → ⊥
     none_some None is none = absurd cc
     none_some (Some x) is none = absurd cc
 
 -- what a fabric shows of one of its links
-pub cable_shown : {net : Network} {lines : List TraceLine} {fabric : Fabric} (k : ℕ) (cable : Cable)
-    → Stands net lines fabric → slice_get fabric.cables.items k ≡ Some cable
-    → ShowsCable fabric.devices.items (seen (begins net) lines) cable
-cable_shown {net} {lines} {fabric} k cable stands at =
-    subst (ShowsCable fabric.devices.items (seen (begins net) lines))
+pub cable_shown : {from : Seen} {lines : List TraceLine} {fabric : Fabric} (k : ℕ) (cable : Cable)
+    → Stands from lines fabric → slice_get fabric.cables.items k ≡ Some cable
+    → ShowsCable fabric.devices.items (seen from lines) cable
+cable_shown {from} {lines} {fabric} k cable stands at =
+    subst (ShowsCable fabric.devices.items (seen from lines))
     (get_or_from_slice_get fabric.cables.items k cable cable at)
     (stands.shows.cables k cable (slice_get_within fabric.cables.items k cable at))
 
-pub links_proper : {net : Network} {lines : List TraceLine} {fabric : Fabric}
-    → Stands net lines fabric → AreProper (map ends_of fabric.cables.items)
-links_proper stands = subst AreProper (sym (links_stand stands)) stands.set_up.proper
+pub links_proper : {from : Seen} {lines : List TraceLine} {fabric : Fabric}
+    → Stands from lines fabric → AreProper (map ends_of fabric.cables.items)
+links_proper stands = subst AreProper (sym (links_stand stands)) stands.ready.proper
 
 -- its ports have two places
-pub ends_apart : {net : Network} {lines : List TraceLine} {fabric : Fabric} (k : ℕ) (cable : Cable)
-    → Stands net lines fabric → slice_get fabric.cables.items k ≡ Some cable
+pub ends_apart : {from : Seen} {lines : List TraceLine} {fabric : Fabric} (k : ℕ) (cable : Cable)
+    → Stands from lines fabric → slice_get fabric.cables.items k ≡ Some cable
     → place_of fabric.firsts.items cable.a ≢ place_of fabric.firsts.items cable.b
-ends_apart {net} {lines} {fabric} k cable stands at =
+ends_apart {from} {lines} {fabric} k cable stands at =
     let shown = cable_shown k cable stands at in
     places_apart fabric.devices.items fabric.firsts.items cable.a cable.b stands.shows.firsts
     shown.port_a shown.port_b (own_apart fabric.cables.items k cable (links_proper stands) at)

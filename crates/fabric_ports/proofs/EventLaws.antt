@@ -25,6 +25,7 @@ use Rattle.fabric_ports.specs.declared.answers.Happened.TheVariants.{Other}
 use Rattle.fabric_ports.specs.Blocked.{Blocked, BlockEnds}
 use Rattle.fabric_ports.specs.Ends.{IsLinked}
 use Rattle.fabric_ports.specs.declared.fabric.Fabric.{Fabric}
+use Rattle.fabric_trace.proofs.Unique.{block_one}
 use Rattle.fabric_ports.specs.Events.{body_in, taken, happened, other_of, Did, Evented, EventEnds, IsAtLink}
 use Rattle.fabric_ports.specs.Places.{IsEndpointAt, IsSwitchAt}
 use Rattle.fabric_ports.specs.Showing.{ShowsFabric}
@@ -75,24 +76,25 @@ base_is fabric s node place device shows at same value =
 -- an event that edits no wire, by the lines of its block
 pub evented : (line : Line) (names : List (List ℕ)) {K : Type 0} (written : K → Option (List ℕ))
     (faults : K → ℕ) (b b2 b3 : Outbox K)
-    (net : Network) (lines : List TraceLine) (old new : Fabric) (told : Happened)
+    (from : Seen) (lines : List TraceLine) (old new : Fabric) (told : Happened)
     (Is : List TraceLine → Type 0)
-    → edited_by (seen (begins net) lines) (edit_of line) ≡ seen (begins net) lines
-    → Stands net lines old
+    → edited_by (seen from lines) (edit_of line) ≡ seen from lines
+    → Stands from lines old
     → Writes written faults b b2 (trace_line_text names (Begun line) ++ 10 ∷ [])
-    → Did Is names written faults b2 b3 (seen (begins net) lines) new
-    → ((block : List TraceLine) → Is block → IsBlock (seen (begins net) lines) line block
+    → Did Is names written faults b2 b3 (seen from lines) new
+    → ((block : List TraceLine) → Is block → IsBlock (seen from lines) line block
     × (told ≡ happened line block))
-    → Evented line names written faults b b3 net lines new told
-evented line names written faults b b2 b3 net lines old new told Is same stands begun did is =
-    let s = seen (begins net) lines in
+    → Evented line names written faults b b3 from lines new told
+evented line names written faults b b2 b3 from lines old new told Is same stands begun did is =
+    let s = seen from lines in
     let all = is did.block did.is in
     record {
       block = did.block;
       prints = Writes-then (trace_line_text names (Begun line) ++ 10 ∷ [])
           (trace_text names did.block) begun did.prints;
       is = all.0;
-      stands = stands_on net lines old new line did.block stands all.0
+      only = λ other own. block_one line s other did.block own all.0;
+      stands = stands_on from lines old new line did.block stands all.0
           (subst (λ (t : Seen). (seen t did.block).unfaithful ≡ None) (sym same) did.sent)
           (subst (λ (t : Seen). ShowsFabric new (seen t did.block)) (sym same) did.shows);
       answered = all.1;
@@ -155,46 +157,49 @@ pub linked_done : (line : Line) (names : List (List ℕ)) {K : Type 0} (written 
     (old new : Fabric) (acted : Result (Unit {0}) EventEnd) (result : Result Happened EventEnd)
     → ((block : List TraceLine) → Other ≡ happened line block)
     → Writes written faults b b2 (trace_line_text names (Begun line) ++ 10 ∷ [])
-    → OnOk acted ((net : Network) (lines : List TraceLine) → Stands net lines old
-    → Blocked line names written faults b2 b3 net lines new)
+    → OnOk acted ((from : Seen) (lines : List TraceLine) → Stands from lines old
+    → Blocked line names written faults b2 b3 from lines new)
     → result ≡ other_of acted
-    → IfOk result (λ answer. (net : Network) (lines : List TraceLine) → Stands net lines old
-    → Evented line names written faults b b3 net lines new answer)
+    → IfOk result (λ answer. (from : Seen) (lines : List TraceLine) → Stands from lines old
+    → Evented line names written faults b b3 from lines new answer)
 linked_done line names {K} written faults b b2 b3 old new (Ok done) result other begun blocked is =
-    subst (λ r. IfOk r (λ answer. (net : Network) (lines : List TraceLine) → Stands net lines old
-    → Evented line names written faults b b3 net lines new answer)) (sym is)
-    (λ net lines stands. (let all = blocked net lines stands in record {
+    subst (λ r. IfOk r (λ answer. (from : Seen) (lines : List TraceLine) → Stands from lines old
+    → Evented line names written faults b b3 from lines new answer)) (sym is)
+    (λ from lines stands. (let all = blocked from lines stands in record {
       block = all.block;
       prints = Writes-then (trace_line_text names (Begun line) ++ 10 ∷ [])
           (trace_text names all.block) begun all.prints;
       is = all.is;
+      only = λ other own. block_one line (seen from lines) other all.block own all.is;
       stands = all.stands;
       answered = other all.block;
     }))
 linked_done line names written faults b b2 b3 old new (Err end) result other begun blocked is =
-    subst (λ r. IfOk r (λ answer. (net : Network) (lines : List TraceLine) → Stands net lines old
-    → Evented line names written faults b b3 net lines new answer)) (sym is) tt
+    subst (λ r. IfOk r (λ answer. (from : Seen) (lines : List TraceLine) → Stands from lines old
+    → Evented line names written faults b b3 from lines new answer)) (sym is) tt
 
 ends_on : (line : Line) (names : List (List ℕ)) {K : Type 0} (written : K → Option (List ℕ))
     (faults : K → ℕ) (b b2 b3 : Outbox K)
-    (net : Network) (lines : List TraceLine) (end : EventEnd)
+    (from : Seen) (lines : List TraceLine) (end : EventEnd)
     → Writes written faults b b2 (trace_line_text names (Begun line) ++ 10 ∷ [])
-    → BlockEnds line names written faults b2 b3 net lines end
-    → EventEnds line names written faults b b3 net lines end
-ends_on line names written faults b b2 b3 net lines (Undetected port event) begun all = record {
+    → BlockEnds line names written faults b2 b3 from lines end
+    → EventEnds line names written faults b b3 from lines end
+ends_on line names written faults b b2 b3 from lines (Undetected port event) begun all = record {
   block = all.block;
   prints = Writes-then (trace_line_text names (Begun line) ++ 10 ∷ []) (trace_text names all.block)
       begun all.prints;
   is = all.is;
+  only = λ other own. block_one line (seen from lines) other all.block own all.is;
   found = all.found;
 }
-ends_on line names written faults b b2 b3 net lines NoMemory begun all = record {
+ends_on line names written faults b b2 b3 from lines NoMemory begun all = record {
   block = all.block;
   front = Begun line ∷ all.front;
   rest = all.rest;
   prints = Writes-then (trace_line_text names (Begun line) ++ 10 ∷ []) (trace_text names all.front)
       begun all.prints;
   is = all.is;
+  only = λ other own. block_one line (seen from lines) other all.block own all.is;
   whole = ap (λ (l : List TraceLine). Begun line ∷ l) all.whole;
 }
 
@@ -202,30 +207,30 @@ pub linked_ended : (line : Line) (names : List (List ℕ)) {K : Type 0}
     (written : K → Option (List ℕ)) (faults : K → ℕ) (b b2 b3 : Outbox K)
     (old : Fabric) (acted : Result (Unit {0}) EventEnd) (result : Result Happened EventEnd)
     → Writes written faults b b2 (trace_line_text names (Begun line) ++ 10 ∷ [])
-    → IfErr acted (λ end. (net : Network) (lines : List TraceLine) → Stands net lines old
-    → BlockEnds line names written faults b2 b3 net lines end)
+    → IfErr acted (λ end. (from : Seen) (lines : List TraceLine) → Stands from lines old
+    → BlockEnds line names written faults b2 b3 from lines end)
     → result ≡ other_of acted
-    → IfErr result (λ end. (net : Network) (lines : List TraceLine) → Stands net lines old
-    → EventEnds line names written faults b b3 net lines end)
+    → IfErr result (λ end. (from : Seen) (lines : List TraceLine) → Stands from lines old
+    → EventEnds line names written faults b b3 from lines end)
 linked_ended line names written faults b b2 b3 old (Ok done) result begun ends is =
-    subst (λ r. IfErr r (λ end. (net : Network) (lines : List TraceLine) → Stands net lines old
-    → EventEnds line names written faults b b3 net lines end)) (sym is) tt
+    subst (λ r. IfErr r (λ end. (from : Seen) (lines : List TraceLine) → Stands from lines old
+    → EventEnds line names written faults b b3 from lines end)) (sym is) tt
 linked_ended line names written faults b b2 b3 old (Err end) result begun ends is =
-    subst (λ r. IfErr r (λ end. (net : Network) (lines : List TraceLine) → Stands net lines old
-    → EventEnds line names written faults b b3 net lines end)) (sym is)
-    (λ net lines stands. ends_on line names written faults b b2 b3 net lines end begun
-    (ends net lines stands))
+    subst (λ r. IfErr r (λ end. (from : Seen) (lines : List TraceLine) → Stands from lines old
+    → EventEnds line names written faults b b3 from lines end)) (sym is)
+    (λ from lines stands. ends_on line names written faults b b2 b3 from lines end begun
+    (ends from lines stands))
 
 -- a port that has a link now had one when the fabric was made
-pub is_linked : (fabric : Fabric) (net : Network) (lines : List TraceLine) (port : PortRef)
-    → Stands net lines fabric → HasLink (seen (begins net) lines).network port
+pub is_linked : (fabric : Fabric) (from : Seen) (lines : List TraceLine) (port : PortRef)
+    → Stands from lines fabric → HasLink (seen from lines).network port
     → IsLinked fabric port
-is_linked fabric net lines port stands has = record {
-  net = net;
+is_linked fabric from lines port stands has = record {
+  from = from;
   lines = lines;
   stands = stands;
   linked = subst (λ (links : List (PortRef × PortRef)). IsSome (peer_in links port))
-      (seen_links (begins net) lines) has;
+      (seen_links from lines) has;
 }
 
 -- an event of no other kind is one at a link

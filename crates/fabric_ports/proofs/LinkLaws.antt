@@ -23,6 +23,7 @@ use Rattle.fabric_trace.specs.Blocks.{port_at_side, lines_of, IsBlock}
 use Rattle.fabric_trace.specs.Runs.{begins}
 use Rattle.fabric_trace.specs.Text.{trace_text}
 use Rattle.fabric_trace.proofs.Folding.{seen-append, lines-append}
+use Rattle.fabric_trace.proofs.Existing.{good_of}
 use Rattle.fabric_trace.proofs.Keeping.{IsGood, made_keeps}
 use Rattle.fabric_trace.proofs.Making.{Reaches}
 use Rattle.fabric_trace.proofs.Running.{acts_reach}
@@ -53,27 +54,27 @@ some_is None x y p q = absurd cc
 some_is (Some z) x y p q = cc
 
 -- what is known of a link that stands at this place
-pub record IsKnown (net : Network) (lines : List TraceLine) (fabric : Fabric) (port : PortRef)
+pub record IsKnown (from : Seen) (lines : List TraceLine) (fabric : Fabric) (port : PortRef)
     (place : LinkPlace) (d : Cable) (x y : PortState) : Type 0 where
-  pub stands : Stands net lines fabric
+  pub stands : Stands from lines fabric
   pub at : slice_get fabric.cables.items place.cable ≡ Some d
-  pub found : link_in (seen (begins net) lines).network.links port ≡ Some (d.a, d.b)
+  pub found : link_in (seen from lines).network.links port ≡ Some (d.a, d.b)
   pub end : port ≡ port_at_side d.a d.b place.side
   pub first : place.a ≡ place_of fabric.firsts.items d.a
   pub second : place.b ≡ place_of fabric.firsts.items d.b
-  pub good : IsGood (seen (begins net) lines)
-  pub peers : ArePeers (seen (begins net) lines).network.links d.a d.b
-  pub shown : link d.link x y ≡ link_at (seen (begins net) lines) d.a d.b
+  pub good : IsGood (seen from lines)
+  pub peers : ArePeers (seen from lines).network.links d.a d.b
+  pub shown : link d.link x y ≡ link_at (seen from lines) d.a d.b
 
-pub known : {net : Network} {lines : List TraceLine} {fabric : Fabric} {port : PortRef}
-    {place : LinkPlace} (x y : PortState) → Stands net lines fabric
+pub known : {from : Seen} {lines : List TraceLine} {fabric : Fabric} {port : PortRef}
+    {place : LinkPlace} (x y : PortState) → Stands from lines fabric
     → (p : IsPlaceOf fabric port place)
     → slice_get fabric.ports.items place.a ≡ Some x → slice_get fabric.ports.items place.b ≡ Some y
-    → IsKnown net lines fabric port place p.is.cable x y
-known {net} {lines} {fabric} {port} {place} x y stands p at_x at_y =
-    let s = seen (begins net) lines in
+    → IsKnown from lines fabric port place p.is.cable x y
+known {from} {lines} {fabric} {port} {place} x y stands p at_x at_y =
+    let s = seen from lines in
     let d = p.is.cable in
-    let good = (made_keeps (good_start net stands.set_up) stands.made).good in
+    let good = (made_keeps (good_of stands.ready) stands.made).good in
     let found = subst (λ (l : List (PortRef × PortRef)). link_in l port ≡ Some (d.a, d.b))
     stands.shows.links p.is.found in
     let shown = cable_shown place.cable d stands p.is.at in
@@ -94,22 +95,22 @@ known {net} {lines} {fabric} {port} {place} x y stands p at_x at_y =
     }
 
 -- it is sound
-pub known_sound : {net : Network} {lines : List TraceLine} {fabric : Fabric} {port : PortRef}
-    {place : LinkPlace} {d : Cable} {x y : PortState} → IsKnown net lines fabric port place d x y
+pub known_sound : {from : Seen} {lines : List TraceLine} {fabric : Fabric} {port : PortRef}
+    {place : LinkPlace} {d : Cable} {x y : PortState} → IsKnown from lines fabric port place d x y
     → IsSoundLink (link d.link x y)
-known_sound {net} {lines} {d = d} k =
+known_sound {from} {lines} {d = d} k =
     subst IsSoundLink (sym k.shown) (k.good.links k.stands.sent d.a d.b k.peers.there).sound
 
 -- ---- what is done
 
-known_block : {net : Network} {lines : List TraceLine} {fabric : Fabric} {port : PortRef}
+known_block : {from : Seen} {lines : List TraceLine} {fabric : Fabric} {port : PortRef}
     {place : LinkPlace} {d : Cable} {x y : PortState} (action : Action) (all : List Act)
-    → IsKnown net lines fabric port place d x y
+    → IsKnown from lines fabric port place d x y
     → part_of place.side action (At (link d.link x y)) all
-    → IsBlock (seen (begins net) lines) (line_for port action)
+    → IsBlock (seen from lines) (line_for port action)
     (block_of d.a d.b (link d.link x y) all (answer_of place.side action (link d.link x y)))
-known_block {net} {lines} {fabric} {port} {place} {d} {x} {y} action all k part =
-    let s = seen (begins net) lines in
+known_block {from} {lines} {fabric} {port} {place} {d} {x} {y} action all k part =
+    let s = seen from lines in
     let found = subst (λ (p : PortRef). link_in s.network.links p ≡ Some (d.a, d.b)) k.end
     k.found in
     subst (λ (p : PortRef). IsBlock s (line_for p action)
@@ -120,29 +121,29 @@ known_block {net} {lines} {fabric} {port} {place} {d} {x} {y} action all k part 
     (block_is s d.a d.b place.side action all k.peers found
     (subst (λ (l : LinkState). part_of place.side action (At l) all) k.shown part)))
 
-known_reaches : {net : Network} {lines : List TraceLine} {fabric : Fabric} {port : PortRef}
+known_reaches : {from : Seen} {lines : List TraceLine} {fabric : Fabric} {port : PortRef}
     {place : LinkPlace} {d : Cable} {x y : PortState} (all : List Act)
-    → IsKnown net lines fabric port place d x y
-    → Reaches (seen (begins net) lines) d.a d.b
+    → IsKnown from lines fabric port place d x y
+    → Reaches (seen from lines) d.a d.b
     (lines_of d.a d.b (acts_notes (At (link d.link x y)) all)) (goes (At (link d.link x y)) all)
-known_reaches {net} {lines} {d = d} {x} {y} all k =
-    let s = seen (begins net) lines in
+known_reaches {from} {lines} {d = d} {x} {y} all k =
+    let s = seen from lines in
     subst (λ (l : LinkState). Reaches s d.a d.b (lines_of d.a d.b (acts_notes (At l) all))
     (goes (At l) all)) (sym k.shown)
     (acts_reach all s d.a d.b k.good k.stands.sent k.peers)
 
 -- the fabric stands for the lines with the block
-pub known_stands : {net : Network} {lines : List TraceLine} {fabric new : Fabric} {port : PortRef}
+pub known_stands : {from : Seen} {lines : List TraceLine} {fabric new : Fabric} {port : PortRef}
     {place : LinkPlace} {d : Cable} {x y : PortState} (action : Action) (all : List Act)
-    (wires : Wires) (x2 y2 : PortState) → IsKnown net lines fabric port place d x y
+    (wires : Wires) (x2 y2 : PortState) → IsKnown from lines fabric port place d x y
     → part_of place.side action (At (link d.link x y)) all
     → goes (At (link d.link x y)) all ≡ At (link wires x2 y2)
     → IsChanged fabric new place.cable d wires x2 y2
-    → Stands net (lines ++ Begun (line_for port action) ∷ block_of d.a d.b (link d.link x y) all
+    → Stands from (lines ++ Begun (line_for port action) ∷ block_of d.a d.b (link d.link x y) all
     (answer_of place.side action (link d.link x y))) new
-known_stands {net} {lines} {fabric} {new} {port} {place} {d} {x} {y} action all wires x2 y2 k part
+known_stands {from} {lines} {fabric} {new} {port} {place} {d} {x} {y} action all wires x2 y2 k part
     reached changed =
-    let s = seen (begins net) lines in
+    let s = seen from lines in
     let l = link d.link x y in
     let answer = answer_of place.side action l in
     let noted = lines_of d.a d.b (acts_notes (At l) all) in
@@ -154,26 +155,26 @@ known_stands {net} {lines} {fabric} {new} {port} {place} {d} {x} {y} action all 
     let there = reaches.there (link wires x2 y2) reached in
     let shows = changed_shows fabric new s t place.cable d wires x2 y2 k.stands.shows k.at changed
     k.good.proper reaches.others (notes_registers s d.a d.b (acts_notes (At l) all)) there.1 in
-    stands_on net lines fabric new (line_for port action) block k.stands
+    stands_on from lines fabric new (line_for port action) block k.stands
     (known_block action all k part)
     (ap (λ (z : Seen). z.unfaithful) same ∙ there.0)
     (subst (ShowsFabric new) (sym same) shows)
 
 -- the event that was not sent is known
-known_found : {net : Network} {lines : List TraceLine} {fabric : Fabric} {port : PortRef}
+known_found : {from : Seen} {lines : List TraceLine} {fabric : Fabric} {port : PortRef}
     {place : LinkPlace} {d : Cable} {x y : PortState} (action : Action) (all : List Act)
-    (side : Side) (e : Event) (answer : Acted) → IsKnown net lines fabric port place d x y
+    (side : Side) (e : Event) (answer : Acted) → IsKnown from lines fabric port place d x y
     → goes (At (link d.link x y)) all ≡ Found side e
-    → (seen (begins net)
+    → (seen from
     (lines ++ Begun (line_for port action) ∷ block_of d.a d.b (link d.link x y) all
     answer)).unfaithful ≡ Some (record { port = port_at_side d.a d.b side; event = e })
-known_found {net} {lines} {port = port} {d = d} {x} {y} action all side e answer k reached =
-    let s = seen (begins net) lines in
+known_found {from} {lines} {port = port} {d = d} {x} {y} action all side e answer k reached =
+    let s = seen from lines in
     let l = link d.link x y in
     let noted = lines_of d.a d.b (acts_notes (At l) all) in
     let block = block_of d.a d.b l all answer in
     ap (λ (z : Seen). z.unfaithful)
-    (seen-append (begins net) lines (Begun (line_for port action) ∷ block)
+    (seen-append from lines (Begun (line_for port action) ∷ block)
     ∙ begun_same s port action block ∙ lack_seen s noted answer)
     ∙ (known_reaches all k).found side e reached
 
@@ -196,20 +197,20 @@ block_written {written = written} {faults} names a b l all answer old mid new fi
     (Writes-then _ _ first second)
 
 -- the whole block was written
-pub link_blocked : {K : Type 0} {written : K → Option (List ℕ)} {faults : K → ℕ} {net : Network}
+pub link_blocked : {K : Type 0} {written : K → Option (List ℕ)} {faults : K → ℕ} {from : Seen}
     {lines : List TraceLine} {fabric new : Fabric} {port : PortRef} {place : LinkPlace} {d : Cable}
     {x y : PortState}
     (names : List (List ℕ)) (action : Action) (wires : Wires) (x2 y2 : PortState)
     (before after : LinkLines K) (outbox : Outbox K) (answer : Acted)
-    → IsKnown net lines fabric port place d x y
+    → IsKnown from lines fabric port place d x y
     → Comes (WritesNotes written faults) (part_of place.side action) (link d.link x y) before
     (At (link wires x2 y2)) after
     → answer ≡ answer_of place.side action (link d.link x y) → before.names.now ≡ names
     → before.a ≡ d.a → before.b ≡ d.b
     → Writes written faults after.outbox.now outbox (trace_text names (lack_lines answer))
     → IsChanged fabric new place.cable d wires x2 y2
-    → Blocked (line_for port action) names written faults before.outbox.now outbox net lines new
-link_blocked {K} {written} {faults} {net} {lines} {fabric} {new} {port} {place} {d} {x} {y} names
+    → Blocked (line_for port action) names written faults before.outbox.now outbox from lines new
+link_blocked {K} {written} {faults} {from} {lines} {fabric} {new} {port} {place} {d} {x} {y} names
     action wires x2 y2 before after outbox answer k comes answered named is_a is_b lacks changed =
     let l = link d.link x y in
     let notes = acts_notes (At l) comes.acts in
@@ -232,17 +233,17 @@ link_blocked {K} {written} {faults} {net} {lines} {fabric} {new} {port} {place} 
     }
 
 -- it was written up to an event that was not sent
-pub link_exposed : {K : Type 0} {written : K → Option (List ℕ)} {faults : K → ℕ} {net : Network}
+pub link_exposed : {K : Type 0} {written : K → Option (List ℕ)} {faults : K → ℕ} {from : Seen}
     {lines : List TraceLine} {fabric : Fabric} {port : PortRef} {place : LinkPlace} {d : Cable}
     {x y : PortState}
     (names : List (List ℕ)) (action : Action) (side : Side) (e : Event) (before after : LinkLines K)
-    → IsKnown net lines fabric port place d x y
+    → IsKnown from lines fabric port place d x y
     → Comes (WritesNotes written faults) (part_of place.side action) (link d.link x y) before
     (Found side e) after
     → before.names.now ≡ names → before.a ≡ d.a → before.b ≡ d.b
-    → BlockedAt (line_for port action) names written faults before.outbox.now after.outbox.now net
+    → BlockedAt (line_for port action) names written faults before.outbox.now after.outbox.now from
     lines (port_at_side d.a d.b side) e
-link_exposed {K} {written} {faults} {net} {lines} {fabric} {port} {place} {d} {x} {y} names action
+link_exposed {K} {written} {faults} {from} {lines} {fabric} {port} {place} {d} {x} {y} names action
     side e before after k comes named is_a is_b =
     let l = link d.link x y in
     let notes = acts_notes (At l) comes.acts in
@@ -259,7 +260,7 @@ link_exposed {K} {written} {faults} {net} {lines} {fabric} {port} {place} {d} {x
       block = block_of d.a d.b l comes.acts Done;
       prints = block_written names d.a d.b l comes.acts Done before.outbox.now after.outbox.now
           after.outbox.now told (Writes-nil written faults after.outbox.now);
-      is = subst (λ (z : Acted). IsBlock (seen (begins net) lines) (line_for port action)
+      is = subst (λ (z : Acted). IsBlock (seen from lines) (line_for port action)
           (block_of d.a d.b l comes.acts z)) full (known_block action comes.acts k comes.part);
       found = known_found action comes.acts side e Done k comes.reached;
     }
@@ -270,17 +271,17 @@ nothing_cut mid new [] cut = cut
 nothing_cut mid new (note ∷ rest) cut = cut
 
 -- a front of it was written
-pub link_cut : {K : Type 0} {written : K → Option (List ℕ)} {faults : K → ℕ} {net : Network}
+pub link_cut : {K : Type 0} {written : K → Option (List ℕ)} {faults : K → ℕ} {from : Seen}
     {lines : List TraceLine} {fabric : Fabric} {port : PortRef} {place : LinkPlace} {d : Cable}
     {x y : PortState}
     (names : List (List ℕ)) (action : Action) (before after : LinkLines K)
-    → IsKnown net lines fabric port place d x y
+    → IsKnown from lines fabric port place d x y
     → Stops (WritesNotes written faults) (λ watch note next. next ≡ watch)
     (part_of place.side action) (link d.link x y) before after
     → before.names.now ≡ names → before.a ≡ d.a → before.b ≡ d.b
     → BlockedShort (line_for port action) names written faults before.outbox.now after.outbox.now
-    net lines
-link_cut {K} {written} {faults} {net} {lines} {fabric} {port} {place} {d} {x} {y} names action
+    from lines
+link_cut {K} {written} {faults} {from} {lines} {fabric} {port} {place} {d} {x} {y} names action
     before after k stops named is_a is_b =
     let l = link d.link x y in
     let s = stops.stopped in

@@ -26,6 +26,9 @@ use Rattle.fabric_trace.specs.Parts.{Done}
 use Rattle.fabric_trace.specs.Runs.{bare, set_up, set_up_all, begins}
 use Rattle.fabric_trace.specs.SetUps.{MaySetUp, MaySetUpAll}
 use Rattle.fabric_trace.specs.Views.{packets_in}
+use Rattle.fabric_trace.proofs.Starting.{good_start}
+use Rattle.fabric_model.proofs.Forms.{empty_formed}
+use Rattle.fabric_trace.proofs.Existing.{ready_begun}
 use Rattle.fabric_trace.proofs.Happening.{may_set_up, ports_there}
 use Rattle.fabric_trace.proofs.Starting.{set_up_bare}
 use Rattle.fabric_ports.specs.Places.{IsEndpointAt, place_of}
@@ -98,11 +101,11 @@ pub new_stands : (names : List (List ℕ)) (lines : List Numbered) (plan : Plan)
     → Passes names lines → PlansFor plan (set_up_all bare lines)
     → fabric.devices.items ≡ plan.devices.items → fabric.firsts.items ≡ plan.firsts.items
     → fabric.cables.items ≡ plan.cables.items → fabric.ports.items ≡ map new_port plan.buffers.items
-    → Stands (set_up_all bare lines) [] fabric
+    → Stands (begins (set_up_all bare lines)) [] fabric
 new_stands names lines plan fabric passes is d f c ports =
     let set_up = set_up_bare lines (may_set_up names lines passes) in
     record {
-      set_up = set_up;
+      ready = ready_begun (set_up_all bare lines) set_up;
       made = Done refl;
       sent = refl;
       shows = new_shows fabric plan.buffers.items (set_up_all bare lines) set_up.empty

@@ -100,27 +100,27 @@ both_assoc P Q R s lines both =
 -- ---- what may stand behind lines
 
 -- behind any lines for which a fabric may stand, there are lines of the kind
-abbrev pub GoesOn : Network → Kind → Type 0
-GoesOn net Q = (lines : List TraceLine) → Made (begins net) lines
-    → (seen (begins net) lines).unfaithful ≡ None
-    → (block : List TraceLine) × Q (seen (begins net) lines) block
+abbrev pub GoesOn : Seen → Kind → Type 0
+GoesOn from Q = (lines : List TraceLine) → Made from lines
+    → (seen from lines).unfaithful ≡ None
+    → (block : List TraceLine) × Q (seen from lines) block
 
 -- lines of the kind behind those are made of parts
-abbrev pub IsMade : Network → Kind → Type 0
-IsMade net P = (lines block : List TraceLine) → Made (begins net) lines
-    → (seen (begins net) lines).unfaithful ≡ None → P (seen (begins net) lines) block
-    → Made (begins net) (lines ++ block)
+abbrev pub IsMade : Seen → Kind → Type 0
+IsMade from P = (lines block : List TraceLine) → Made from lines
+    → (seen from lines).unfaithful ≡ None → P (seen from lines) block
+    → Made from (lines ++ block)
 
-more_exists : (Q : Kind) (net : Network) (lines block : List TraceLine) (found : Option Found)
-    → GoesOn net Q → Made (begins net) (lines ++ block)
-    → (seen (seen (begins net) lines) block).unfaithful ≡ found
+more_exists : (Q : Kind) (from : Seen) (lines block : List TraceLine) (found : Option Found)
+    → GoesOn from Q → Made from (lines ++ block)
+    → (seen (seen from lines) block).unfaithful ≡ found
     → (rest : List TraceLine)
-    × Follows found (Q (seen (seen (begins net) lines) block)) NamesNothing rest
-more_exists Q net lines block None on made is =
-    let joined = seen-append (begins net) lines block in
+    × Follows found (Q (seen (seen from lines) block)) NamesNothing rest
+more_exists Q from lines block None on made is =
+    let joined = seen-append from lines block in
     let more = on (lines ++ block) made (ap (λ (s : Seen). s.unfaithful) joined ∙ is) in
     (more.0, subst (λ (s : Seen). Q s more.0) joined more.1)
-more_exists Q net lines block (Some found) on made is = ([], refl)
+more_exists Q from lines block (Some found) on made is = ([], refl)
 
 -- ---- a call ended as the one in it
 
@@ -141,76 +141,76 @@ module _ {K : Type 0} (written : K → Option (List ℕ)) (faults : K → ℕ) (
       (sym (flat_map-append (λ (line : TraceLine). trace_line_text names line ++ 10 ∷ []) front more))
       (Writes-then _ _ first second)
 
-  pub ran_nothing : (out : Outbox K) (net : Network) (lines : List TraceLine) (fabric : Fabric)
-      → Stands net lines fabric → Ran Nothing names written faults out out net lines fabric
-  ran_nothing out net lines fabric stands = record {
+  pub ran_nothing : (out : Outbox K) (from : Seen) (lines : List TraceLine) (fabric : Fabric)
+      → Stands from lines fabric → Ran Nothing names written faults out out from lines fabric
+  ran_nothing out from lines fabric stands = record {
     block = [];
     prints = Writes-nil written faults out;
     is = refl;
-    stands = subst (λ (l : List TraceLine). Stands net l fabric) (sym (append-nil lines)) stands;
+    stands = subst (λ (l : List TraceLine). Stands from l fabric) (sym (append-nil lines)) stands;
   }
 
   -- one behind the other
-  pub ran_joined : (P Q R : Kind) (a b c : Outbox K) (net : Network) (lines : List TraceLine)
+  pub ran_joined : (P Q R : Kind) (a b c : Outbox K) (from : Seen) (lines : List TraceLine)
       (mid new : Fabric)
-      → ((first second : List TraceLine) → P (seen (begins net) lines) first
-      → (seen (seen (begins net) lines) first).unfaithful ≡ None
-      → Q (seen (seen (begins net) lines) first) second
-      → R (seen (begins net) lines) (first ++ second))
-      → (first : Ran P names written faults a b net lines mid)
-      → Ran Q names written faults b c net (lines ++ first.block) new
-      → Ran R names written faults a c net lines new
-  ran_joined P Q R a b c net lines mid new join first second =
-      let joined = seen-append (begins net) lines first.block in
+      → ((first second : List TraceLine) → P (seen from lines) first
+      → (seen (seen from lines) first).unfaithful ≡ None
+      → Q (seen (seen from lines) first) second
+      → R (seen from lines) (first ++ second))
+      → (first : Ran P names written faults a b from lines mid)
+      → Ran Q names written faults b c from (lines ++ first.block) new
+      → Ran R names written faults a c from lines new
+  ran_joined P Q R a b c from lines mid new join first second =
+      let joined = seen-append from lines first.block in
       record {
         block = first.block ++ second.block;
         prints = lines_written a b c first.block second.block first.prints second.prints;
         is = join first.block second.block first.is
             (sym (ap (λ (t : Seen). t.unfaithful) joined) ∙ first.stands.sent)
             (subst (λ (t : Seen). Q t second.block) joined second.is);
-        stands = subst (λ (l : List TraceLine). Stands net l new)
+        stands = subst (λ (l : List TraceLine). Stands from l new)
             (append_assoc lines first.block second.block) second.stands;
       }
 
-  pub ran_both : (P Q : Kind) (a b c : Outbox K) (net : Network) (lines : List TraceLine)
-      (mid new : Fabric) → (first : Ran P names written faults a b net lines mid)
-      → Ran Q names written faults b c net (lines ++ first.block) new
-      → Ran (Both P Q) names written faults a c net lines new
-  ran_both P Q a b c net lines mid new first second =
-      ran_joined P Q (Both P Q) a b c net lines mid new (λ x y own still more. (
+  pub ran_both : (P Q : Kind) (a b c : Outbox K) (from : Seen) (lines : List TraceLine)
+      (mid new : Fabric) → (first : Ran P names written faults a b from lines mid)
+      → Ran Q names written faults b c from (lines ++ first.block) new
+      → Ran (Both P Q) names written faults a c from lines new
+  ran_both P Q a b c from lines mid new first second =
+      ran_joined P Q (Both P Q) a b c from lines mid new (λ x y own still more. (
         x,
         y,
         refl,
         own,
-        follows_none (seen (seen (begins net) lines) x).unfaithful
-            (Q (seen (seen (begins net) lines) x)) y still more,
+        follows_none (seen (seen from lines) x).unfaithful
+            (Q (seen (seen from lines) x)) y still more,
       )) first second
 
   -- what is known before the lines may say that they are of another kind
-  pub ran_as : (P Q : Kind) (a b : Outbox K) (net : Network) (lines : List TraceLine) (new : Fabric)
-      → ((block : List TraceLine) → P (seen (begins net) lines) block
-      → Q (seen (begins net) lines) block)
-      → Ran P names written faults a b net lines new → Ran Q names written faults a b net lines new
-  ran_as P Q a b net lines new turns ran = record {
+  pub ran_as : (P Q : Kind) (a b : Outbox K) (from : Seen) (lines : List TraceLine) (new : Fabric)
+      → ((block : List TraceLine) → P (seen from lines) block
+      → Q (seen from lines) block)
+      → Ran P names written faults a b from lines new → Ran Q names written faults a b from lines new
+  ran_as P Q a b from lines new turns ran = record {
     block = ran.block;
     prints = ran.prints;
     is = turns ran.block ran.is;
     stands = ran.stands;
   }
 
-  pub ends_as : (P Q : Kind) (a b : Outbox K) (net : Network) (lines : List TraceLine)
+  pub ends_as : (P Q : Kind) (a b : Outbox K) (from : Seen) (lines : List TraceLine)
       (end : EventEnd)
-      → ((block : List TraceLine) → P (seen (begins net) lines) block
-      → Q (seen (begins net) lines) block)
-      → RanEnds P names written faults a b net lines end
-      → RanEnds Q names written faults a b net lines end
-  ends_as P Q a b net lines (Undetected port event) turns ran = record {
+      → ((block : List TraceLine) → P (seen from lines) block
+      → Q (seen from lines) block)
+      → RanEnds P names written faults a b from lines end
+      → RanEnds Q names written faults a b from lines end
+  ends_as P Q a b from lines (Undetected port event) turns ran = record {
     block = ran.block;
     prints = ran.prints;
     is = turns ran.block ran.is;
     found = ran.found;
   }
-  ends_as P Q a b net lines NoMemory turns ran = record {
+  ends_as P Q a b from lines NoMemory turns ran = record {
     block = ran.block;
     front = ran.front;
     rest = ran.rest;
@@ -220,12 +220,12 @@ module _ {K : Type 0} (written : K → Option (List ℕ)) (faults : K → ℕ) (
   }
 
   -- it ended in the first, and so nothing stands behind, or what would
-  pub ends_first : (P Q : Kind) (a b : Outbox K) (net : Network) (lines : List TraceLine)
-      (old : Fabric) (end : EventEnd) → IsMade net P → GoesOn net Q → Stands net lines old
-      → RanEnds P names written faults a b net lines end
-      → RanEnds (Both P Q) names written faults a b net lines end
-  ends_first P Q a b net lines old (Undetected port event) made on stands ran =
-      let joined = seen-append (begins net) lines ran.block in
+  pub ends_first : (P Q : Kind) (a b : Outbox K) (from : Seen) (lines : List TraceLine)
+      (old : Fabric) (end : EventEnd) → IsMade from P → GoesOn from Q → Stands from lines old
+      → RanEnds P names written faults a b from lines end
+      → RanEnds (Both P Q) names written faults a b from lines end
+  ends_first P Q a b from lines old (Undetected port event) made on stands ran =
+      let joined = seen-append from lines ran.block in
       let found = sym (ap (λ (t : Seen). t.unfaithful) joined) ∙ ran.found in
       record {
         block = ran.block;
@@ -235,14 +235,14 @@ module _ {K : Type 0} (written : K → Option (List ℕ)) (faults : K → ℕ) (
           [],
           sym (append-nil ran.block),
           ran.is,
-          subst (λ (f : Option Found). Follows f (Q (seen (seen (begins net) lines) ran.block))
+          subst (λ (f : Option Found). Follows f (Q (seen (seen from lines) ran.block))
               NamesNothing []) (sym found) refl,
         );
         found = ran.found;
       }
-  ends_first P Q a b net lines old NoMemory made on stands ran =
-      let more = more_exists Q net lines ran.block
-      (seen (seen (begins net) lines) ran.block).unfaithful on
+  ends_first P Q a b from lines old NoMemory made on stands ran =
+      let more = more_exists Q from lines ran.block
+      (seen (seen from lines) ran.block).unfaithful on
       (made lines ran.block stands.made stands.sent ran.is) refl in
       record {
         block = ran.block ++ more.0;
@@ -255,13 +255,13 @@ module _ {K : Type 0} (written : K → Option (List ℕ)) (faults : K → ℕ) (
       }
 
   -- it ended in the second
-  pub ends_second : (P Q : Kind) (a b c : Outbox K) (net : Network) (lines : List TraceLine)
-      (mid : Fabric) (end : EventEnd) → (first : Ran P names written faults a b net lines mid)
-      → RanEnds Q names written faults b c net (lines ++ first.block) end
-      → RanEnds (Both P Q) names written faults a c net lines end
-  ends_second P Q a b c net lines mid (Undetected port event) first second =
-      let s = seen (begins net) lines in
-      let joined = seen-append (begins net) lines first.block in
+  pub ends_second : (P Q : Kind) (a b c : Outbox K) (from : Seen) (lines : List TraceLine)
+      (mid : Fabric) (end : EventEnd) → (first : Ran P names written faults a b from lines mid)
+      → RanEnds Q names written faults b c from (lines ++ first.block) end
+      → RanEnds (Both P Q) names written faults a c from lines end
+  ends_second P Q a b c from lines mid (Undetected port event) first second =
+      let s = seen from lines in
+      let joined = seen-append from lines first.block in
       record {
         block = first.block ++ second.block;
         prints = lines_written a b c first.block second.block first.prints second.prints;
@@ -274,12 +274,12 @@ module _ {K : Type 0} (written : K → Option (List ℕ)) (faults : K → ℕ) (
               (sym (ap (λ (t : Seen). t.unfaithful) joined) ∙ first.stands.sent)
               (subst (λ (t : Seen). Q t second.block) joined second.is),
         );
-        found = ap (λ (l : List TraceLine). (seen (begins net) l).unfaithful)
+        found = ap (λ (l : List TraceLine). (seen from l).unfaithful)
             (sym (append_assoc lines first.block second.block)) ∙ second.found;
       }
-  ends_second P Q a b c net lines mid NoMemory first second =
-      let s = seen (begins net) lines in
-      let joined = seen-append (begins net) lines first.block in
+  ends_second P Q a b c from lines mid NoMemory first second =
+      let s = seen from lines in
+      let joined = seen-append from lines first.block in
       record {
         block = first.block ++ second.block;
         front = first.block ++ second.front;

@@ -1,4 +1,5 @@
 -- Switches that are served one after another, and rounds.
+use Rattle.fabric_trace.specs.Known.{Seen}
 use Rattle.std.proofs.Common.{◌≡◌, ℕ, zero, suc, ◌+◌, ◌<◌, Bool, true, false, List, [], ◌∷◌, ◌++◌, length, take, get_or, slice_get, Option, Some, None, Result, Ok, Err, OnOk, IfErr, MatchBool, option_map, refl, sym, ap, ◌∙◌, subst, arith}
 use Rattle.std.proofs.lemmas.Option.{slice_get-get_or}
 use Rattle.rio_chars.specs.declared.outbox.Outbox.{Outbox}
@@ -9,13 +10,13 @@ use Rattle.fabric_model.specs.Network.{Network}
 use Rattle.fabric_model.proofs.Peers.{ArePeers}
 use Rattle.fabric_trace.specs.Blocks.{IsSettle}
 use Rattle.fabric_trace.specs.Fold.{seen}
-use Rattle.fabric_trace.specs.Known.{Seen}
 use Rattle.fabric_trace.specs.Lines.{TraceLine, Begun}
 use Rattle.fabric_trace.specs.Parts.{Made}
+use Rattle.fabric_trace.specs.Ready.{IsReady}
 use Rattle.fabric_trace.specs.Rounds.{ServeNodes, Round, Rounds}
 use Rattle.fabric_trace.specs.Runs.{begins}
 use Rattle.fabric_trace.specs.SetUps.{IsSetUp}
-use Rattle.fabric_trace.proofs.Existing.{serve_all_exist, rounds_behind, ready_behind}
+use Rattle.fabric_trace.proofs.Existing.{serve_all_exist, rounds_exist, ready_on}
 use Rattle.fabric_trace.proofs.Folding.{seen-append}
 use Rattle.fabric_trace.proofs.Keeping.{IsGood}
 use Rattle.fabric_trace.proofs.Making.{made-append}
@@ -96,11 +97,11 @@ node_of (d ∷ devices) (suc k) device is =
       ap suc rest.1,
     )
 
-pub next_node : {net : Network} {lines more : List TraceLine} {old new : Fabric} (k : ℕ)
-    (device : Device) (kind : Bool) → Stands net lines old → Stands net more new
+pub next_node : {from : Seen} {lines more : List TraceLine} {old new : Fabric} (k : ℕ)
+    (device : Device) (kind : Bool) → Stands from lines old → Stands from more new
     → device ≡ get_or new.devices.items k device → k < length new.devices.items
     → is_switch device ≡ kind → IsNode old.devices.items k kind
-next_node {net} {lines} {more} {old} {new} k device kind before after at within is =
+next_node {from} {lines} {more} {old} {new} k device kind before after at within is =
     let here = slice_get-get_or new.devices.items k device within ∙ ap Some (sym at) in
     let first = some_kind (slice_get old.devices.items k) kind
     (sym (kinds_stay before after k) ∙ ap (option_map is_switch) here ∙ ap Some is) in
@@ -108,58 +109,58 @@ next_node {net} {lines} {more} {old} {new} k device kind before after at within 
     record { device = first.0; is = first.2; more = own.0; many = own.1 }
 
 module _ {K : Type 0} (written : K → Option (List ℕ)) (faults : K → ℕ) (names : List (List ℕ)) where
-  served_on : (a b c : Outbox K) (net : Network) (lines : List TraceLine) (old mid new : Fabric)
-      (k : ℕ) (kind : Bool) (devices : List Device) → Stands net lines old
+  served_on : (a b c : Outbox K) (from : Seen) (lines : List TraceLine) (old mid new : Fabric)
+      (k : ℕ) (kind : Bool) (devices : List Device) → Stands from lines old
       → (node : IsNode devices k kind)
-      → (first : Ran (ServeNodes 0 (take k devices)) names written faults a b net lines mid)
-      → Ran (ServeNodes k (node.device ∷ [])) names written faults b c net (lines ++ first.block)
+      → (first : Ran (ServeNodes 0 (take k devices)) names written faults a b from lines mid)
+      → Ran (ServeNodes k (node.device ∷ [])) names written faults b c from (lines ++ first.block)
       new
-      → Ran (ServeNodes 0 (take (k + 1) devices)) names written faults a c net lines new
-  served_on a b c net lines old mid new k kind devices stands node first one =
+      → Ran (ServeNodes 0 (take (k + 1) devices)) names written faults a c from lines new
+  served_on a b c from lines old mid new k kind devices stands node first one =
       let at : 0 + length (take k devices) ≡ k = let many = node.many in omega (arith, many) in
       ran_as written faults names
       (Both (ServeNodes 0 (take k devices)) (ServeNodes k (node.device ∷ [])))
-      (ServeNodes 0 (take (k + 1) devices)) a c net lines new
-      (λ block both. subst (λ (l : List Device). ServeNodes 0 l (seen (begins net) lines) block)
+      (ServeNodes 0 (take (k + 1) devices)) a c from lines new
+      (λ block both. subst (λ (l : List Device). ServeNodes 0 l (seen from lines) block)
       (sym node.more)
-      (nodes_append (take k devices) (node.device ∷ []) 0 k (seen (begins net) lines) block at
+      (nodes_append (take k devices) (node.device ∷ []) 0 k (seen from lines) block at
       stands.sent both))
       (ran_both written faults names (ServeNodes 0 (take k devices))
-      (ServeNodes k (node.device ∷ [])) a b c net lines mid new first one)
+      (ServeNodes k (node.device ∷ [])) a b c from lines mid new first one)
 
-  pub served_more : (a b c : Outbox K) (net : Network) (lines : List TraceLine)
-      (old mid new : Fabric) (k : ℕ) (devices : List Device) → Stands net lines old
+  pub served_more : (a b c : Outbox K) (from : Seen) (lines : List TraceLine)
+      (old mid new : Fabric) (k : ℕ) (devices : List Device) → Stands from lines old
       → IsNode devices k true
-      → (first : Ran (ServeNodes 0 (take k devices)) names written faults a b net lines mid)
-      → Ran (Serves k) names written faults b c net (lines ++ first.block) new
-      → Ran (ServeNodes 0 (take (k + 1) devices)) names written faults a c net lines new
-  served_more a b c net lines old mid new k devices stands node first own =
-      served_on a b c net lines old mid new k true devices stands node first
-      (ran_as written faults names (Serves k) (ServeNodes k (node.device ∷ [])) b c net
+      → (first : Ran (ServeNodes 0 (take k devices)) names written faults a b from lines mid)
+      → Ran (Serves k) names written faults b c from (lines ++ first.block) new
+      → Ran (ServeNodes 0 (take (k + 1) devices)) names written faults a c from lines new
+  served_more a b c from lines old mid new k devices stands node first own =
+      served_on a b c from lines old mid new k true devices stands node first
+      (ran_as written faults names (Serves k) (ServeNodes k (node.device ∷ [])) b c from
       (lines ++ first.block) new
-      (λ block serves. node_serves node.device k (seen (begins net) (lines ++ first.block)) block
+      (λ block serves. node_serves node.device k (seen from (lines ++ first.block)) block
       node.is serves) own)
 
-  pub served_none : (a b : Outbox K) (net : Network) (lines : List TraceLine) (old mid : Fabric)
-      (k : ℕ) (devices : List Device) → Stands net lines old → IsNode devices k false
-      → Ran (ServeNodes 0 (take k devices)) names written faults a b net lines mid
-      → Ran (ServeNodes 0 (take (k + 1) devices)) names written faults a b net lines mid
-  served_none a b net lines old mid k devices stands node first =
-      served_on a b b net lines old mid mid k false devices stands node first
-      (ran_as written faults names Nothing (ServeNodes k (node.device ∷ [])) b b net
+  pub served_none : (a b : Outbox K) (from : Seen) (lines : List TraceLine) (old mid : Fabric)
+      (k : ℕ) (devices : List Device) → Stands from lines old → IsNode devices k false
+      → Ran (ServeNodes 0 (take k devices)) names written faults a b from lines mid
+      → Ran (ServeNodes 0 (take (k + 1) devices)) names written faults a b from lines mid
+  served_none a b from lines old mid k devices stands node first =
+      served_on a b b from lines old mid mid k false devices stands node first
+      (ran_as written faults names Nothing (ServeNodes k (node.device ∷ [])) b b from
       (lines ++ first.block) mid
-      (λ block none. node_rests node.device k (seen (begins net) (lines ++ first.block)) block
+      (λ block none. node_rests node.device k (seen from (lines ++ first.block)) block
       node.is none)
-      (ran_nothing written faults names b net (lines ++ first.block) mid first.stands))
+      (ran_nothing written faults names b from (lines ++ first.block) mid first.stands))
 
   -- all switches are served
-  pub served_all : (a b : Outbox K) (net : Network) (lines : List TraceLine) (old new : Fabric)
-      (devices : List Device) → Stands net lines old → devices ≡ old.devices.items
-      → Ran (ServeNodes 0 devices) names written faults a b net lines new
-      → Ran SwitchesServe names written faults a b net lines new
-  served_all a b net lines old new devices stands same ran =
-      ran_as written faults names (ServeNodes 0 devices) SwitchesServe a b net lines new
-      (λ block own. subst (λ (l : List Device). ServeNodes 0 l (seen (begins net) lines) block)
+  pub served_all : (a b : Outbox K) (from : Seen) (lines : List TraceLine) (old new : Fabric)
+      (devices : List Device) → Stands from lines old → devices ≡ old.devices.items
+      → Ran (ServeNodes 0 devices) names written faults a b from lines new
+      → Ran SwitchesServe names written faults a b from lines new
+  served_all a b from lines old new devices stands same ran =
+      ran_as written faults names (ServeNodes 0 devices) SwitchesServe a b from lines new
+      (λ block own. subst (λ (l : List Device). ServeNodes 0 l (seen from lines) block)
       (same ∙ sym stands.shows.registers) own) ran
 
 -- ---- rounds, one after another
@@ -185,70 +186,70 @@ settles_come : (s : Seen) (a b : PortRef) (lines : List TraceLine) → IsGood s
 settles_come s a b lines good sent peers own =
     (link_made s a b lines good sent peers own, own)
 
-links_made : (net : Network) → IsSetUp net → IsMade net LinksSettle
-links_made net set_up lines block made sent own =
-    let s = seen (begins net) lines in
-    let good = good_behind set_up made in
+links_made : (from : Seen) → IsReady from → IsMade from LinksSettle
+links_made from ready lines block made sent own =
+    let s = seen from lines in
+    let good = good_behind ready made in
     made-append made
     (settle_all_come IsSettle IsSettle settles_come move_made s.network.links s.network.links s
     block good sent refl (all_found s.network.links good.proper) own).0
 
-round_made : (net : Network) → IsSetUp net → IsMade net (Round IsSettle)
-round_made net set_up lines block made sent own =
-    let s = seen (begins net) lines in
+round_made : (from : Seen) → IsReady from → IsMade from (Round IsSettle)
+round_made from ready lines block made sent own =
+    let s = seen from lines in
     made-append made
-    (round_come IsSettle IsSettle settles_come move_made s block (good_behind set_up made) sent own).0
+    (round_come IsSettle IsSettle settles_come move_made s block (good_behind ready made) sent own).0
 
-switches_go_on : (net : Network) → IsSetUp net → GoesOn net SwitchesServe
-switches_go_on net set_up lines made sent =
-    let own = serve_all_exist (seen (begins net) lines) (ready_behind net lines set_up made) in
+switches_go_on : (from : Seen) → IsReady from → GoesOn from SwitchesServe
+switches_go_on from ready lines made sent =
+    let own = serve_all_exist (seen from lines) (ready_on ready made) in
     (own.lines, own.is)
 
 module _ {K : Type 0} (written : K → Option (List ℕ)) (faults : K → ℕ) (names : List (List ℕ)) where
   -- one round more
-  pub ran_more : (a b c d : Outbox K) (net : Network) (lines : List TraceLine)
-      (old mid linked new : Fabric) (k : ℕ) → Stands net lines old
-      → Ran (Rounds IsSettle k) names written faults a b net lines mid
-      → ((more : List TraceLine) → Stands net more mid
-      → Ran LinksSettle names written faults b c net more linked)
-      → ((more : List TraceLine) → Stands net more linked
-      → Ran SwitchesServe names written faults c d net more new)
-      → Ran (Rounds IsSettle (k + 1)) names written faults a d net lines new
-  ran_more a b c d net lines old mid linked new k stands first links switches =
+  pub ran_more : (a b c d : Outbox K) (from : Seen) (lines : List TraceLine)
+      (old mid linked new : Fabric) (k : ℕ) → Stands from lines old
+      → Ran (Rounds IsSettle k) names written faults a b from lines mid
+      → ((more : List TraceLine) → Stands from more mid
+      → Ran LinksSettle names written faults b c from more linked)
+      → ((more : List TraceLine) → Stands from more linked
+      → Ran SwitchesServe names written faults c d from more new)
+      → Ran (Rounds IsSettle (k + 1)) names written faults a d from lines new
+  ran_more a b c d from lines old mid linked new k stands first links switches =
       let settled = links (lines ++ first.block) first.stands in
-      let round = ran_both written faults names LinksSettle SwitchesServe b c d net
+      let round = ran_both written faults names LinksSettle SwitchesServe b c d from
       (lines ++ first.block) linked new settled
       (switches ((lines ++ first.block) ++ settled.block) settled.stands) in
-      let one = ran_as written faults names (Round IsSettle) (Rounds IsSettle 1) b d net
+      let one = ran_as written faults names (Round IsSettle) (Rounds IsSettle 1) b d from
       (lines ++ first.block) new
-      (λ block own. both_nothing (Round IsSettle) (seen (begins net) (lines ++ first.block)) block
+      (λ block own. both_nothing (Round IsSettle) (seen from (lines ++ first.block)) block
       own) round in
       ran_as written faults names (Both (Rounds IsSettle k) (Rounds IsSettle 1))
-      (Rounds IsSettle (k + 1)) a d net lines new
-      (λ block both. rounds_append k 1 (seen (begins net) lines) block stands.sent both)
-      (ran_both written faults names (Rounds IsSettle k) (Rounds IsSettle 1) a b d net lines mid new
+      (Rounds IsSettle (k + 1)) a d from lines new
+      (λ block both. rounds_append k 1 (seen from lines) block stands.sent both)
+      (ran_both written faults names (Rounds IsSettle k) (Rounds IsSettle 1) a b d from lines mid new
       first one)
 
   -- the links of a round did not all settle
-  pub ran_short : (a b c : Outbox K) (net : Network) (lines : List TraceLine) (old mid : Fabric)
-      (k n : ℕ) (end : EventEnd) → k < n → Stands net lines old
-      → Ran (Rounds IsSettle k) names written faults a b net lines mid
-      → ((more : List TraceLine) → Stands net more mid
-      → RanEnds LinksSettle names written faults b c net more end)
-      → RanEnds (Rounds IsSettle n) names written faults a c net lines end
-  ran_short a b c net lines old mid k n end less stands first links =
+  pub ran_short : (a b c : Outbox K) (from : Seen) (lines : List TraceLine) (old mid : Fabric)
+      (k n : ℕ) (end : EventEnd) → k < n → Stands from lines old
+      → Ran (Rounds IsSettle k) names written faults a b from lines mid
+      → ((more : List TraceLine) → Stands from more mid
+      → RanEnds LinksSettle names written faults b c from more end)
+      → RanEnds (Rounds IsSettle n) names written faults a c from lines end
+  ran_short a b c from lines old mid k n end less stands first links =
       let left : (m : ℕ) × (k + suc m ≡ n) = rounds_left k n less in
-      let own = ends_first written faults names LinksSettle SwitchesServe b c net
-      (lines ++ first.block) mid end (links_made net stands.set_up)
-      (switches_go_on net stands.set_up) first.stands (links (lines ++ first.block) first.stands) in
-      let more = ends_first written faults names (Round IsSettle) (Rounds IsSettle left.0) b c net
-      (lines ++ first.block) mid end (round_made net stands.set_up)
-      (λ l made sent. rounds_behind net left.0 l stands.set_up made sent) first.stands own in
+      let own = ends_first written faults names LinksSettle SwitchesServe b c from
+      (lines ++ first.block) mid end (links_made from stands.ready)
+      (switches_go_on from stands.ready) first.stands (links (lines ++ first.block) first.stands) in
+      let more = ends_first written faults names (Round IsSettle) (Rounds IsSettle left.0) b c from
+      (lines ++ first.block) mid end (round_made from stands.ready)
+      (λ l made sent. (let own = rounds_exist left.0 (seen from l) (ready_on stands.ready made) sent in (own.lines, own.is))) first.stands own in
       ends_as written faults names (Both (Rounds IsSettle k) (Rounds IsSettle (suc left.0)))
-      (Rounds IsSettle n) a c net lines end
-      (λ block both. subst (λ m. Rounds IsSettle m (seen (begins net) lines) block) left.1
-      (rounds_append k (suc left.0) (seen (begins net) lines) block stands.sent both))
-      (ends_second written faults names (Rounds IsSettle k) (Rounds IsSettle (suc left.0)) a b c net
+      (Rounds IsSettle n) a c from lines end
+      (λ block both. subst (λ m. Rounds IsSettle m (seen from lines) block) left.1
+      (rounds_append k (suc left.0) (seen from lines) block stands.sent both))
+      (ends_second written faults names (Rounds IsSettle k) (Rounds IsSettle (suc left.0)) a b c from
       lines mid end first more)
     where
       rounds_left : (k n : ℕ) → k < n → (m : ℕ) × (k + suc m ≡ n)
@@ -259,54 +260,54 @@ module _ {K : Type 0} (written : K → Option (List ℕ)) (faults : K → ℕ) (
           let same = rest.1 in
           (rest.0, omega (arith, same))
 
-  pub ran_all : (a b : Outbox K) (net : Network) (lines : List TraceLine) (new : Fabric) (k n : ℕ)
-      → k ≡ n → Ran (Rounds IsSettle k) names written faults a b net lines new
-      → Ran (Rounds IsSettle n) names written faults a b net lines new
-  ran_all a b net lines new k n same ran =
-      subst (λ m. Ran (Rounds IsSettle m) names written faults a b net lines new) same ran
+  pub ran_all : (a b : Outbox K) (from : Seen) (lines : List TraceLine) (new : Fabric) (k n : ℕ)
+      → k ≡ n → Ran (Rounds IsSettle k) names written faults a b from lines new
+      → Ran (Rounds IsSettle n) names written faults a b from lines new
+  ran_all a b from lines new k n same ran =
+      subst (λ m. Ran (Rounds IsSettle m) names written faults a b from lines new) same ran
 
 -- ---- a run is an event
 
 module _ {K : Type 0} (written : K → Option (List ℕ)) (faults : K → ℕ) (names : List (List ℕ))
     (a b : Outbox K) (n : ℕ) (old new : Fabric) where
-  run_blocked : (net : Network) (lines : List TraceLine) → Stands net lines old
-      → Ran (Rounds IsSettle n) names written faults a b net lines new
-      → Blocked (Run n) names written faults a b net lines new
-  run_blocked net lines stands ran =
-      let joined = seen-append (begins net) lines ran.block in
+  run_blocked : (from : Seen) (lines : List TraceLine) → Stands from lines old
+      → Ran (Rounds IsSettle n) names written faults a b from lines new
+      → Blocked (Run n) names written faults a b from lines new
+  run_blocked from lines stands ran =
+      let joined = seen-append from lines ran.block in
       record {
         block = ran.block;
         prints = ran.prints;
         is = ran.is;
-        stands = stands_on net lines old new (Run n) ran.block stands ran.is
+        stands = stands_on from lines old new (Run n) ran.block stands ran.is
             (sym (ap (λ (t : Seen). t.unfaithful) joined) ∙ ran.stands.sent)
             (subst (ShowsFabric new) joined ran.stands.shows);
       }
 
   pub run_done : (acted : Result (Unit {0}) EventEnd)
-      → OnOk acted ((net : Network) (lines : List TraceLine) → Stands net lines old
-      → Ran (Rounds IsSettle n) names written faults a b net lines new)
-      → OnOk acted ((net : Network) (lines : List TraceLine) → Stands net lines old
-      → Blocked (Run n) names written faults a b net lines new)
-  run_done (Ok done) ran = λ net lines stands. run_blocked net lines stands (ran net lines stands)
+      → OnOk acted ((from : Seen) (lines : List TraceLine) → Stands from lines old
+      → Ran (Rounds IsSettle n) names written faults a b from lines new)
+      → OnOk acted ((from : Seen) (lines : List TraceLine) → Stands from lines old
+      → Blocked (Run n) names written faults a b from lines new)
+  run_done (Ok done) ran = λ from lines stands. run_blocked from lines stands (ran from lines stands)
   run_done (Err end) ran = tt
 
-  run_ends : (net : Network) (lines : List TraceLine) (end : EventEnd)
-      → RanEnds (Rounds IsSettle n) names written faults a b net lines end
-      → BlockEnds (Run n) names written faults a b net lines end
-  run_ends net lines (Undetected port event) ends =
-      let s = seen (begins net) lines in
-      let begun : seen (begins net) (lines ++ Begun (Run n) ∷ ends.block)
-      ≡ seen (begins net) (lines ++ ends.block) =
-      seen-append (begins net) lines (Begun (Run n) ∷ ends.block)
-      ∙ sym (seen-append (begins net) lines ends.block) in
+  run_ends : (from : Seen) (lines : List TraceLine) (end : EventEnd)
+      → RanEnds (Rounds IsSettle n) names written faults a b from lines end
+      → BlockEnds (Run n) names written faults a b from lines end
+  run_ends from lines (Undetected port event) ends =
+      let s = seen from lines in
+      let begun : seen from (lines ++ Begun (Run n) ∷ ends.block)
+      ≡ seen from (lines ++ ends.block) =
+      seen-append from lines (Begun (Run n) ∷ ends.block)
+      ∙ sym (seen-append from lines ends.block) in
       record {
         block = ends.block;
         prints = ends.prints;
         is = ends.is;
         found = ap (λ (t : Seen). t.unfaithful) begun ∙ ends.found;
       }
-  run_ends net lines NoMemory ends = record {
+  run_ends from lines NoMemory ends = record {
     block = ends.block;
     front = ends.front;
     rest = ends.rest;
@@ -316,9 +317,9 @@ module _ {K : Type 0} (written : K → Option (List ℕ)) (faults : K → ℕ) (
   }
 
   pub run_ended : (acted : Result (Unit {0}) EventEnd)
-      → IfErr acted (λ end. (net : Network) (lines : List TraceLine) → Stands net lines old
-      → RanEnds (Rounds IsSettle n) names written faults a b net lines end)
-      → IfErr acted (λ end. (net : Network) (lines : List TraceLine) → Stands net lines old
-      → BlockEnds (Run n) names written faults a b net lines end)
+      → IfErr acted (λ end. (from : Seen) (lines : List TraceLine) → Stands from lines old
+      → RanEnds (Rounds IsSettle n) names written faults a b from lines end)
+      → IfErr acted (λ end. (from : Seen) (lines : List TraceLine) → Stands from lines old
+      → BlockEnds (Run n) names written faults a b from lines end)
   run_ended (Ok done) ends = tt
-  run_ended (Err end) ends = λ net lines stands. run_ends net lines end (ends net lines stands)
+  run_ended (Err end) ends = λ from lines stands. run_ends from lines end (ends from lines stands)

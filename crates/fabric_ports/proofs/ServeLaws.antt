@@ -1,26 +1,17 @@
 -- A switch that makes one step after another.
 use Rattle.std.proofs.Common.{◌≡◌, ◌≢◌, ℕ, zero, suc, ◌+◌, ◌<◌, ◌≤◌, Bool, true, false, List, [], ◌∷◌, ◌++◌, map, length, Option, Some, None, option_map, slice_get, refl, sym, ap, ◌∙◌, subst, arith, append-nil, append_assoc, length-append}
 use Rattle.std.proofs.lemmas.List.{length-map}
-use Rattle.std.proofs.lemmas.Option.{slice_get-map}
 use Rattle.rio_chars.specs.declared.outbox.Outbox.{Outbox}
 use Rattle.link_port.specs.Ports.{PortState}
-use Rattle.maint_registers.specs.Access.{value_at, written_at}
 use Rattle.maint_registers.specs.Devices.{Device}
-use Rattle.maint_registers.proofs.SameLaws.{written_same}
-use Rattle.maint_packets.specs.Answers.{after_read, after_write, answered_to, answered}
-use Rattle.maint_packets.specs.Requests.{request_of}
-use Rattle.maint_packets.specs.declared.request.Op.{Op}
-use Rattle.maint_packets.specs.declared.request.Op.TheVariants.{Read, Write, BadRead, BadWrite}
-use Rattle.maint_packets.specs.declared.request.Request.{Request}
 use Rattle.switch_core.specs.SwitchSteps.{step_of}
 use Rattle.switch_core.specs.declared.switch.Step as switch
 use Rattle.switch_core.specs.declared.switch.Step.TheVariants.{Moved, Dropped, Answered, Nothing}
 use Rattle.fabric_script.specs.declared.ports.PortRef.{PortRef}
-use Rattle.fabric_model.specs.Network.{Item, Network, in_turn, with_device}
-use Rattle.fabric_model.specs.Serving.{device_after}
+use Rattle.fabric_model.specs.Network.{Item, Network, in_turn}
 use Rattle.fabric_model.specs.Steps.{DeviceStep, Move, Drop, Answer, ByDevice, after}
-use Rattle.fabric_model.proofs.Devices.{map-with_device}
 use Rattle.fabric_model.proofs.Emptying.{packets_at}
+use Rattle.fabric_model.proofs.Nodes.{count_ports, ports_stay}
 use Rattle.fabric_trace.specs.Fold.{seen}
 use Rattle.fabric_trace.specs.Known.{Seen, port_at}
 use Rattle.fabric_trace.specs.Lines.{NoStep, TraceLine, Stepped, Lacked}
@@ -91,52 +82,7 @@ held_is fabric s node (suc n) device shows stands within =
     let rest = held_is fabric s node n device shows stands (omega (arith, within)) in
     λ i. here i + rest i
 
--- ---- a device keeps its ports
-
-write_ports : (device : Device) (request : Request) (offset value : ℕ)
-    → (after_write device request (written_at device offset value)).device.ports ≡ device.ports
-write_ports device request offset value = go (written_at device offset value) refl
-  where
-    go : (next : Option Device) → written_at device offset value ≡ next
-        → (after_write device request next).device.ports ≡ device.ports
-    go None is = refl
-    go (Some next) is = (written_same device next offset value is).ports
-
-read_ports : (device : Device) (request : Request) (o : Option ℕ)
-    → (after_read device request o).device.ports ≡ device.ports
-read_ports device request None = refl
-read_ports device request (Some value) = refl
-
-answer_ports : (device : Device) (request : Request) (at : ℕ)
-    → (answered device request at).device.ports ≡ device.ports
-answer_ports device request at = by_op request.op
-  where
-    by_op : (op : Op) → (answered_to device request at op).device.ports ≡ device.ports
-    by_op Read = read_ports device request (value_at device request.offset at)
-    by_op (Write value) = write_ports device request request.offset value
-    by_op BadRead = refl
-    by_op BadWrite = refl
-
-device_ports : (at : ℕ) (request : Option Request) (device : Device)
-    → (device_after at request device).ports ≡ device.ports
-device_ports at None device = refl
-device_ports at (Some request) device = answer_ports device request at
-
-abbrev count_ports : Device → ℕ
-count_ports device = device.ports
-
-ports_stay : (net : Network) (step : DeviceStep) (n : ℕ)
-    → option_map count_ports (slice_get (after net (ByDevice step)).registers n)
-    ≡ option_map count_ports (slice_get net.registers n)
-ports_stay net (Move p q packet) n = refl
-ports_stay net (Drop p packet) n = refl
-ports_stay net (Answer p packet response) n =
-    let change = device_after p.port (request_of packet) in
-    sym (slice_get-map count_ports (with_device net.registers p.node change) n)
-    ∙ ap (λ (l : List ℕ). slice_get l n)
-    (map-with_device count_ports net.registers p.node change
-    (device_ports p.port (request_of packet)))
-    ∙ slice_get-map count_ports net.registers n
+-- ---- how many ports a device has
 
 counted : (o : Option Device) (n : ℕ) → option_map count_ports o ≡ Some n
     → (device : Device) × (o ≡ Some device) × (device.ports ≡ n)
@@ -172,7 +118,7 @@ held_fewer s old new node block good shows later move other =
     ap (λ (l : List Device). slice_get l node) (sym shows.registers) ∙ moved.stands in
     let there = counted (slice_get new.devices.items node) device.ports
     (ap (λ (l : List Device). option_map count_ports (slice_get l node)) (sym next.registers)
-    ∙ ports_stay s.network step node ∙ ap (option_map count_ports) moved.stands) in
+    ∙ ports_stay s.network (ByDevice step) node ∙ ap (option_map count_ports) moved.stands) in
     let before : held_by old node ≡ packets_at s.network.received node device.ports =
     ap (λ (o : Option Device). held_from old node (ports_in o)) here
     ∙ held_is old s node device.ports device shows here same in
@@ -227,64 +173,64 @@ all_served node s first second own last =
 -- ---- what was written
 
 module _ {K : Type 0} (written : K → Option (List ℕ)) (faults : K → ℕ) (names : List (List ℕ)) where
-  did_ran : (Is : List TraceLine → Type 0) (Q : Kind) (b c : Outbox K) (net : Network)
-      (lines : List TraceLine) (mid new : Fabric) → Stands net lines mid
-      → ((block : List TraceLine) → Is block → Q (seen (begins net) lines) block
-      × Made (seen (begins net) lines) block)
-      → Did Is names written faults b c (seen (begins net) lines) new
-      → Ran Q names written faults b c net lines new
-  did_ran Is Q b c net lines mid new stands gives did =
+  did_ran : (Is : List TraceLine → Type 0) (Q : Kind) (b c : Outbox K) (from : Seen)
+      (lines : List TraceLine) (mid new : Fabric) → Stands from lines mid
+      → ((block : List TraceLine) → Is block → Q (seen from lines) block
+      × Made (seen from lines) block)
+      → Did Is names written faults b c (seen from lines) new
+      → Ran Q names written faults b c from lines new
+  did_ran Is Q b c from lines mid new stands gives did =
       let own = gives did.block did.is in
-      let joined = seen-append (begins net) lines did.block in
+      let joined = seen-append from lines did.block in
       record {
         block = did.block;
         prints = did.prints;
         is = own.0;
         stands = record {
-          set_up = stands.set_up;
+          ready = stands.ready;
           made = made-append stands.made own.1;
           sent = ap (λ (t : Seen). t.unfaithful) joined ∙ did.sent;
           shows = subst (ShowsFabric new) (sym joined) did.shows;
         };
       }
 
-  pub serves_begin : (a : Outbox K) (net : Network) (lines : List TraceLine) (fabric : Fabric)
-      (node : ℕ) → Stands net lines fabric
-      → Ran (ServesFirst node) names written faults a a net lines fabric
-  serves_begin a net lines fabric node stands =
-      ran_as written faults names NoLines (ServesFirst node) a a net lines fabric
-      (λ block none. first_begins node (seen (begins net) lines) block none)
-      (ran_nothing written faults names a net lines fabric stands)
+  pub serves_begin : (a : Outbox K) (from : Seen) (lines : List TraceLine) (fabric : Fabric)
+      (node : ℕ) → Stands from lines fabric
+      → Ran (ServesFirst node) names written faults a a from lines fabric
+  serves_begin a from lines fabric node stands =
+      ran_as written faults names NoLines (ServesFirst node) a a from lines fabric
+      (λ block none. first_begins node (seen from lines) block none)
+      (ran_nothing written faults names a from lines fabric stands)
 
-  pub serves_more : (a b c : Outbox K) (net : Network) (lines : List TraceLine) (mid new : Fabric)
+  pub serves_more : (a b c : Outbox K) (from : Seen) (lines : List TraceLine) (mid new : Fabric)
       (node : ℕ) (result : Bool) → result ≡ true
-      → (first : Ran (ServesFirst node) names written faults a b net lines mid)
-      → Did (IsStep (seen (begins net) (lines ++ first.block)).network node result) names written
-      faults b c (seen (begins net) (lines ++ first.block)) new
-      → Ran (ServesFirst node) names written faults a c net lines new
-  serves_more a b c net lines mid new node result told first did =
-      let s = seen (begins net) (lines ++ first.block) in
-      let good = good_behind first.stands.set_up first.stands.made in
-      ran_joined written faults names (ServesFirst node) (One node) (ServesFirst node) a b c net
+      → (first : Ran (ServesFirst node) names written faults a b from lines mid)
+      → Did (IsStep (seen from (lines ++ first.block)).network node result) names written
+      faults b c (seen from (lines ++ first.block)) new
+      → Ran (ServesFirst node) names written faults a c from lines new
+  serves_more a b c from lines mid new node result told first did =
+      let s = seen from (lines ++ first.block) in
+      let good = good_behind first.stands.ready first.stands.made in
+      ran_joined written faults names (ServesFirst node) (One node) (ServesFirst node) a b c from
       lines mid new
-      (λ x y own still one. first_more node (seen (begins net) lines) x y own one) first
-      (did_ran (IsStep s.network node result) (One node) b c net (lines ++ first.block) mid new
+      (λ x y own still one. first_more node (seen from lines) x y own one) first
+      (did_ran (IsStep s.network node result) (One node) b c from (lines ++ first.block) mid new
       first.stands
       (λ block is. (let own = subst (λ r. IsStep s.network node r block) told is in
       (own, move_made s node block good own.0))) did)
 
-  pub serves_end : (a b c : Outbox K) (net : Network) (lines : List TraceLine) (mid new : Fabric)
+  pub serves_end : (a b c : Outbox K) (from : Seen) (lines : List TraceLine) (mid new : Fabric)
       (node : ℕ) (result : Bool) → result ≡ false
-      → (first : Ran (ServesFirst node) names written faults a b net lines mid)
-      → Did (IsStep (seen (begins net) (lines ++ first.block)).network node result) names written
-      faults b c (seen (begins net) (lines ++ first.block)) new
-      → Ran (Serves node) names written faults a c net lines new
-  serves_end a b c net lines mid new node result told first did =
-      let s = seen (begins net) (lines ++ first.block) in
-      ran_joined written faults names (ServesFirst node) (Last node) (Serves node) a b c net lines
+      → (first : Ran (ServesFirst node) names written faults a b from lines mid)
+      → Did (IsStep (seen from (lines ++ first.block)).network node result) names written
+      faults b c (seen from (lines ++ first.block)) new
+      → Ran (Serves node) names written faults a c from lines new
+  serves_end a b c from lines mid new node result told first did =
+      let s = seen from (lines ++ first.block) in
+      ran_joined written faults names (ServesFirst node) (Last node) (Serves node) a b c from lines
       mid new
-      (λ x y own still last. all_served node (seen (begins net) lines) x y own last) first
-      (did_ran (IsStep s.network node result) (Last node) b c net (lines ++ first.block) mid new
+      (λ x y own still last. all_served node (seen from lines) x y own last) first
+      (did_ran (IsStep s.network node result) (Last node) b c from (lines ++ first.block) mid new
       first.stands
       (λ block is. (let own = subst (λ r. IsStep s.network node r block) told is in
       (own, Done own.1))) did)

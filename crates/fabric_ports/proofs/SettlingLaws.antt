@@ -1,4 +1,5 @@
 -- What stays of a fabric, and links that settle one after another.
+use Rattle.fabric_trace.specs.Known.{Seen}
 use Rattle.std.proofs.Common.{◌≡◌, ℕ, zero, suc, ◌+◌, ◌<◌, List, [], ◌∷◌, ◌++◌, length, map, take, drop, get_or, slice_get, Option, Some, None, IsSome, option_map, refl, sym, ap, ◌∙◌, subst, arith}
 use Rattle.std.proofs.lemmas.List.{length-map, take-append-drop, take_more, drop_more}
 use Rattle.rio_chars.specs.declared.outbox.Outbox.{Outbox}
@@ -9,14 +10,14 @@ use Rattle.fabric_model.specs.Network.{Network, link_in}
 use Rattle.fabric_model.proofs.Peers.{link_peers}
 use Rattle.fabric_trace.specs.Blocks.{IsSettle, WithLink}
 use Rattle.fabric_trace.specs.Fold.{seen}
-use Rattle.fabric_trace.specs.Known.{Seen}
 use Rattle.fabric_trace.specs.Lines.{TraceLine, Begun}
 use Rattle.fabric_trace.specs.Parts.{Made}
+use Rattle.fabric_trace.specs.Ready.{IsReady}
 use Rattle.fabric_trace.specs.Rounds.{SettleAll}
 use Rattle.fabric_trace.specs.Runs.{begins}
 use Rattle.fabric_trace.specs.SetUps.{IsSetUp}
 use Rattle.fabric_trace.proofs.Boards.{seen_board}
-use Rattle.fabric_trace.proofs.Existing.{settles_from}
+use Rattle.fabric_trace.proofs.Existing.{good_of, settles_from}
 use Rattle.fabric_trace.proofs.Folding.{seen-append}
 use Rattle.fabric_trace.proofs.Keeping.{IsGood, made_keeps}
 use Rattle.fabric_trace.proofs.Making.{made-append}
@@ -40,42 +41,42 @@ use Rattle.fabric_ports.proofs.RanLaws.{Both, both_as, both_nothing, nothing_bot
 
 -- ---- what stays of a fabric
 
-pub good_behind : {net : Network} {lines : List TraceLine} → IsSetUp net → Made (begins net) lines
-    → IsGood (seen (begins net) lines)
-good_behind {net} set_up made = (made_keeps (good_start net set_up) made).good
+pub good_behind : {from : Seen} {lines : List TraceLine} → IsReady from → Made from lines
+    → IsGood (seen from lines)
+good_behind {from} ready made = (made_keeps (good_of ready) made).good
 
-pub devices_stay : {net : Network} {lines more : List TraceLine} {old new : Fabric}
-    → Stands net lines old → Stands net more new
+pub devices_stay : {from : Seen} {lines more : List TraceLine} {old new : Fabric}
+    → Stands from lines old → Stands from more new
     → length new.devices.items ≡ length old.devices.items
-devices_stay {net} {lines} {more} {old} {new} before after =
+devices_stay {from} {lines} {more} {old} {new} before after =
     let first = ap (λ (l : List Device). length l) before.shows.registers in
     let last = ap (λ (l : List Device). length l) after.shows.registers in
-    sym last ∙ (seen_board more (begins net)).count ∙ sym (seen_board lines (begins net)).count
+    sym last ∙ (seen_board more from).count ∙ sym (seen_board lines from).count
     ∙ first
 
-pub cables_stay : {net : Network} {lines more : List TraceLine} {old new : Fabric}
-    → Stands net lines old → Stands net more new
+pub cables_stay : {from : Seen} {lines more : List TraceLine} {old new : Fabric}
+    → Stands from lines old → Stands from more new
     → length new.cables.items ≡ length old.cables.items
-cables_stay {net} {lines} {more} {old} {new} before after =
+cables_stay {from} {lines} {more} {old} {new} before after =
     sym (length-map new.cables.items ends_of)
     ∙ ap (λ (l : List (PortRef × PortRef)). length l) (links_stand after ∙ sym (links_stand before))
     ∙ length-map old.cables.items ends_of
 
 -- the same nodes are switches
-pub kinds_stay : {net : Network} {lines more : List TraceLine} {old new : Fabric}
-    → Stands net lines old → Stands net more new → (n : ℕ)
+pub kinds_stay : {from : Seen} {lines more : List TraceLine} {old new : Fabric}
+    → Stands from lines old → Stands from more new → (n : ℕ)
     → option_map is_switch (slice_get new.devices.items n)
     ≡ option_map is_switch (slice_get old.devices.items n)
-kinds_stay {net} {lines} {more} {old} {new} before after n =
+kinds_stay {from} {lines} {more} {old} {new} before after n =
     ap (λ (l : List Device). option_map is_switch (slice_get l n)) (sym after.shows.registers)
-    ∙ (seen_board more (begins net)).kinds n ∙ sym ((seen_board lines (begins net)).kinds n)
+    ∙ (seen_board more from).kinds n ∙ sym ((seen_board lines from).kinds n)
     ∙ ap (λ (l : List Device). option_map is_switch (slice_get l n)) before.shows.registers
 
-pub switch_stays : {net : Network} {lines more : List TraceLine} {old new : Fabric}
-    → Stands net lines old → Stands net more new → (n : ℕ) → IsSwitchAt old.devices.items n
+pub switch_stays : {from : Seen} {lines more : List TraceLine} {old new : Fabric}
+    → Stands from lines old → Stands from more new → (n : ℕ) → IsSwitchAt old.devices.items n
     → IsSwitchAt new.devices.items n
-switch_stays {net} {lines} {more} {old} {new} before after n is =
-    switch_of new (seen (begins net) more) n after.shows
+switch_stays {from} {lines} {more} {old} {new} before after n is =
+    switch_of new (seen from more) n after.shows
     (ap (λ (l : List Device). option_map is_switch (slice_get l n)) after.shows.registers
     ∙ kinds_stay before after n ∙ ap (option_map is_switch) is.stands ∙ ap Some is.kind)
 
@@ -123,42 +124,42 @@ cable_link (c ∷ cables) (suc k) cable at within =
     cable_link cables k cable at (omega (arith, within))
 
 -- the link that stands at this place
-pub record IsNext (net : Network) (k : ℕ) (link : PortRef × PortRef) : Type 0 where
-  pub found : link_in net.links link.0 ≡ Some link
-  pub more : take (k + 1) net.links ≡ take k net.links ++ link ∷ []
-  pub whole : take k net.links ++ link ∷ drop (k + 1) net.links ≡ net.links
+pub record IsNext (from : Seen) (k : ℕ) (link : PortRef × PortRef) : Type 0 where
+  pub found : link_in from.network.links link.0 ≡ Some link
+  pub more : take (k + 1) from.network.links ≡ take k from.network.links ++ link ∷ []
+  pub whole : take k from.network.links ++ link ∷ drop (k + 1) from.network.links ≡ from.network.links
 
-pub next_link : {net : Network} {lines : List TraceLine} {fabric : Fabric} (k : ℕ) (cable : Cable)
-    → Stands net lines fabric → cable ≡ get_or fabric.cables.items k cable
-    → k < length fabric.cables.items → IsNext net k (ends_of cable)
-next_link {net} {lines} {fabric} k cable stands at within =
+pub next_link : {from : Seen} {lines : List TraceLine} {fabric : Fabric} (k : ℕ) (cable : Cable)
+    → Stands from lines fabric → cable ≡ get_or fabric.cables.items k cable
+    → k < length fabric.cables.items → IsNext from k (ends_of cable)
+next_link {from} {lines} {fabric} k cable stands at within =
     let same = links_stand stands in
     let link = ends_of cable in
-    let here : link ≡ get_or net.links k link =
+    let here : link ≡ get_or from.network.links k link =
     cable_link fabric.cables.items k cable at within
     ∙ ap (λ (l : List (PortRef × PortRef)). get_or l k link) same in
-    let many : length net.links ≡ length fabric.cables.items =
+    let many : length from.network.links ≡ length fabric.cables.items =
     sym (ap (λ (l : List (PortRef × PortRef)). length l) same)
     ∙ length-map fabric.cables.items ends_of in
-    let inside : k < length net.links = omega (arith, many, within) in
+    let inside : k < length from.network.links = omega (arith, many, within) in
     record {
-      found = found_at net.links net.links k link (all_found net.links stands.set_up.proper) here
+      found = found_at from.network.links from.network.links k link (all_found from.network.links stands.ready.proper) here
           inside;
-      more = take_more net.links k link inside
-          ∙ ap (λ (l : PortRef × PortRef). take k net.links ++ l ∷ []) (sym here);
-      whole = ap (λ (l : PortRef × PortRef). take k net.links ++ l ∷ drop (k + 1) net.links) here
-          ∙ ap (λ (l : List (PortRef × PortRef)). take k net.links ++ l)
-          (sym (drop_more net.links k link inside))
-          ∙ take-append-drop k net.links;
+      more = take_more from.network.links k link inside
+          ∙ ap (λ (l : PortRef × PortRef). take k from.network.links ++ l ∷ []) (sym here);
+      whole = ap (λ (l : PortRef × PortRef). take k from.network.links ++ l ∷ drop (k + 1) from.network.links) here
+          ∙ ap (λ (l : List (PortRef × PortRef)). take k from.network.links ++ l)
+          (sym (drop_more from.network.links k link inside))
+          ∙ take-append-drop k from.network.links;
     }
 
-pub is_linked : {net : Network} {lines : List TraceLine} {fabric : Fabric} (k : ℕ)
-    (link : PortRef × PortRef) → Stands net lines fabric → IsNext net k link
+pub is_linked : {from : Seen} {lines : List TraceLine} {fabric : Fabric} (k : ℕ)
+    (link : PortRef × PortRef) → Stands from lines fabric → IsNext from k link
     → IsLinked fabric link.0
-is_linked {net} {lines} {fabric} k link stands next =
-    let peers = link_peers net.links link.0 link stands.set_up.proper next.found in
+is_linked {from} {lines} {fabric} k link stands next =
+    let peers = link_peers from.network.links link.0 link stands.ready.proper next.found in
     record {
-      net = net;
+      from = from;
       lines = lines;
       stands = stands;
       linked = subst (λ (o : Option PortRef). IsSome o) (sym peers.there) refl;
@@ -166,130 +167,130 @@ is_linked {net} {lines} {fabric} k link stands next =
 
 -- ---- the lines of a link that settles
 
-settle_is : (net : Network) (lines block : List TraceLine) (link : PortRef × PortRef)
-    → link_in net.links link.0 ≡ Some link
-    → WithLink (link_in (seen (begins net) lines).network.links link.0)
-    (IsSettle (seen (begins net) lines)) block
-    → Settles link (seen (begins net) lines) block
-settle_is net lines block link found own =
-    subst (λ (o : Option (PortRef × PortRef)). WithLink o (IsSettle (seen (begins net) lines)) block)
-    (ap (λ (l : List (PortRef × PortRef)). link_in l link.0) (seen_links (begins net) lines)
+settle_is : (from : Seen) (lines block : List TraceLine) (link : PortRef × PortRef)
+    → link_in from.network.links link.0 ≡ Some link
+    → WithLink (link_in (seen from lines).network.links link.0)
+    (IsSettle (seen from lines)) block
+    → Settles link (seen from lines) block
+settle_is from lines block link found own =
+    subst (λ (o : Option (PortRef × PortRef)). WithLink o (IsSettle (seen from lines)) block)
+    (ap (λ (l : List (PortRef × PortRef)). link_in l link.0) (seen_links from lines)
     ∙ found) own
 
 -- what is known behind lines and an event that settles is known without its first line
-unbegun : (net : Network) (lines block : List TraceLine) (port : PortRef)
-    → seen (begins net) (lines ++ Begun (Settle port) ∷ block)
-    ≡ seen (begins net) (lines ++ block)
-unbegun net lines block port =
-    seen-append (begins net) lines (Begun (Settle port) ∷ block)
-    ∙ sym (seen-append (begins net) lines block)
+unbegun : (from : Seen) (lines block : List TraceLine) (port : PortRef)
+    → seen from (lines ++ Begun (Settle port) ∷ block)
+    ≡ seen from (lines ++ block)
+unbegun from lines block port =
+    seen-append from lines (Begun (Settle port) ∷ block)
+    ∙ sym (seen-append from lines block)
 
-settles_made : (net : Network) (link : PortRef × PortRef) → IsSetUp net
-    → link_in net.links link.0 ≡ Some link → IsMade net (Settles link)
-settles_made net link set_up found lines block made sent own =
-    let s = seen (begins net) lines in
-    let good = good_behind set_up made in
+settles_made : (from : Seen) (link : PortRef × PortRef) → IsReady from
+    → link_in from.network.links link.0 ≡ Some link → IsMade from (Settles link)
+settles_made from link ready found lines block made sent own =
+    let s = seen from lines in
+    let good = good_behind ready made in
     let peers = link_peers s.network.links link.0 link good.proper
-    (ap (λ (l : List (PortRef × PortRef)). link_in l link.0) (seen_links (begins net) lines)
+    (ap (λ (l : List (PortRef × PortRef)). link_in l link.0) (seen_links from lines)
     ∙ found) in
     made-append made (link_made s link.0 link.1 block good sent peers own)
 
 module _ {K : Type 0} (written : K → Option (List ℕ)) (faults : K → ℕ) (names : List (List ℕ)) where
-  pub settle_ran : (a b : Outbox K) (net : Network) (lines : List TraceLine) (old new : Fabric)
-      (link : PortRef × PortRef) → Stands net lines old → link_in net.links link.0 ≡ Some link
-      → Blocked (Settle link.0) names written faults a b net lines new
-      → Ran (Settles link) names written faults a b net lines new
-  settle_ran a b net lines old new link stands found blocked =
-      let own = settle_is net lines blocked.block link found blocked.is in
-      let same = unbegun net lines blocked.block link.0 in
+  pub settle_ran : (a b : Outbox K) (from : Seen) (lines : List TraceLine) (old new : Fabric)
+      (link : PortRef × PortRef) → Stands from lines old → link_in from.network.links link.0 ≡ Some link
+      → Blocked (Settle link.0) names written faults a b from lines new
+      → Ran (Settles link) names written faults a b from lines new
+  settle_ran a b from lines old new link stands found blocked =
+      let own = settle_is from lines blocked.block link found blocked.is in
+      let same = unbegun from lines blocked.block link.0 in
       record {
         block = blocked.block;
         prints = blocked.prints;
         is = own;
         stands = record {
-          set_up = stands.set_up;
-          made = settles_made net link stands.set_up found lines blocked.block stands.made
+          ready = stands.ready;
+          made = settles_made from link stands.ready found lines blocked.block stands.made
               stands.sent own;
           sent = sym (ap (λ (t : Seen). t.unfaithful) same) ∙ blocked.stands.sent;
           shows = subst (ShowsFabric new) same blocked.stands.shows;
         };
       }
 
-  settle_ends : (a b : Outbox K) (net : Network) (lines : List TraceLine)
-      (link : PortRef × PortRef) (end : EventEnd) → link_in net.links link.0 ≡ Some link
-      → BlockEnds (Settle link.0) names written faults a b net lines end
-      → RanEnds (Settles link) names written faults a b net lines end
-  settle_ends a b net lines link (Undetected port event) found ends = record {
+  settle_ends : (a b : Outbox K) (from : Seen) (lines : List TraceLine)
+      (link : PortRef × PortRef) (end : EventEnd) → link_in from.network.links link.0 ≡ Some link
+      → BlockEnds (Settle link.0) names written faults a b from lines end
+      → RanEnds (Settles link) names written faults a b from lines end
+  settle_ends a b from lines link (Undetected port event) found ends = record {
     block = ends.block;
     prints = ends.prints;
-    is = settle_is net lines ends.block link found ends.is;
-    found = sym (ap (λ (t : Seen). t.unfaithful) (unbegun net lines ends.block link.0)) ∙ ends.found;
+    is = settle_is from lines ends.block link found ends.is;
+    found = sym (ap (λ (t : Seen). t.unfaithful) (unbegun from lines ends.block link.0)) ∙ ends.found;
   }
-  settle_ends a b net lines link NoMemory found ends = record {
+  settle_ends a b from lines link NoMemory found ends = record {
     block = ends.block;
     front = ends.front;
     rest = ends.rest;
     prints = ends.prints;
-    is = settle_is net lines ends.block link found ends.is;
+    is = settle_is from lines ends.block link found ends.is;
     whole = ends.whole;
   }
 
   -- one link more has settled
-  pub settled_more : (a b c : Outbox K) (net : Network) (lines : List TraceLine)
-      (old mid new : Fabric) (k : ℕ) (link : PortRef × PortRef) → Stands net lines old
-      → IsNext net k link
-      → (first : Ran (SettleAll IsSettle (take k net.links)) names written faults a b net lines mid)
-      → Blocked (Settle link.0) names written faults b c net (lines ++ first.block) new
-      → Ran (SettleAll IsSettle (take (k + 1) net.links)) names written faults a c net lines new
-  settled_more a b c net lines old mid new k link stands next first blocked =
-      let one = ran_as written faults names (Settles link) (SettleAll IsSettle (link ∷ [])) b c net
+  pub settled_more : (a b c : Outbox K) (from : Seen) (lines : List TraceLine)
+      (old mid new : Fabric) (k : ℕ) (link : PortRef × PortRef) → Stands from lines old
+      → IsNext from k link
+      → (first : Ran (SettleAll IsSettle (take k from.network.links)) names written faults a b from lines mid)
+      → Blocked (Settle link.0) names written faults b c from (lines ++ first.block) new
+      → Ran (SettleAll IsSettle (take (k + 1) from.network.links)) names written faults a c from lines new
+  settled_more a b c from lines old mid new k link stands next first blocked =
+      let one = ran_as written faults names (Settles link) (SettleAll IsSettle (link ∷ [])) b c from
       (lines ++ first.block) new
-      (λ block own. settle_one link (seen (begins net) (lines ++ first.block)) block own)
-      (settle_ran b c net (lines ++ first.block) mid new link first.stands next.found blocked) in
+      (λ block own. settle_one link (seen from (lines ++ first.block)) block own)
+      (settle_ran b c from (lines ++ first.block) mid new link first.stands next.found blocked) in
       ran_as written faults names
-      (Both (SettleAll IsSettle (take k net.links)) (SettleAll IsSettle (link ∷ [])))
-      (SettleAll IsSettle (take (k + 1) net.links)) a c net lines new
+      (Both (SettleAll IsSettle (take k from.network.links)) (SettleAll IsSettle (link ∷ [])))
+      (SettleAll IsSettle (take (k + 1) from.network.links)) a c from lines new
       (λ block both. subst (λ (l : List (PortRef × PortRef)). SettleAll IsSettle l
-      (seen (begins net) lines) block) (sym next.more)
-      (settle_append (take k net.links) (link ∷ []) (seen (begins net) lines) block stands.sent
+      (seen from lines) block) (sym next.more)
+      (settle_append (take k from.network.links) (link ∷ []) (seen from lines) block stands.sent
       both))
-      (ran_both written faults names (SettleAll IsSettle (take k net.links))
-      (SettleAll IsSettle (link ∷ [])) a b c net lines mid new first one)
+      (ran_both written faults names (SettleAll IsSettle (take k from.network.links))
+      (SettleAll IsSettle (link ∷ [])) a b c from lines mid new first one)
 
   -- a link did not come to its end
-  pub settled_short : (a b c : Outbox K) (net : Network) (lines : List TraceLine)
+  pub settled_short : (a b c : Outbox K) (from : Seen) (lines : List TraceLine)
       (old mid : Fabric) (k : ℕ) (link : PortRef × PortRef) (end : EventEnd)
-      → Stands net lines old → IsNext net k link
-      → (first : Ran (SettleAll IsSettle (take k net.links)) names written faults a b net lines mid)
-      → BlockEnds (Settle link.0) names written faults b c net (lines ++ first.block) end
-      → RanEnds LinksSettle names written faults a c net lines end
-  settled_short a b c net lines old mid k link end stands next first ends =
-      let rest = drop (k + 1) net.links in
-      let on : GoesOn net (SettleAll IsSettle rest) =
-      λ more made sent. (let own = settles_from rest net.links (seen (begins net) more)
-      (good_behind stands.set_up made) sent (seen_links (begins net) more)
-      (found_drop net.links net.links (k + 1) (all_found net.links stands.set_up.proper)) in
+      → Stands from lines old → IsNext from k link
+      → (first : Ran (SettleAll IsSettle (take k from.network.links)) names written faults a b from lines mid)
+      → BlockEnds (Settle link.0) names written faults b c from (lines ++ first.block) end
+      → RanEnds LinksSettle names written faults a c from lines end
+  settled_short a b c from lines old mid k link end stands next first ends =
+      let rest = drop (k + 1) from.network.links in
+      let on : GoesOn from (SettleAll IsSettle rest) =
+      λ more made sent. (let own = settles_from rest from.network.links (seen from more)
+      (good_behind stands.ready made) sent (seen_links from more)
+      (found_drop from.network.links from.network.links (k + 1) (all_found from.network.links stands.ready.proper)) in
       (own.lines, own.is)) in
-      let own = ends_first written faults names (Settles link) (SettleAll IsSettle rest) b c net
-      (lines ++ first.block) mid end (settles_made net link stands.set_up next.found) on
+      let own = ends_first written faults names (Settles link) (SettleAll IsSettle rest) b c from
+      (lines ++ first.block) mid end (settles_made from link stands.ready next.found) on
       first.stands
-      (settle_ends b c net (lines ++ first.block) link end next.found ends) in
+      (settle_ends b c from (lines ++ first.block) link end next.found ends) in
       ends_as written faults names
-      (Both (SettleAll IsSettle (take k net.links)) (SettleAll IsSettle (link ∷ rest)))
-      LinksSettle a c net lines end
+      (Both (SettleAll IsSettle (take k from.network.links)) (SettleAll IsSettle (link ∷ rest)))
+      LinksSettle a c from lines end
       (λ block both. subst (λ (l : List (PortRef × PortRef)). SettleAll IsSettle l
-      (seen (begins net) lines) block) (next.whole ∙ sym (seen_links (begins net) lines))
-      (settle_append (take k net.links) (link ∷ rest) (seen (begins net) lines) block stands.sent
+      (seen from lines) block) (next.whole ∙ sym (seen_links from lines))
+      (settle_append (take k from.network.links) (link ∷ rest) (seen from lines) block stands.sent
       both))
-      (ends_second written faults names (SettleAll IsSettle (take k net.links))
-      (SettleAll IsSettle (link ∷ rest)) a b c net lines mid end first own)
+      (ends_second written faults names (SettleAll IsSettle (take k from.network.links))
+      (SettleAll IsSettle (link ∷ rest)) a b c from lines mid end first own)
 
   -- all links have settled
-  pub settled_all : (a b : Outbox K) (net : Network) (lines : List TraceLine) (new : Fabric)
-      (links : List (PortRef × PortRef)) → links ≡ net.links
-      → Ran (SettleAll IsSettle links) names written faults a b net lines new
-      → Ran LinksSettle names written faults a b net lines new
-  settled_all a b net lines new links same ran =
-      ran_as written faults names (SettleAll IsSettle links) LinksSettle a b net lines new
+  pub settled_all : (a b : Outbox K) (from : Seen) (lines : List TraceLine) (new : Fabric)
+      (links : List (PortRef × PortRef)) → links ≡ from.network.links
+      → Ran (SettleAll IsSettle links) names written faults a b from lines new
+      → Ran LinksSettle names written faults a b from lines new
+  settled_all a b from lines new links same ran =
+      ran_as written faults names (SettleAll IsSettle links) LinksSettle a b from lines new
       (λ block own. subst (λ (l : List (PortRef × PortRef)). SettleAll IsSettle l
-      (seen (begins net) lines) block) (same ∙ sym (seen_links (begins net) lines)) own) ran
+      (seen from lines) block) (same ∙ sym (seen_links from lines)) own) ran

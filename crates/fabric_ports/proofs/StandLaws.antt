@@ -9,6 +9,7 @@ use Rattle.fabric_trace.specs.Lines.{TraceLine, Begun}
 use Rattle.fabric_trace.specs.Parts.Part.{Begins}
 use Rattle.fabric_trace.specs.Runs.{begins}
 use Rattle.fabric_trace.proofs.Folding.{seen-append}
+use Rattle.fabric_trace.proofs.Existing.{good_of}
 use Rattle.fabric_trace.proofs.Keeping.{made_keeps}
 use Rattle.fabric_trace.proofs.Making.{one_part, made-append}
 use Rattle.fabric_trace.proofs.Running.{block_made}
@@ -18,20 +19,20 @@ use Rattle.fabric_ports.specs.Showing.{ShowsFabric}
 use Rattle.fabric_ports.specs.Standing.{Stands}
 
 -- what is known after the lines of an event, and the lines that it stands behind
-pub stands_on : (net : Network) (lines : List TraceLine) (old new : Fabric) (line : Line)
-    (block : List TraceLine) → Stands net lines old
-    → IsBlock (seen (begins net) lines) line block
-    → (seen (seen (begins net) lines) (Begun line ∷ block)).unfaithful ≡ None
-    → ShowsFabric new (seen (seen (begins net) lines) (Begun line ∷ block))
-    → Stands net (lines ++ Begun line ∷ block) new
-stands_on net lines old new line block stands is sent shows =
-    let s = seen (begins net) lines in
-    let good = (made_keeps (good_start net stands.set_up) stands.made).good in
+pub stands_on : (from : Seen) (lines : List TraceLine) (old new : Fabric) (line : Line)
+    (block : List TraceLine) → Stands from lines old
+    → IsBlock (seen from lines) line block
+    → (seen (seen from lines) (Begun line ∷ block)).unfaithful ≡ None
+    → ShowsFabric new (seen (seen from lines) (Begun line ∷ block))
+    → Stands from (lines ++ Begun line ∷ block) new
+stands_on from lines old new line block stands is sent shows =
+    let s = seen from lines in
+    let good = (made_keeps (good_of stands.ready) stands.made).good in
     let made = block_made line s block good stands.sent is in
-    let joined : seen (begins net) (lines ++ Begun line ∷ block) ≡ seen s (Begun line ∷ block) =
-    seen-append (begins net) lines (Begun line ∷ block) in
+    let joined : seen from (lines ++ Begun line ∷ block) ≡ seen s (Begun line ∷ block) =
+    seen-append from lines (Begun line ∷ block) in
     record {
-      set_up = stands.set_up;
+      ready = stands.ready;
       made = made-append stands.made
           (made-append {s = s} {xs = Begun line ∷ []} {ys = block} (one_part (Begins line refl))
           made);

@@ -8,6 +8,7 @@ use Rattle.fabric_script.specs.declared.lines.Line.{Line}
 use Rattle.fabric_model.specs.Network.{Network}
 use Rattle.fabric_trace.specs.Blocks.{IsBlock}
 use Rattle.fabric_trace.specs.Fold.{seen}
+use Rattle.fabric_trace.specs.Known.{Seen}
 use Rattle.fabric_trace.specs.Lines.{TraceLine, Begun}
 use Rattle.fabric_trace.specs.Runs.{begins}
 use Rattle.fabric_trace.specs.Text.{trace_text}
@@ -19,37 +20,37 @@ use Rattle.fabric_ports.specs.Standing.{Stands}
 -- the whole block, and the fabric stands for the lines with it
 pub record Blocked (line : Line) (names : List (List ℕ)) {K : Type 0}
     (written : K → Option (List ℕ)) (faults : K → ℕ) (old new : Outbox K)
-    (net : Network) (lines : List TraceLine) (fabric : Fabric) : Type 0 where
+    (from : Seen) (lines : List TraceLine) (fabric : Fabric) : Type 0 where
   pub block : List TraceLine
   pub prints : Writes written faults old new (trace_text names block)
-  pub is : IsBlock (seen (begins net) lines) line block
-  pub stands : Stands net (lines ++ Begun line ∷ block) fabric
+  pub is : IsBlock (seen from lines) line block
+  pub stands : Stands from (lines ++ Begun line ∷ block) fabric
 
 -- the block, up to an event that was acted on and not sent, which is this one
 pub record BlockedAt (line : Line) (names : List (List ℕ)) {K : Type 0}
     (written : K → Option (List ℕ)) (faults : K → ℕ) (old new : Outbox K)
-    (net : Network) (lines : List TraceLine) (port : PortRef) (event : Event) : Type 0 where
+    (from : Seen) (lines : List TraceLine) (port : PortRef) (event : Event) : Type 0 where
   pub block : List TraceLine
   pub prints : Writes written faults old new (trace_text names block)
-  pub is : IsBlock (seen (begins net) lines) line block
-  pub found : (seen (begins net) (lines ++ Begun line ∷ block)).unfaithful
+  pub is : IsBlock (seen from lines) line block
+  pub found : (seen from (lines ++ Begun line ∷ block)).unfaithful
       ≡ Some (record { port = port; event = event })
 
 -- a front of the block
 pub record BlockedShort (line : Line) (names : List (List ℕ)) {K : Type 0}
     (written : K → Option (List ℕ)) (faults : K → ℕ) (old new : Outbox K)
-    (net : Network) (lines : List TraceLine) : Type 0 where
+    (from : Seen) (lines : List TraceLine) : Type 0 where
   pub block : List TraceLine
   pub front : List TraceLine
   pub rest : List TraceLine
   pub prints : Writes written faults old new (trace_text names front)
-  pub is : IsBlock (seen (begins net) lines) line block
+  pub is : IsBlock (seen from lines) line block
   pub whole : block ≡ front ++ rest
 
 -- by why the event ended
 abbrev pub BlockEnds : Line → List (List ℕ) → {K : Type 0} → (K → Option (List ℕ)) → (K → ℕ)
-    → Outbox K → Outbox K → Network → List TraceLine → EventEnd → Type 0
-BlockEnds line names written faults old new net lines (Undetected port event) =
-    BlockedAt line names written faults old new net lines port event
-BlockEnds line names written faults old new net lines NoMemory =
-    BlockedShort line names written faults old new net lines
+    → Outbox K → Outbox K → Seen → List TraceLine → EventEnd → Type 0
+BlockEnds line names written faults old new from lines (Undetected port event) =
+    BlockedAt line names written faults old new from lines port event
+BlockEnds line names written faults old new from lines NoMemory =
+    BlockedShort line names written faults old new from lines

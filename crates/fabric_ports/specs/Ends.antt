@@ -5,6 +5,7 @@ use Rattle.fabric_script.specs.declared.ports.PortRef.{PortRef}
 use Rattle.fabric_model.specs.Network.{Network, link_in}
 use Rattle.fabric_trace.specs.Blocks.{port_at_side}
 use Rattle.fabric_trace.specs.Events.{HasLink}
+use Rattle.fabric_trace.specs.Known.{Seen}
 use Rattle.fabric_trace.specs.Lines.{TraceLine}
 use Rattle.fabric_ports.specs.Places.{place_of}
 use Rattle.fabric_ports.specs.Showing.{ends_of}
@@ -15,10 +16,10 @@ use Rattle.fabric_ports.specs.declared.fabric.Fabric.{Fabric}
 
 -- the fabric stands for some lines, and the port has a link
 pub record IsLinked (fabric : Fabric) (port : PortRef) : Type 0 where
-  pub net : Network
+  pub from : Seen
   pub lines : List TraceLine
-  pub stands : Stands net lines fabric
-  pub linked : HasLink net port
+  pub stands : Stands from lines fabric
+  pub linked : HasLink from.network port
 
 -- the link of a port stands at this place, and the port is this end of it
 pub record IsEndOf (cables : List Cable) (port : PortRef) (place : ℕ) (side : Side) : Type 0 where

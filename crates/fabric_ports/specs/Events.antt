@@ -35,10 +35,10 @@ use Rattle.fabric_ports.specs.Standing.{Stands}
 -- The fabric stands for some lines, and the event may follow them. Each device of the fabric has a
 -- name, and a byte tells them apart.
 pub record MayFollow (fabric : Fabric) (names : List (List ℕ)) (line : Line) : Type 0 where
-  pub net : Network
+  pub from : Seen
   pub lines : List TraceLine
-  pub stands : Stands net lines fabric
-  pub happens : MayHappen names (seen (begins net) lines).network line
+  pub stands : Stands from lines fabric
+  pub happens : MayHappen names (seen from lines).network line
   pub event : is_event line ≡ true
   pub names_suffice : length fabric.devices.items ≤ length names
   pub few_names : length names ≤ 256
@@ -130,42 +130,49 @@ abbrev pub IsStep : Network → ℕ → Bool → List TraceLine → Type 0
 IsStep net node true block = IsMove net node block × (block ≢ Lacked NoStep ∷ [])
 IsStep net node false block = IsMove net node (Lacked NoStep ∷ []) × (block ≡ [])
 
--- An event was carried out behind these lines: its block was written, and the fabric stands for the
--- lines with it.
+-- the event has no other block
+abbrev pub IsOnlyBlock : Seen → Line → List TraceLine → Type 0
+IsOnlyBlock s line block = (other : List TraceLine) → IsBlock s line other → other ≡ block
+
+-- An event was carried out behind these lines: its one block was written, and the fabric stands for
+-- the lines with it.
 pub record Evented (line : Line) (names : List (List ℕ)) {K : Type 0}
     (written : K → Option (List ℕ)) (faults : K → ℕ) (old new : Outbox K)
-    (net : Network) (lines : List TraceLine) (fabric : Fabric) (answer : Happened) : Type 0 where
+    (from : Seen) (lines : List TraceLine) (fabric : Fabric) (answer : Happened) : Type 0 where
   pub block : List TraceLine
   pub prints : Writes written faults old new (trace_text names (Begun line ∷ block))
-  pub is : IsBlock (seen (begins net) lines) line block
-  pub stands : Stands net (lines ++ Begun line ∷ block) fabric
+  pub is : IsBlock (seen from lines) line block
+  pub only : IsOnlyBlock (seen from lines) line block
+  pub stands : Stands from (lines ++ Begun line ∷ block) fabric
   pub answered : answer ≡ happened line block
 
 -- The block was written up to an event that was acted on and not sent, which is this one.
 pub record Exposed (line : Line) (names : List (List ℕ)) {K : Type 0}
     (written : K → Option (List ℕ)) (faults : K → ℕ) (old new : Outbox K)
-    (net : Network) (lines : List TraceLine) (port : PortRef) (event : Event) : Type 0 where
+    (from : Seen) (lines : List TraceLine) (port : PortRef) (event : Event) : Type 0 where
   pub block : List TraceLine
   pub prints : Writes written faults old new (trace_text names (Begun line ∷ block))
-  pub is : IsBlock (seen (begins net) lines) line block
-  pub found : (seen (begins net) (lines ++ Begun line ∷ block)).unfaithful
+  pub is : IsBlock (seen from lines) line block
+  pub only : IsOnlyBlock (seen from lines) line block
+  pub found : (seen from (lines ++ Begun line ∷ block)).unfaithful
       ≡ Some (record { port = port; event = event })
 
 -- Only a front of the block was written.
 pub record CutShort (line : Line) (names : List (List ℕ)) {K : Type 0}
     (written : K → Option (List ℕ)) (faults : K → ℕ) (old new : Outbox K)
-    (net : Network) (lines : List TraceLine) : Type 0 where
+    (from : Seen) (lines : List TraceLine) : Type 0 where
   pub block : List TraceLine
   pub front : List TraceLine
   pub rest : List TraceLine
   pub prints : Writes written faults old new (trace_text names front)
-  pub is : IsBlock (seen (begins net) lines) line block
+  pub is : IsBlock (seen from lines) line block
+  pub only : IsOnlyBlock (seen from lines) line block
   pub whole : Begun line ∷ block ≡ front ++ rest
 
 -- by why the event ended
 abbrev pub EventEnds : Line → List (List ℕ) → {K : Type 0} → (K → Option (List ℕ)) → (K → ℕ)
-    → Outbox K → Outbox K → Network → List TraceLine → EventEnd → Type 0
-EventEnds line names written faults old new net lines (Undetected port event) =
-    Exposed line names written faults old new net lines port event
-EventEnds line names written faults old new net lines NoMemory =
-    CutShort line names written faults old new net lines
+    → Outbox K → Outbox K → Seen → List TraceLine → EventEnd → Type 0
+EventEnds line names written faults old new from lines (Undetected port event) =
+    Exposed line names written faults old new from lines port event
+EventEnds line names written faults old new from lines NoMemory =
+    CutShort line names written faults old new from lines

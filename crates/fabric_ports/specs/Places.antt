@@ -2,6 +2,7 @@
 use Rattle.std.specs.Prelude.{◌≡◌, ℕ, ◌+◌, ◌<◌, false, true, List, [], ◌∷◌, Option, Some, None, slice_get, slice_index_or}
 use Rattle.fabric_script.specs.declared.ports.PortRef.{PortRef}
 use Rattle.maint_registers.specs.Devices.{Device, is_switch}
+pub use Rattle.fabric_model.specs.Laws.Nodes.{HasPort, IsPortOf}
 
 -- each device's ports stand in a row, behind those of the devices before it: where the first of
 -- each stands
@@ -16,14 +17,6 @@ AreFirsts place (device ∷ devices) (first ∷ firsts) =
 abbrev pub port_count : List Device → ℕ
 port_count [] = 0
 port_count (device ∷ devices) = device.ports + port_count devices
-
-abbrev pub HasPort : Option Device → ℕ → Type 0
-HasPort None port = ⊥
-HasPort (Some device) port = port < device.ports
-
--- it is a port of one of the devices
-abbrev pub IsPortOf : List Device → PortRef → Type 0
-IsPortOf devices p = HasPort (slice_get devices p.node) p.port
 
 -- the device is an endpoint
 pub record IsEndpointAt (devices : List Device) (node : ℕ) : Type 0 where

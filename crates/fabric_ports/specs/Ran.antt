@@ -35,38 +35,38 @@ SwitchesServe s lines = ServeNodes 0 s.network.registers s lines
 
 -- lines were written which are such, and the fabric stands for those before with these
 pub record Ran (Is : Kind) (names : List (List ℕ)) {K : Type 0} (written : K → Option (List ℕ))
-    (faults : K → ℕ) (old new : Outbox K) (net : Network) (lines : List TraceLine)
+    (faults : K → ℕ) (old new : Outbox K) (from : Seen) (lines : List TraceLine)
     (fabric : Fabric) : Type 0 where
   pub block : List TraceLine
   pub prints : Writes written faults old new (trace_text names block)
-  pub is : Is (seen (begins net) lines) block
-  pub stands : Stands net (lines ++ block) fabric
+  pub is : Is (seen from lines) block
+  pub stands : Stands from (lines ++ block) fabric
 
 -- the same up to an event that was acted on and not sent, which is this one
 pub record RanInto (Is : Kind) (names : List (List ℕ)) {K : Type 0} (written : K → Option (List ℕ))
-    (faults : K → ℕ) (old new : Outbox K) (net : Network) (lines : List TraceLine)
+    (faults : K → ℕ) (old new : Outbox K) (from : Seen) (lines : List TraceLine)
     (port : PortRef) (event : Event) : Type 0 where
   pub block : List TraceLine
   pub prints : Writes written faults old new (trace_text names block)
-  pub is : Is (seen (begins net) lines) block
-  pub found : (seen (begins net) (lines ++ block)).unfaithful
+  pub is : Is (seen from lines) block
+  pub found : (seen from (lines ++ block)).unfaithful
       ≡ Some (record { port = port; event = event })
 
 -- a front of such lines was written
 pub record RanShort (Is : Kind) (names : List (List ℕ)) {K : Type 0}
     (written : K → Option (List ℕ)) (faults : K → ℕ) (old new : Outbox K)
-    (net : Network) (lines : List TraceLine) : Type 0 where
+    (from : Seen) (lines : List TraceLine) : Type 0 where
   pub block : List TraceLine
   pub front : List TraceLine
   pub rest : List TraceLine
   pub prints : Writes written faults old new (trace_text names front)
-  pub is : Is (seen (begins net) lines) block
+  pub is : Is (seen from lines) block
   pub whole : block ≡ front ++ rest
 
 -- by why it ended
 abbrev pub RanEnds : Kind → List (List ℕ) → {K : Type 0} → (K → Option (List ℕ)) → (K → ℕ)
-    → Outbox K → Outbox K → Network → List TraceLine → EventEnd → Type 0
-RanEnds Is names written faults old new net lines (Undetected port event) =
-    RanInto Is names written faults old new net lines port event
-RanEnds Is names written faults old new net lines NoMemory =
-    RanShort Is names written faults old new net lines
+    → Outbox K → Outbox K → Seen → List TraceLine → EventEnd → Type 0
+RanEnds Is names written faults old new from lines (Undetected port event) =
+    RanInto Is names written faults old new from lines port event
+RanEnds Is names written faults old new from lines NoMemory =
+    RanShort Is names written faults old new from lines

@@ -27,8 +27,8 @@ AreForms (Dropped from packet) = Passes packet
 AreForms (Answered port request response) = Passes request × Passes response
 AreForms Nothing = Unit {0}
 
--- The ports of a device, which stand in a list from a place on, made its first step. The other ports
--- are as they were.
+-- The ports of a device, which stand in a list from a place on, made its first step. The other
+-- ports are as they were.
 pub record MadeStep (first : ℕ) (device next : Device) (old new : List PortState) (step : Step)
     : Type 0 where
   pub own : List PortState

@@ -3,6 +3,7 @@ ghost use Rattle.std.specs.Prelude.{◌≡◌, ◌≢◌, ◌≤◌, ◌<◌, �
 ghost use Rattle.rio_chars.specs.Written.{Writes};
 ghost use Rattle.fabric_model.specs.Network.{Network};
 ghost use Rattle.fabric_trace.specs.Blocks.{port_at_side};
+ghost use Rattle.fabric_trace.specs.Known.{Seen};
 ghost use Rattle.fabric_trace.specs.Lines.{TraceLine};
 ghost use Rattle.fabric_trace.specs.Text.{trace_text};
 ghost use Rattle.link_law.specs.Does.{end_of};
@@ -62,12 +63,12 @@ impl Fabric {
         requires linked { IsLinked self.old port }
         requires named { length self.old.devices.items ≤ length names.now }
         requires some { AsksForSome action }
-        ensures done { OnOk result ((net : Network) (lines : List TraceLine)
-            → Stands net lines self.old → Blocked (line_for port action) names.now
-            K.written K.faults outbox.old outbox.new net lines self.new) }
-        ensures ended { IfErr result (λ end. (net : Network) (lines : List TraceLine)
-            → Stands net lines self.old → BlockEnds (line_for port action) names.now
-            K.written K.faults outbox.old outbox.new net lines end) }
+        ensures done { OnOk result ((from : Seen) (lines : List TraceLine)
+            → Stands from lines self.old → Blocked (line_for port action) names.now
+            K.written K.faults outbox.old outbox.new from lines self.new) }
+        ensures ended { IfErr result (λ end. (from : Seen) (lines : List TraceLine)
+            → Stands from lines self.old → BlockEnds (line_for port action) names.now
+            K.written K.faults outbox.old outbox.new from lines end) }
     {
         let place = self.link_of(port);
         let cable = &mut self.cables[place.cable];

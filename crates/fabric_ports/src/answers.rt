@@ -8,7 +8,8 @@ use rio_packets::Packet;
 pub enum Happened {
     /// A packet was taken to be sent.
     Took,
-    /// There was no room for the packet to be sent, or for the response to the request that is next.
+    /// There was no room for the packet to be sent, or for the response to the request that is
+    /// next.
     Full,
     /// This packet left the fabric.
     Left(Packet),

@@ -3,6 +3,7 @@ ghost use Rattle.std.specs.Prelude.{◌≡◌, ℕ, List, Some, OnOk, IfErr};
 ghost use Rattle.fabric_model.specs.Network.{Network};
 ghost use Rattle.fabric_script.specs.declared.lines.Line.{Line};
 ghost use Rattle.fabric_trace.specs.Fold.{edit_of};
+ghost use Rattle.fabric_trace.specs.Known.{Seen};
 ghost use Rattle.fabric_trace.specs.Lines.{TraceLine};
 ghost use Rattle.fabric_ports.specs.Acting.{acted};
 ghost use Rattle.fabric_ports.specs.Blocked.{Blocked, BlockEnds};
@@ -28,12 +29,12 @@ impl Fabric {
     ) -> Result<(), EventEnd>
         requires { IsLinked self.old port }
         ensures done { (names : List (List ℕ)) (line : Line) → edit_of line ≡ Some (port, edit.now)
-            → OnOk result ((net : Network) (lines : List TraceLine) → Stands net lines self.old
-            → Blocked line names K.written K.faults outbox.old outbox.new net lines self.new) }
+            → OnOk result ((from : Seen) (lines : List TraceLine) → Stands from lines self.old
+            → Blocked line names K.written K.faults outbox.old outbox.new from lines self.new) }
         ensures ended { (names : List (List ℕ)) (line : Line) → edit_of line ≡ Some (port, edit.now)
-            → IfErr result (λ end. (net : Network) (lines : List TraceLine)
-            → Stands net lines self.old
-            → BlockEnds line names K.written K.faults outbox.old outbox.new net lines end) }
+            → IfErr result (λ end. (from : Seen) (lines : List TraceLine)
+            → Stands from lines self.old
+            → BlockEnds line names K.written K.faults outbox.old outbox.new from lines end) }
     {
         let place = self.link_of(port);
         let cable = &mut self.cables[place.cable];

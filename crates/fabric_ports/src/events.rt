@@ -3,6 +3,7 @@ ghost use Rattle.std.specs.Prelude.{◌≡◌, List, IsSome, IfOk, IfErr};
 ghost use Rattle.rio_packets.specs.LinkForm.{LinkForm};
 ghost use Rattle.fabric_model.specs.Network.{Network};
 ghost use Rattle.fabric_trace.specs.Events.{IsInRange};
+ghost use Rattle.fabric_trace.specs.Known.{Seen};
 ghost use Rattle.fabric_trace.specs.Lines.{TraceLine};
 ghost use Rattle.fabric_ports.specs.Events.{MayFollow, Evented, EventEnds, taker, IsWrite, body_in, other_of};
 ghost use Rattle.fabric_ports.specs.Standing.{Stands};
@@ -33,12 +34,12 @@ impl Fabric {
         outbox: &mut Outbox<K>,
     ) -> Result<Happened, EventEnd>
         requires may { MayFollow self.old names.now line.now }
-        ensures done { IfOk result (λ answer. (net : Network) (lines : List TraceLine)
-            → Stands net lines self.old → Evented line.now names.now
-            K.written K.faults outbox.old outbox.new net lines self.new answer) }
-        ensures ended { IfErr result (λ end. (net : Network) (lines : List TraceLine)
-            → Stands net lines self.old → EventEnds line.now names.now
-            K.written K.faults outbox.old outbox.new net lines end) }
+        ensures done { IfOk result (λ answer. (from : Seen) (lines : List TraceLine)
+            → Stands from lines self.old → Evented line.now names.now
+            K.written K.faults outbox.old outbox.new from lines self.new answer) }
+        ensures ended { IfErr result (λ end. (from : Seen) (lines : List TraceLine)
+            → Stands from lines self.old → EventEnds line.now names.now
+            K.written K.faults outbox.old outbox.new from lines end) }
     {
         write_begun(outbox, names, line);
         match line {

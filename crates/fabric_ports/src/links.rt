@@ -1,6 +1,7 @@
 //! Events at links.
 ghost use Rattle.std.specs.Prelude.{◌≡◌, List, OnOk, IfErr};
 ghost use Rattle.fabric_model.specs.Network.{Network};
+ghost use Rattle.fabric_trace.specs.Known.{Seen};
 ghost use Rattle.fabric_trace.specs.Lines.{TraceLine};
 ghost use Rattle.fabric_ports.specs.Blocked.{Blocked, BlockEnds};
 ghost use Rattle.fabric_ports.specs.Events.{MayFollow, IsAtLink};
@@ -25,12 +26,12 @@ impl Fabric {
     ) -> Result<(), EventEnd>
         requires may { MayFollow self.old names.now line.now }
         requires link { IsAtLink line.now }
-        ensures done { OnOk result ((net : Network) (lines : List TraceLine)
-            → Stands net lines self.old → Blocked line.now names.now
-            K.written K.faults outbox.old outbox.new net lines self.new) }
-        ensures ended { IfErr result (λ end. (net : Network) (lines : List TraceLine)
-            → Stands net lines self.old → BlockEnds line.now names.now
-            K.written K.faults outbox.old outbox.new net lines end) }
+        ensures done { OnOk result ((from : Seen) (lines : List TraceLine)
+            → Stands from lines self.old → Blocked line.now names.now
+            K.written K.faults outbox.old outbox.new from lines self.new) }
+        ensures ended { IfErr result (λ end. (from : Seen) (lines : List TraceLine)
+            → Stands from lines self.old → BlockEnds line.now names.now
+            K.written K.faults outbox.old outbox.new from lines end) }
     {
         match line {
             Line::Pump { port, n } => self.act(alloc, names, *port, Action::Pump(*n), outbox),

@@ -3,10 +3,10 @@ ghost use Rattle.std.specs.Prelude.{◌≡◌, ◌<◌, length, None};
 ghost use Rattle.rio_packets.specs.LinkForm.{Passes};
 ghost use Rattle.fabric_model.specs.Laws.Priorities.{ByPriority};
 ghost use Rattle.fabric_trace.specs.Blocks.{takes};
-ghost use Rattle.fabric_trace.specs.Known.{Seen};
 ghost use Rattle.fabric_ports.specs.Events.{Did, taken, collected};
 ghost use Rattle.fabric_ports.specs.Places.{IsEndpointAt};
 ghost use Rattle.fabric_ports.specs.Showing.{ShowsFabric};
+ghost use Rattle.fabric_trace.specs.Known.{Seen};
 ghost use Rattle.fabric_trace.specs.Served.{IsCollect};
 
 use crate::answers::Happened;
@@ -30,7 +30,8 @@ impl Fabric {
         requires named { node < length names.now }
         requires shown { (s : Seen) × ShowsFabric self.old s }
         requires endpoint { IsEndpointAt self.old.devices.items node }
-        ensures { (s : Seen) → ShowsFabric self.old s → s.unfaithful ≡ None → Did (λ block. (block ≡ takes s node packet) × (result ≡ taken block)) names.now
+        ensures { (s : Seen) → ShowsFabric self.old s → s.unfaithful ≡ None
+            → Did (λ block. (block ≡ takes s node packet) × (result ≡ taken block)) names.now
             K.written K.faults outbox.old outbox.new s self.new }
     {
         let place = self.place(PortRef { node, port: 0 });

@@ -7,7 +7,7 @@ ghost use Rattle.maint_registers.specs.Devices.{with_link};
 ghost use Rattle.fabric_model.specs.Network.{Network};
 ghost use Rattle.fabric_script.specs.Scripts.{Passes};
 ghost use Rattle.fabric_trace.specs.Events.{ArePorts, counts_after};
-ghost use Rattle.fabric_trace.specs.Runs.{bare, set_up, set_up_all};
+ghost use Rattle.fabric_trace.specs.Runs.{bare, set_up, set_up_all, begins};
 ghost use Rattle.fabric_trace.specs.SetUps.{MaySetUp};
 ghost use Rattle.fabric_ports.specs.Places.{IsPortOf, place_of};
 ghost use Rattle.fabric_ports.specs.Plans.{IsPlan, PlansFor, MayAdd, counts_of, with_end_at, is_new};
@@ -31,7 +31,7 @@ impl Fabric {
     pub fn new(alloc: Global, script: &Script) -> Result<Fabric, NoMemory>
         requires passes { Passes script.now.names.items script.now.lines.items }
         ensures stands { IfOk result (λ fabric.
-            Stands (set_up_all bare script.now.lines.items) [] fabric) }
+            Stands (begins (set_up_all bare script.now.lines.items)) [] fabric) }
         ensures named { IfOk result (λ fabric.
             length fabric.devices.items ≡ length script.now.names.items) }
     {

@@ -2,6 +2,7 @@
 ghost use Rattle.std.specs.Prelude.{◌≡◌, ◌≤◌, ◌<◌, List, length, OnOk, IfErr};
 ghost use Rattle.fabric_model.specs.Network.{Network};
 ghost use Rattle.fabric_trace.specs.Blocks.{IsSettle};
+ghost use Rattle.fabric_trace.specs.Known.{Seen};
 ghost use Rattle.fabric_trace.specs.Lines.{TraceLine};
 ghost use Rattle.fabric_trace.specs.Rounds.{Rounds};
 ghost use Rattle.fabric_ports.specs.Places.{IsSwitchAt};
@@ -25,15 +26,15 @@ impl Fabric {
         rounds: u32,
         outbox: &mut Outbox<K>,
     ) -> Result<(), EventEnd>
-        requires stands { (net : Network) × (lines : List TraceLine) × Stands net lines self.old }
+        requires stands { (from : Seen) × (lines : List TraceLine) × Stands from lines self.old }
         requires named { length self.old.devices.items ≤ length names.now }
         requires few { length names.now ≤ 256 }
-        ensures done { OnOk result ((net : Network) (lines : List TraceLine)
-            → Stands net lines self.old → Ran (Rounds IsSettle rounds) names.now
-            K.written K.faults outbox.old outbox.new net lines self.new) }
-        ensures ended { IfErr result (λ end. (net : Network) (lines : List TraceLine)
-            → Stands net lines self.old → RanEnds (Rounds IsSettle rounds) names.now
-            K.written K.faults outbox.old outbox.new net lines end) }
+        ensures done { OnOk result ((from : Seen) (lines : List TraceLine)
+            → Stands from lines self.old → Ran (Rounds IsSettle rounds) names.now
+            K.written K.faults outbox.old outbox.new from lines self.new) }
+        ensures ended { IfErr result (λ end. (from : Seen) (lines : List TraceLine)
+            → Stands from lines self.old → RanEnds (Rounds IsSettle rounds) names.now
+            K.written K.faults outbox.old outbox.new from lines end) }
     {
         for _ in 0..rounds {
             self.settle_all(alloc, names, outbox)?;
@@ -49,14 +50,14 @@ impl Fabric {
         names: &[Name],
         outbox: &mut Outbox<K>,
     ) -> Result<(), EventEnd>
-        requires stands { (net : Network) × (lines : List TraceLine) × Stands net lines self.old }
+        requires stands { (from : Seen) × (lines : List TraceLine) × Stands from lines self.old }
         requires named { length self.old.devices.items ≤ length names.now }
-        ensures done { OnOk result ((net : Network) (lines : List TraceLine)
-            → Stands net lines self.old → Ran LinksSettle names.now
-            K.written K.faults outbox.old outbox.new net lines self.new) }
-        ensures ended { IfErr result (λ end. (net : Network) (lines : List TraceLine)
-            → Stands net lines self.old → RanEnds LinksSettle names.now
-            K.written K.faults outbox.old outbox.new net lines end) }
+        ensures done { OnOk result ((from : Seen) (lines : List TraceLine)
+            → Stands from lines self.old → Ran LinksSettle names.now
+            K.written K.faults outbox.old outbox.new from lines self.new) }
+        ensures ended { IfErr result (λ end. (from : Seen) (lines : List TraceLine)
+            → Stands from lines self.old → RanEnds LinksSettle names.now
+            K.written K.faults outbox.old outbox.new from lines end) }
     {
         for place in 0..self.cables.len() {
             let port = self.cables[place].a;
@@ -67,11 +68,11 @@ impl Fabric {
 
     /// Every switch makes steps until no packet of it can go, in the order of the devices.
     fn serve_all<K: Sink>(&mut self, names: &[Name], outbox: &mut Outbox<K>)
-        requires stands { (net : Network) × (lines : List TraceLine) × Stands net lines self.old }
+        requires stands { (from : Seen) × (lines : List TraceLine) × Stands from lines self.old }
         requires named { length self.old.devices.items ≤ length names.now }
         requires few { length names.now ≤ 256 }
-        ensures { (net : Network) (lines : List TraceLine) → Stands net lines self.old
-            → Ran SwitchesServe names.now K.written K.faults outbox.old outbox.new net lines
+        ensures { (from : Seen) (lines : List TraceLine) → Stands from lines self.old
+            → Ran SwitchesServe names.now K.written K.faults outbox.old outbox.new from lines
             self.new }
     {
         for node in 0..self.devices.len() {
@@ -83,11 +84,11 @@ impl Fabric {
 
     /// A switch makes steps until no packet of it can go. Each step takes a received packet away.
     fn serve<K: Sink>(&mut self, names: &[Name], node: u8, outbox: &mut Outbox<K>)
-        requires stands { (net : Network) × (lines : List TraceLine) × Stands net lines self.old }
+        requires stands { (from : Seen) × (lines : List TraceLine) × Stands from lines self.old }
         requires named { node < length names.now }
         requires switch { IsSwitchAt self.old.devices.items node }
-        ensures { (net : Network) (lines : List TraceLine) → Stands net lines self.old
-            → Ran (Serves node) names.now K.written K.faults outbox.old outbox.new net lines
+        ensures { (from : Seen) (lines : List TraceLine) → Stands from lines self.old
+            → Ran (Serves node) names.now K.written K.faults outbox.old outbox.new from lines
             self.new }
     {
         while self.step(names, node, outbox) {}

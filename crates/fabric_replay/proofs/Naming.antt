@@ -1,5 +1,5 @@
 -- The ports that a replay tells of are of nodes that have names.
-use Rattle.std.proofs.Common.{◌≡◌, ℕ, ◌+◌, ◌<◌, ◌≤◌, suc, zero, Bool, true, false, List, [], ◌∷◌, ◌++◌, All, map, Some, length, length-append, slice_get, refl, sym, ap, ◌∙◌, subst, arith, if◌then◌else◌}
+use Rattle.std.proofs.Common.{◌≡◌, ◌≢◌, ℕ, ◌+◌, ◌<◌, ◌≤◌, suc, zero, Bool, true, false, List, [], ◌∷◌, ◌++◌, All, map, Some, length, length-append, slice_get, refl, sym, ap, ◌∙◌, subst, arith, if◌then◌else◌}
 use Rattle.std.proofs.lemmas.List.{length-map}
 use Rattle.std.proofs.lemmas.List.Elements.{All-head, All-tail}
 use Rattle.maint_registers.specs.Devices.{Device, is_switch}
@@ -7,7 +7,7 @@ use Rattle.fabric_script.specs.declared.ports.PortRef.{PortRef}
 use Rattle.fabric_script.specs.declared.lines.Line.{Line}
 use Rattle.fabric_script.specs.declared.lines.Line.TheVariants.{Endpoint, Switch}
 use Rattle.fabric_script.specs.declared.lines.Numbered.{Numbered}
-use Rattle.fabric_script.specs.Known.{Known, nothing, known_after}
+use Rattle.fabric_script.specs.Known.{Known, one_event, nothing, known_after}
 use Rattle.fabric_script.specs.Lines.{new_name}
 use Rattle.fabric_script.specs.Reading.{IsFree}
 use Rattle.fabric_script.specs.Scripts.{PassesFrom, Passes}
@@ -17,7 +17,7 @@ use Rattle.fabric_model.proofs.Peers.{port_is}
 use Rattle.fabric_trace.specs.Fold.{seen}
 use Rattle.fabric_trace.specs.Known.{Found, Seen}
 use Rattle.fabric_trace.specs.Lines.{TraceLine}
-use Rattle.fabric_trace.specs.Runs.{bare, set_up, set_up_all, begins}
+use Rattle.fabric_trace.specs.Runs.{bare, set_up, set_up_all, begins, start}
 use Rattle.fabric_trace.proofs.Boards.{seen_board, found_linked}
 use Rattle.fabric_trace.proofs.SettingUp.{made_by, set_up-kinds}
 use Rattle.fabric_ports.specs.Places.{HasPort}
@@ -55,19 +55,19 @@ names_from known names net (line ∷ lines) few passes =
 -- ---- there are few names
 
 -- the names with one more line
-more_names : (known : Known) (new : List ℕ) (line : Line) → IsFree known line → length known.names ≤ 64
+more_names : (known : Known) (new : List ℕ) (line : Line) → known.mode ≢ one_event → IsFree known line → length known.names ≤ 64
     → length (known_after known new line).names ≤ 64
-more_names known new (Endpoint name id) free few = let room = within_nodes known (Endpoint name id) free refl in omega (arith, room, length-append known.names (new ∷ []))
-more_names known new (Switch name ports) free few = let room = within_nodes known (Switch name ports) free refl in omega (arith, room, length-append known.names (new ∷ []))
-more_names known new _ free few = few
+more_names known new (Endpoint name id) apart free few = let room = within_nodes known (Endpoint name id) apart free refl in omega (arith, room, length-append known.names (new ∷ []))
+more_names known new (Switch name ports) apart free few = let room = within_nodes known (Switch name ports) apart free refl in omega (arith, room, length-append known.names (new ∷ []))
+more_names known new _ apart free few = few
 
-few_from : (known : Known) (names : List (List ℕ)) (lines : List Numbered) → length known.names ≤ 64 → PassesFrom known names lines → length names ≤ 64
-few_from known names [] few passes = subst (λ l. length l ≤ 64) passes few
-few_from known names (line ∷ lines) few passes =
-    few_from (known_after known (new_name names line.line) line.line) names lines (more_names known (new_name names line.line) line.line passes.1 few) passes.2
+few_from : (known : Known) (names : List (List ℕ)) (lines : List Numbered) → known.mode ≢ one_event → length known.names ≤ 64 → PassesFrom known names lines → length names ≤ 64
+few_from known names [] apart few passes = subst (λ l. length l ≤ 64) passes few
+few_from known names (line ∷ lines) apart few passes =
+    few_from (known_after known (new_name names line.line) line.line) names lines apart (more_names known (new_name names line.line) line.line apart passes.1 few) passes.2
 
 pub names_few : (names : List (List ℕ)) (script : List Numbered) → Passes names script → length names ≤ 256
-names_few names script passes = let few = few_from nothing names script (omega arith) passes in omega arith
+names_few names script passes = let few = few_from nothing names script (λ is. absurd cc) (omega arith) passes in omega arith
 
 -- ---- ports of cables
 
@@ -92,14 +92,14 @@ cable_port devices s (cable ∷ cables) port p shown linked =
 
 -- ---- of a fabric that stands
 
-pub names_suffice : (names : List (List ℕ)) (script : List Numbered) (lines : List TraceLine) (fabric : Fabric) → Passes names script → Stands (set_up_all bare script) lines fabric → length fabric.devices.items ≤ length names
+pub names_suffice : (names : List (List ℕ)) (script : List Numbered) (lines : List TraceLine) (fabric : Fabric) → Passes names script → Stands (start script) lines fabric → length fabric.devices.items ≤ length names
 names_suffice names script lines fabric passes stands =
     let net = set_up_all bare script in
     let few = names_from nothing names bare script (omega arith) passes in
     let known = sym (seen_board lines (begins net)).count ∙ ap length stands.shows.registers in
     omega (arith, few, known)
 
-pub found_named : (names : List (List ℕ)) (script : List Numbered) (lines all : List TraceLine) (fabric : Fabric) (found : Found) → Passes names script → Stands (set_up_all bare script) lines fabric
+pub found_named : (names : List (List ℕ)) (script : List Numbered) (lines all : List TraceLine) (fabric : Fabric) (found : Found) → Passes names script → Stands (start script) lines fabric
     → (seen (begins (set_up_all bare script)) all).unfaithful ≡ Some found → found.port.node < length names
 found_named names script lines all fabric found passes stands finds =
     let net = set_up_all bare script in

@@ -37,7 +37,7 @@ use Rattle.fabric_ports.specs.declared.fabric.Fabric.{Fabric}
 use Rattle.fabric_replay.specs.Ending.{IsNamed, EndsBy}
 use Rattle.fabric_replay.specs.declared.replaying.ReplayEnd.{ReplayEnd}
 use Rattle.fabric_replay.specs.declared.replaying.ReplayEnd.TheVariants as Ends
-use Rattle.fabric_replay.specs.Going.{Going, ToldFront, ToldWhole}
+use Rattle.fabric_replay.specs.Going.{Going, ToldUntil, ToldFront, ToldWhole}
 use Rattle.fabric_replay.specs.Replaying.{Replayed, ReplayedWhole, ReplayedUnsent, ReplayedFront}
 use Rattle.fabric_replay.proofs.Cutting.{cut_text, part_more}
 use Rattle.fabric_replay.proofs.Joining.{blocks-append, runs-append, one_block, one_last}
@@ -59,9 +59,9 @@ of_item : (P : Numbered → Type 0) (script : List Numbered) (i : ℕ) (item : N
 of_item P script i item all is = subst P (sym is.at) (all i item is.within)
 
 pub may_follow : (names : List (List ℕ)) (script : List Numbered) (i : ℕ) (item : Numbered) (lines : List TraceLine) (fabric : Fabric) → Passes names script → IsItem script i item → is_event item.line ≡ true
-    → Stands (set_up_all bare script) lines fabric → MayFollow fabric names item.line
+    → Stands (start script) lines fabric → MayFollow fabric names item.line
 may_follow names script i item lines fabric passes is event stands = record {
-  net = set_up_all bare script;
+  from = start script;
   lines = lines;
   stands = stands;
   happens = happens_still names (set_up_all bare script) lines item.line (of_item (λ line. is_event line.line ≡ true → MayHappen names (set_up_all bare script) line.line) script i item (may_happen names script passes) is event);
@@ -99,7 +99,7 @@ module _ {K : Type 0} (written : K → Option (List ℕ)) (faults : K → ℕ) (
   abbrev pub Wholes : Outbox K → TraceLine → Option Found → Type 0
   Wholes out last found = ToldWhole written faults begun out names script last found
 
-  pub Going-begin : (fabric : Fabric) → begun.failed ≡ false → Stands (set_up_all bare script) [] fabric → Gone begun 0 fabric
+  pub Going-begin : (fabric : Fabric) → begun.failed ≡ false → Stands (start script) [] fabric → Gone begun 0 fabric
   Going-begin fabric fine stands = record { lines = []; told = Writes-nil written faults begun; fine = fine; blocks = refl; stands = stands }
 
   pub Going-skip : (i : ℕ) (item : Numbered) (out : Outbox K) (fabric : Fabric) → IsItem script i item → is_event item.line ≡ false → Gone out i fabric → Gone out (i + 1) fabric
@@ -136,7 +136,7 @@ module _ {K : Type 0} (written : K → Option (List ℕ)) (faults : K → ℕ) (
   -- ---- an event was carried out
 
   pub Going-event : (i : ℕ) (item : Numbered) (out out2 : Outbox K) (fabric fabric2 : Fabric) (what : Happened) → IsItem script i item → is_event item.line ≡ true → (h : Gone out i fabric) → out2.failed ≡ false
-      → Evented item.line names written faults out out2 (set_up_all bare script) h.lines fabric2 what → Gone out2 (i + 1) fabric2
+      → Evented item.line names written faults out out2 (start script) h.lines fabric2 what → Gone out2 (i + 1) fabric2
   Going-event i item out out2 fabric fabric2 what is has h fine done = record {
     lines = h.lines ++ Begun item.line ∷ done.block;
     told = Writes-lines names h.lines (Begun item.line ∷ done.block) h.told done.prints;
@@ -147,13 +147,29 @@ module _ {K : Type 0} (written : K → Option (List ℕ)) (faults : K → ℕ) (
 
   -- and a write failed in it
   pub Going-failed : (i : ℕ) (item : Numbered) (out out2 : Outbox K) (fabric fabric2 : Fabric) (what : Happened) → IsItem script i item → is_event item.line ≡ true → (h : Gone out i fabric)
-      → Evented item.line names written faults out out2 (set_up_all bare script) h.lines fabric2 what → Fronts out2
+      → Evented item.line names written faults out out2 (start script) h.lines fabric2 what → Fronts out2
   Going-failed i item out out2 fabric fabric2 what is has h done =
       told_blocks out2 (i + 1) (h.lines ++ Begun item.line ∷ done.block) (Writes-lines names h.lines (Begun item.line ∷ done.block) h.told done.prints) (blocks_with i item out fabric done.block is has h done.is)
 
+  -- and in none before
+  pub Going-until : (i : ℕ) (item : Numbered) (out out2 : Outbox K) (fabric fabric2 : Fabric) (what : Happened) → IsItem script i item → is_event item.line ≡ true → (h : Gone out i fabric) → out2.failed ≡ true
+      → Evented item.line names written faults out out2 (start script) h.lines fabric2 what → ToldUntil written faults begun out2 names script
+  Going-until i item out out2 fabric fabric2 what is has h failed done = record {
+    count = i;
+    before = h.lines;
+    block = Begun item.line ∷ done.block;
+    mid = out;
+    told_before = h.told;
+    blocks_before = h.blocks;
+    fine = h.fine;
+    told = done.prints;
+    blocks = blocks_with i item out fabric done.block is has h done.is;
+    failed = failed;
+  }
+
   -- or memory ran out in it
   pub Going-short : (i : ℕ) (item : Numbered) (out out2 : Outbox K) (fabric : Fabric) → IsItem script i item → is_event item.line ≡ true → (h : Gone out i fabric)
-      → CutShort item.line names written faults out out2 (set_up_all bare script) h.lines → Fronts out2
+      → CutShort item.line names written faults out out2 (start script) h.lines → Fronts out2
   Going-short i item out out2 fabric is has h short = record {
     lines = h.lines ++ short.front;
     behind = short.rest;
@@ -164,7 +180,7 @@ module _ {K : Type 0} (written : K → Option (List ℕ)) (faults : K → ℕ) (
 
   -- or an event was acted on that was not sent
   pub Going-unsent : (i : ℕ) (item : Numbered) (out out2 out3 : Outbox K) (fabric : Fabric) (port : PortRef) (event : Event) → IsItem script i item → is_event item.line ≡ true → (h : Gone out i fabric)
-      → Exposed item.line names written faults out out2 (set_up_all bare script) h.lines port event → Writes written faults out2 out3 (trace_line_text names (Undetected item.number port event) ++ codes "\n")
+      → Exposed item.line names written faults out out2 (start script) h.lines port event → Writes written faults out2 out3 (trace_line_text names (Undetected item.number port event) ++ codes "\n")
       → Wholes out3 (Undetected item.number port event) (Some (record { port = port; event = event }))
   Going-unsent i item out out2 out3 fabric port event is has h exposed last =
       let own = Begun item.line ∷ exposed.block in
@@ -287,18 +303,18 @@ nothing_front names script written written_after passes told =
     }
 
 -- the names were read from where they stand
-pub Evented-names : (line : Line) (read names : List (List ℕ)) {K : Type 0} {written : K → Option (List ℕ)} {faults : K → ℕ} {out out2 : Outbox K} {net : Network} {lines : List TraceLine} {fabric : Fabric} {answer : Happened} → read ≡ names
-    → Evented line read written faults out out2 net lines fabric answer → Evented line names written faults out out2 net lines fabric answer
-Evented-names line read names {K} {written} {faults} {out} {out2} {net} {lines} {fabric} {answer} same e = subst (λ n. Evented line n written faults out out2 net lines fabric answer) same e
+pub Evented-names : (line : Line) (read names : List (List ℕ)) {K : Type 0} {written : K → Option (List ℕ)} {faults : K → ℕ} {out out2 : Outbox K} {from : Seen} {lines : List TraceLine} {fabric : Fabric} {answer : Happened} → read ≡ names
+    → Evented line read written faults out out2 from lines fabric answer → Evented line names written faults out out2 from lines fabric answer
+Evented-names line read names {K} {written} {faults} {out} {out2} {from} {lines} {fabric} {answer} same e = subst (λ n. Evented line n written faults out out2 from lines fabric answer) same e
 
 -- ---- an event that ended early
 
-pub EventEnds-names : (line : Line) (read names : List (List ℕ)) {K : Type 0} (written : K → Option (List ℕ)) (faults : K → ℕ) (out out2 : Outbox K) (net : Network) (lines : List TraceLine) (end : EventEnd) → read ≡ names
-    → EventEnds line read written faults out out2 net lines end → EventEnds line names written faults out out2 net lines end
-EventEnds-names line read names written faults out out2 net lines end same e = subst (λ n. EventEnds line n written faults out out2 net lines end) same e
+pub EventEnds-names : (line : Line) (read names : List (List ℕ)) {K : Type 0} (written : K → Option (List ℕ)) (faults : K → ℕ) (out out2 : Outbox K) (from : Seen) (lines : List TraceLine) (end : EventEnd) → read ≡ names
+    → EventEnds line read written faults out out2 from lines end → EventEnds line names written faults out out2 from lines end
+EventEnds-names line read names written faults out out2 from lines end same e = subst (λ n. EventEnds line n written faults out out2 from lines end) same e
 
 pub end_named : (names read : List (List ℕ)) (script : List Numbered) {K : Type 0} (written : K → Option (List ℕ)) (faults : K → ℕ) (out out2 : Outbox K) (lines : List TraceLine) (line : Line) (fabric : Fabric) (end : EventEnd) → Passes names script → read ≡ names
-    → Stands (set_up_all bare script) lines fabric → EventEnds line names written faults out out2 (set_up_all bare script) lines end → IsNamed read end
+    → Stands (start script) lines fabric → EventEnds line names written faults out out2 (start script) lines end → IsNamed read end
 end_named names read script written faults out out2 lines line fabric (Early.Undetected port event) passes same stands ends =
     subst (λ n. port.node < length n) (sym same) (found_named names script lines (lines ++ Begun line ∷ ends.block) fabric (record { port = port; event = event }) passes stands ends.found)
 end_named names read script written faults out out2 lines line fabric Early.NoMemory passes same stands ends = tt
@@ -314,7 +330,7 @@ module _ {K : Type 0} (written : K → Option (List ℕ)) (faults : K → ℕ) (
   ended_by out result end is ended = subst (IsEnded out) (sym is) ended
 
   pub Going-ended : (read : List (List ℕ)) (i : ℕ) (item : Numbered) (out out2 out3 : Outbox K) (fabric : Fabric) (end : EventEnd) (result : ReplayEnd) → read ≡ names → IsItem script i item → is_event item.line ≡ true → (h : Going written faults begun out names script i fabric)
-      → EventEnds item.line names written faults out out2 (set_up_all bare script) h.lines end → EndsBy end item.number read written faults out2 out3 result → IsEnded out3 result
+      → EventEnds item.line names written faults out out2 (start script) h.lines end → EndsBy end item.number read written faults out2 out3 result → IsEnded out3 result
   Going-ended read i item out out2 out3 fabric (Early.Undetected port event) result same is has h ends told =
       ended_by out3 result (Ends.Undetected item.number port event) told.0
       (Going-unsent written faults begun names script i item out out2 out3 fabric port event is has h ends

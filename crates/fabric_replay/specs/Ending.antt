@@ -14,7 +14,8 @@ abbrev pub IsNamed : List (List ℕ) → EventEnd → Type 0
 IsNamed names (Undetected port event) = port.node < length names
 IsNamed names NoMemory = Unit {0}
 
--- a replay ends for the reason that an event did, and the last line tells of an event that was not sent
+-- a replay ends for the reason that an event did, and the last line tells of an event that was not
+-- sent
 abbrev pub EndsBy : EventEnd → ℕ → List (List ℕ) → {K : Type 0} → (K → Option (List ℕ)) → (K → ℕ)
     → Outbox K → Outbox K → ReplayEnd → Type 0
 EndsBy (Undetected port event) line names written faults old new result =

@@ -1,5 +1,5 @@
 -- How far a replay has come.
-use Rattle.std.specs.Prelude.{◌≡◌, ◌⊎◌, ℕ, false, List, ◌++◌, Option, take}
+use Rattle.std.specs.Prelude.{◌≡◌, ◌⊎◌, ℕ, ◌+◌, true, false, List, ◌++◌, Option, take}
 use Rattle.rio_chars.specs.Written.{Writes}
 use Rattle.rio_chars.specs.declared.outbox.Outbox.{Outbox}
 use Rattle.fabric_script.specs.declared.lines.Numbered.{Numbered}
@@ -19,7 +19,22 @@ pub record Going {K : Type 0} (written : K → Option (List ℕ)) (faults : K �
   pub told : Writes written faults begun out (trace_text names lines)
   pub fine : out.failed ≡ false
   pub blocks : BlocksFrom (start script) (take count script) lines
-  pub stands : Stands (set_up_all bare script) lines fabric
+  pub stands : Stands (start script) lines fabric
+
+-- A write failed in the last of the first so many events, and in none before. Their blocks were told,
+-- and nothing of an event behind them.
+pub record ToldUntil {K : Type 0} (written : K → Option (List ℕ)) (faults : K → ℕ)
+    (begun out : Outbox K) (names : List (List ℕ)) (script : List Numbered) : Type 0 where
+  pub count : ℕ
+  pub before : List TraceLine
+  pub block : List TraceLine
+  pub mid : Outbox K
+  pub told_before : Writes written faults begun mid (trace_text names before)
+  pub blocks_before : BlocksFrom (start script) (take count script) before
+  pub fine : mid.failed ≡ false
+  pub told : Writes written faults mid out (trace_text names block)
+  pub blocks : BlocksFrom (start script) (take (count + 1) script) (before ++ block)
+  pub failed : out.failed ≡ true
 
 -- Lines were told that begin a trace, or the blocks of its first events.
 pub record ToldFront {K : Type 0} (written : K → Option (List ℕ)) (faults : K → ℕ)

@@ -21,7 +21,8 @@ pub record Replayed (names : List (List ℕ)) (script : List Numbered)
   pub only : (other : List TraceLine) → Runs script other → other ≡ lines
   pub shown : Shown script lines
 
--- The last line is this one, and so much is found by the lines before it of an event that was acted on and not sent.
+-- The last line is this one, and so much is found by the lines before it of an event that was acted
+-- on and not sent.
 pub record EndsWith (script : List Numbered) (lines : List TraceLine) (last : TraceLine)
     (found : Option Found) : Type 0 where
   pub front : List TraceLine
@@ -34,7 +35,8 @@ pub record ReplayedWhole (names : List (List ℕ)) (script : List Numbered)
   pub replayed : Replayed names script written written_after
   pub ends : EndsWith script replayed.lines Ended None
 
--- The events were carried out up to this one, which the port acted on and which was not sent: the first of its kind.
+-- The events were carried out up to this one, which the port acted on and which was not sent: the
+-- first of its kind.
 pub record ReplayedUnsent (names : List (List ℕ)) (script : List Numbered) (line : ℕ)
     (port : PortRef) (event : Event) (written written_after : Option (List ℕ)) : Type 0 where
   pub replayed : Replayed names script written written_after
@@ -47,8 +49,9 @@ IsPart names [] bytes = bytes ≡ []
 IsPart names (line ∷ lines) bytes = (left : List ℕ) × (left ≢ [])
     × (trace_line_text names line ++ codes "\n" ≡ bytes ++ left)
 
--- A front of the text was written: these whole lines, and a part of the one behind them. With what comes behind, the
--- lines are the trace, or the blocks of its first events, and so they are a front of any trace. All laws hold of them.
+-- A front of the text was written: these whole lines, and a part of the one behind them. With what
+-- comes behind, the lines are the trace, or the blocks of its first events, and so they are a front
+-- of any trace. All laws hold of them.
 pub record ReplayedFront (names : List (List ℕ)) (script : List Numbered)
     (written written_after : Option (List ℕ)) : Type 0 where
   pub lines : List TraceLine

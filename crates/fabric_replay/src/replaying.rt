@@ -4,11 +4,11 @@ ghost use Rattle.rio_chars.specs.Faults.{Rose};
 ghost use Rattle.fabric_script.specs.Scripts.{Passes};
 ghost use Rattle.fabric_script.specs.declared.ports.PortRef.{PortRef as Port};
 ghost use Rattle.fabric_trace.specs.Lines.{Ended, Undetected as UnsentLine};
-ghost use Rattle.fabric_trace.specs.Runs.{bare, set_up_all};
+ghost use Rattle.fabric_trace.specs.Runs.{start};
 ghost use Rattle.fabric_ports.specs.Standing.{Stands};
 ghost use Rattle.link_model.specs.declared.event.Event.{Event as LinkEvent};
 ghost use Rattle.fabric_replay.specs.Replaying.{ReplayedWhole, ReplayedUnsent, ReplayedFront};
-ghost use Rattle.fabric_replay.specs.Going.{ToldFront, ToldWhole};
+ghost use Rattle.fabric_replay.specs.Going.{ToldFront, ToldUntil, ToldWhole};
 ghost use Rattle.fabric_replay.specs.Ending.{IsNamed, EndsBy};
 ghost use Rattle.fabric_replay.specs.declared.replaying.ReplayEnd.TheVariants.{NoMemory};
 
@@ -85,7 +85,7 @@ fn write_trace<K: Sink>(
     outbox: &mut Outbox<K>,
 ) -> Result<(), ReplayEnd>
     requires passes { Passes script.now.names.items script.now.lines.items }
-    requires stands { Stands (set_up_all bare script.now.lines.items) [] fabric.old }
+    requires stands { Stands (start script.now.lines.items) [] fabric.old }
     requires fine { outbox.old.failed ≡ false }
     requires empty { outbox.old.buffer.now ≡ [] }
     ensures same { outbox.new.sink.ghost_name ≡ outbox.old.sink.ghost_name }
@@ -114,7 +114,8 @@ fn write_trace<K: Sink>(
     end
 }
 
-/// Carries out the events and tells their lines, up to the event in which a write failed.
+/// Carries out the events and tells their lines, up to the event in which a write failed: no event
+/// behind that one is carried out.
 fn tell_trace<K: Sink>(
     alloc: Global,
     script: &Script,
@@ -122,7 +123,7 @@ fn tell_trace<K: Sink>(
     outbox: &mut Outbox<K>,
 ) -> Result<(), ReplayEnd>
     requires passes { Passes script.now.names.items script.now.lines.items }
-    requires stands { Stands (set_up_all bare script.now.lines.items) [] fabric.old }
+    requires stands { Stands (start script.now.lines.items) [] fabric.old }
     requires fine { outbox.old.failed ≡ false }
     ensures front { ToldFront K.written K.faults outbox.old outbox.new
         script.now.names.items script.now.lines.items }
@@ -133,7 +134,9 @@ fn tell_trace<K: Sink>(
         → ToldWhole K.written K.faults outbox.old outbox.new
         script.now.names.items script.now.lines.items (UnsentLine line port event)
         (Some (record { port = port; event = event })) }
-    ensures write_fault { IsErrOf result ReplayEnd.WriteFault → outbox.new.failed ≡ true }
+    ensures write_fault { IsErrOf result ReplayEnd.WriteFault
+        → ToldUntil K.written K.faults outbox.old outbox.new
+        script.now.names.items script.now.lines.items }
 {
     for numbered in &script.lines {
         if numbered.line.is_event() {

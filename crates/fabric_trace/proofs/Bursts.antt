@@ -55,7 +55,7 @@ started_sends w expected lists (Some prio) store has =
     let first = slice_get-get_or (list_at lists prio) 0 [] some.1 in
     packet_sends w expected prio (slice_get (list_at lists prio) 0) _ first (first_has_prio lists prio _ store some.0 first)
 
-startable_has : (lists : List (List (List ℕ))) (few : Bool) (prio : ℕ) → cond few (highest lists) None ≡ Some prio → (prio < 4) × (0 < length (list_at lists prio))
+pub startable_has : (lists : List (List (List ℕ))) (few : Bool) (prio : ℕ) → cond few (highest lists) None ≡ Some prio → (prio < 4) × (0 < length (list_at lists prio))
 startable_has lists true prio is = highest_below-some 4 prio lists is
 startable_has lists false prio is = absurd cc
 

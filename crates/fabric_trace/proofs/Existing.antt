@@ -14,18 +14,20 @@ use Rattle.fabric_model.specs.Laws.Forms.{IsFormed}
 use Rattle.fabric_model.proofs.Emptying.{packets_at}
 use Rattle.fabric_model.proofs.Flows.{switches_stay}
 use Rattle.fabric_model.proofs.Forms.{device_at, stays_formed, empty_formed}
+use Rattle.fabric_model.proofs.Lanes.{well_by}
 use Rattle.fabric_model.proofs.Peers.{ArePeers, link_peers}
 use Rattle.fabric_trace.specs.Blocks.{lines_of, IsSettle}
 use Rattle.fabric_trace.specs.Fold.{seen_line, seen}
 use Rattle.fabric_trace.specs.Known.{Found, Seen, link_at}
 use Rattle.fabric_trace.specs.Lines.{TraceLine, Stepped, steps_of}
 use Rattle.fabric_trace.specs.Parts.{Made, Done}
+use Rattle.fabric_trace.specs.Ready.{IsReady}
 use Rattle.fabric_trace.specs.Rounds.{Follows, NamesNothing, Joined, SettleAll, ServesAll, Rests, Goes, ServeNodes, Round, Rounds}
 use Rattle.fabric_trace.specs.Runs.{begins}
 use Rattle.fabric_trace.specs.Served.{step_lines, IsMove}
 use Rattle.fabric_trace.specs.SetUps.{IsSetUp}
 use Rattle.fabric_trace.proofs.Forming.{move_exists}
-use Rattle.fabric_trace.proofs.Keeping.{IsGood, made_keeps, legal_links}
+use Rattle.fabric_trace.proofs.Keeping.{IsGood, good_by_priority, made_keeps, legal_links}
 use Rattle.fabric_trace.proofs.Making.{made-append}
 use Rattle.fabric_trace.proofs.Rounds.{AreFound, all_found}
 use Rattle.fabric_trace.proofs.RoundsEnd.{move_empties}
@@ -38,15 +40,19 @@ pub record Exists (s : Seen) (Is : List TraceLine → Type 0) : Type 0 where
   pub is : Is lines
   pub made : Made s lines
 
--- A state that a fabric can be in: all that the network holds is in its link form.
-pub record IsReady (s : Seen) : Type 0 where
-  pub good : IsGood s
-  pub formed : IsFormed s.network
+pub good_of : {s : Seen} → IsReady s → IsGood s
+good_of {s} ready = record { well = well_by s.network ready.formed ready.by_priority; proper = ready.proper; links = ready.links }
+
+ready_by : {s : Seen} → IsGood s → IsFormed s.network → IsReady s
+ready_by {s} good formed = record { formed = formed; by_priority = good_by_priority good; proper = good.proper; links = good.links }
 
 pub ready_on : {s : Seen} {lines : List TraceLine} → IsReady s → Made s lines → IsReady (seen s lines)
 ready_on {s} {lines} ready made =
-    let kept = made_keeps ready.good made in
-    record { good = kept.good; formed = stays_formed s.network (steps_of lines) (seen s lines).network ready.formed kept.legal }
+    let kept = made_keeps (good_of ready) made in
+    ready_by kept.good (stays_formed s.network (steps_of lines) (seen s lines).network ready.formed kept.legal)
+
+pub ready_begun : (net : Network) → IsSetUp net → IsReady (begins net)
+ready_begun net is = ready_by (good_start net is) (empty_formed net is.empty is.within)
 
 -- ---- lines, and more behind them
 
@@ -114,9 +120,9 @@ goes_on s node step rest move own more made = record {
 serves_on : (s : Seen) (node n : ℕ) (step : DeviceStep) → IsReady s → IsSwitch s.network node → packets_at s.network.received node 16 < suc n → ServesBelow node n
     → IsMove s.network node (Stepped (ByDevice step) ∷ []) → Exists s (ServesAll s node)
 serves_on s node n step ready kind below later move =
-    let own = move_made s node (Stepped (ByDevice step) ∷ []) ready.good move in
+    let own = move_made s node (Stepped (ByDevice step) ∷ []) (good_of ready) move in
     let within = device_at s.network.registers node move.device move.stands ready.formed.registers in
-    let fewer = move_empties s node 16 step ready.good move within.ports in
+    let fewer = move_empties s node 16 step (good_of ready) move within.ports in
     let rest = later (seen_line s (Stepped (ByDevice step))) (ready_on ready own) (switches_stay s.network (ByDevice step) node ∙ kind) (omega arith) in
     goes_on s node step rest.lines move own rest.is rest.made
 
@@ -132,7 +138,7 @@ serves_by s node n Nothing ready kind below later move = record { lines = []; is
 serves_below : (node n : ℕ) → ServesBelow node n
 serves_below node zero s ready kind below = absurd (omega arith)
 serves_below node (suc n) s ready kind below =
-    let own = move_exists s node ready.good ready.formed kind in
+    let own = move_exists s node (good_of ready) ready.formed kind in
     serves_by s node n own.0 ready kind below (serves_below node n) own.1
 
 -- A switch makes all its steps.
@@ -176,7 +182,7 @@ nodes_exist [] node kinds s ready same are = record { lines = []; is = refl; mad
 nodes_exist (device ∷ devices) node kinds s ready same are =
     test_exist s (Joined (ServesAll s node) (ServeNodes (suc node) devices) s) (ServeNodes (suc node) devices s) (is_switch device)
     (λ is. joined_exist s (ServesAll s node) (ServeNodes (suc node) devices) (serves_exist s node ready (same node ∙ are.0 ∙ ap Some is)) (λ first made still.
-    let legal = (made_keeps ready.good made).legal in
+    let legal = (made_keeps (good_of ready) made).legal in
     nodes_exist devices (suc node) kinds (seen s first) (ready_on ready made) (λ n. switches_along s.network (steps_of first) (seen s first).network legal n ∙ same n) are.1))
     (nodes_exist devices (suc node) kinds s ready same are.1)
 
@@ -186,7 +192,7 @@ serve_all_exist s ready = nodes_exist s.network.registers 0 (switch_at s.network
 
 pub round_exists : (s : Seen) → IsReady s → s.unfaithful ≡ None → Exists s (Round IsSettle s)
 round_exists s ready none =
-    joined_exist s (SettleAll IsSettle s.network.links s) (λ t rest. ServeNodes 0 t.network.registers t rest) (settle_all_exist s ready.good none)
+    joined_exist s (SettleAll IsSettle s.network.links s) (λ t rest. ServeNodes 0 t.network.registers t rest) (settle_all_exist s (good_of ready) none)
     (λ first made still. serve_all_exist (seen s first) (ready_on ready made))
 
 pub rounds_exist : (n : ℕ) (s : Seen) → IsReady s → s.unfaithful ≡ None → Exists s (Rounds IsSettle n s)
@@ -196,7 +202,7 @@ rounds_exist (suc n) s ready none =
 
 -- every state that lines of a network that is set up lead to is such a state
 pub ready_behind : (net : Network) (lines : List TraceLine) → IsSetUp net → Made (begins net) lines → IsReady (seen (begins net) lines)
-ready_behind net lines is made = ready_on (record { good = good_start net is; formed = empty_formed net is.empty is.within }) made
+ready_behind net lines is made = ready_on (ready_begun net is) made
 
 pub rounds_behind : (net : Network) (n : ℕ) (lines : List TraceLine) → IsSetUp net → Made (begins net) lines → (seen (begins net) lines).unfaithful ≡ None
     → (block : List TraceLine) × Rounds IsSettle n (seen (begins net) lines) block

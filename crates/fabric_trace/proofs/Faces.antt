@@ -2,11 +2,11 @@
 -- what it needs.
 use Rattle.std.proofs.Common.{◌≡◌, inl, inr, ℕ, zero, suc, ◌+◌, ◌<◌, ◌==◌, ◌&&◌, nat_lt, Bool, true, false, List, [], ◌∷◌, filter, length, Option, Some, None, option_map, option_and_then, slice_get, unwrap_or, refl, sym, ap, ◌∙◌, subst, arith, if◌then◌else◌, length-append}
 use Rattle.std.specs.Bool.{⊤}
-use Rattle.std.specs.List.{AllByRecursion, slice_index}
+use Rattle.std.specs.List.{AllByRecursion}
 use Rattle.std.proofs.lemmas.Bool.{and_parts}
 use Rattle.std.proofs.lemmas.Bool.Decides.{nat_tests}
 use Rattle.std.proofs.lemmas.List.{length-map}
-use Rattle.rio_packets.specs.Fields.{prio_of, is_request}
+use Rattle.rio_packets.specs.Fields.{prio_of, dest_of, is_request}
 use Rattle.rio_packets.specs.LinkForm.{Passes}
 use Rattle.link_buffers.specs.Queues.{list_at}
 use Rattle.maint_registers.specs.Devices.{Device, is_switch}
@@ -107,16 +107,22 @@ port_there device packet to is = by_tests (is_foreign packet) (is_at_end packet)
     of_some true n below is = let same : n ≡ to = cc in subst (λ k. k < device.ports) same (below refl)
     of_some false n below is = absurd cc
 
-    of_port : to_port (next_port device (slice_index packet 2)) ≡ Port to → to < device.ports
-    of_port is = of_some (is_switch device && nat_lt (port_named device (slice_index packet 2)) device.ports) (port_named device (slice_index packet 2))
-        (λ both. let less = (and_parts (is_switch device) (nat_lt (port_named device (slice_index packet 2)) device.ports) both).1 in grind (arith, nat_tests, less)) is
+    of_dest : (dest : Option ℕ) → to_port (option_and_then (next_port device) dest) ≡ Port to
+        → to < device.ports
+    of_dest None is = absurd cc
+    of_dest (Some dest) is =
+        of_some (is_switch device && nat_lt (port_named device dest) device.ports)
+        (port_named device dest)
+        (λ both. let less = (and_parts (is_switch device)
+        (nat_lt (port_named device dest) device.ports) both).1 in grind (arith, nat_tests, less))
+        is
 
     by_tests : (foreign end request : Bool)
-        → (if foreign then Nowhere else (if end then (if request then RegisterUnit else Nowhere) else to_port (next_port device (slice_index packet 2)))) ≡ Port to → to < device.ports
+        → (if foreign then Nowhere else (if end then (if request then RegisterUnit else Nowhere) else to_port (option_and_then (next_port device) (dest_of packet)))) ≡ Port to → to < device.ports
     by_tests true end request is = absurd cc
     by_tests false true true is = absurd cc
     by_tests false true false is = absurd cc
-    by_tests false false request is = of_port is
+    by_tests false false request is = of_dest (dest_of packet) is
 
 -- ---- a switch
 

@@ -13,8 +13,8 @@ use Rattle.fabric_script.specs.declared.lines.Line.TheVariants.{Endpoint, Switch
 use Rattle.fabric_script.specs.declared.lines.Numbered.{Numbered}
 use Rattle.fabric_script.specs.declared.reasons.Reason.TheVariants.{PortTaken, BadLength, WrongKind, OutOfPlace, NotLinked}
 use Rattle.fabric_script.specs.Lines.{is_event, new_name}
-use Rattle.fabric_script.specs.Known.{Known, nothing, known_after, names_after, nodes_after, links_after, node_ports, ports_of, node_is_switch, is_switch as is_known_switch, same_port, is_linked}
-use Rattle.fabric_script.specs.Refusals.{is_bad_length}
+use Rattle.fabric_script.specs.Known.{Known, of_script, nothing, known_after, names_after, nodes_after, links_after, node_ports, ports_of, node_is_switch, is_switch as is_known_switch, same_port, is_linked}
+use Rattle.fabric_script.specs.Refusals.{is_bad_length, out_of_place_in}
 use Rattle.fabric_script.specs.Reading.{MayBe, IsFree}
 use Rattle.fabric_script.specs.Scripts.{PassesFrom, Passes}
 use Rattle.fabric_script.proofs.PrintLaws.{named_all}
@@ -147,12 +147,12 @@ begun_by : (begun event : Bool) → event ≡ true → begun || event ≡ true
 begun_by true event e = refl
 begun_by false event e = e
 
-stays : (known : Known) (names : List (List ℕ)) (net : Network) (lines : List Numbered) → known.begun ≡ true → PassesFrom known names lines → set_up_all net lines ≡ net
-stays known names net [] begun passes = refl
-stays known names net (line ∷ lines) begun passes =
-    let event = event_of known.begun (is_event line.line) begun (passes.1 OutOfPlace) in
+stays : (known : Known) (names : List (List ℕ)) (net : Network) (lines : List Numbered) → known.mode ≡ of_script → known.begun ≡ true → PassesFrom known names lines → set_up_all net lines ≡ net
+stays known names net [] mode begun passes = refl
+stays known names net (line ∷ lines) mode begun passes =
+    let event = event_of known.begun (is_event line.line) begun (ap (λ m. out_of_place_in m known.begun (is_event line.line)) (sym mode) ∙ passes.1 OutOfPlace) in
     ap (λ (n : Network). set_up_all n lines) (set_up-event net line.line event)
-    ∙ stays (known_after known (new_name names line.line) line.line) names net lines (begun_stays known.begun (is_event line.line) begun) passes.2
+    ∙ stays (known_after known (new_name names line.line) line.line) names net lines mode (begun_stays known.begun (is_event line.line) begun) passes.2
 
 -- ---- an event may happen
 
@@ -217,20 +217,20 @@ is_there known new net _ s may free = tt
 abbrev Happens : Network → Numbered → Type 0
 Happens net line = is_event line.line ≡ true → IsInRange line.line × IsThere net line.line
 
-happen_from : (known : Known) (names : List (List ℕ)) (net : Network) (lines : List Numbered) → Stage known net → PassesFrom known names lines → All (Happens (set_up_all net lines)) lines
-happen_from known names net [] s passes = All-nil (Happens net)
-happen_from known names net (line ∷ lines) s passes =
+happen_from : (known : Known) (names : List (List ℕ)) (net : Network) (lines : List Numbered) → known.mode ≡ of_script → Stage known net → PassesFrom known names lines → All (Happens (set_up_all net lines)) lines
+happen_from known names net [] mode s passes = All-nil (Happens net)
+happen_from known names net (line ∷ lines) mode s passes =
     let new = new_name names line.line in
     let next = known_after known new line.line in
     let quiet : is_event line.line ≡ true → set_up_all net (line ∷ lines) ≡ net = λ event.
-    ap (λ (n : Network). set_up_all n lines) (set_up-event net line.line event) ∙ stays next names net lines (begun_by known.begun (is_event line.line) event) passes.2 in
+    ap (λ (n : Network). set_up_all n lines) (set_up-event net line.line event) ∙ stays next names net lines mode (begun_by known.begun (is_event line.line) event) passes.2 in
     All-cons (Happens (set_up_all net (line ∷ lines))) line lines
     (λ event. (in_range known new line.line passes.0 passes.1, subst (λ (n : Network). IsThere n line.line) (sym (quiet event)) (is_there known new net line.line s passes.0 passes.1)))
-    (happen_from next names (set_up net line.line) lines (stage-after known new net line.line s) passes.2)
+    (happen_from next names (set_up net line.line) lines mode (stage-after known new net line.line s) passes.2)
 
 pub may_happen : (names : List (List ℕ)) (lines : List Numbered) → Passes names lines → All (λ line. is_event line.line ≡ true → MayHappen names (set_up_all bare lines) line.line) lines
 may_happen names lines passes =
-    let all = happen_from nothing names bare lines bare_stage passes in
+    let all = happen_from nothing names bare lines refl bare_stage passes in
     let named = named_all nothing names lines passes in
     λ k d within event. record { named = named k d within; range = (all k d within event).0; there = (all k d within event).1 }
 
@@ -245,7 +245,7 @@ counts-after known new counts (Endpoint name id) c = record { counted = map-appe
 counts-after known new counts (Switch name ports) c = record { counted = map-append (λ node. node_ports (Some node)) known.nodes _ ∙ ap (λ xs. xs ++ ports ∷ []) c.counted }
 counts-after known new counts _ c = record { counted = c.counted }
 
-count_at : {N : Type 0} (f : Option N → ℕ) (nodes : List N) (n : ℕ) → f None ≡ 0 → f (slice_get nodes n) ≡ get_or (map (λ node. f (Some node)) nodes) n 0
+pub count_at : {N : Type 0} (f : Option N → ℕ) (nodes : List N) (n : ℕ) → f None ≡ 0 → f (slice_get nodes n) ≡ get_or (map (λ node. f (Some node)) nodes) n 0
 count_at f [] n none = none
 count_at f (node ∷ nodes) zero none = refl
 count_at f (node ∷ nodes) (suc n) none = count_at f nodes n none

@@ -209,7 +209,7 @@ freed_count [] = 0
 freed_count (Held packet ∷ moves) = freed_count moves
 freed_count (Freed packet ∷ moves) = suc (freed_count moves)
 
-freed-append : (xs ys : List Move) → freed_count (xs ++ ys) ≡ freed_count xs + freed_count ys
+pub freed-append : (xs ys : List Move) → freed_count (xs ++ ys) ≡ freed_count xs + freed_count ys
 freed-append [] ys = omega arith
 freed-append (Held packet ∷ xs) ys = freed-append xs ys
 freed-append (Freed packet ∷ xs) ys = let more = freed-append xs ys in omega (arith, more)
@@ -218,7 +218,7 @@ freed_all : (packets : List (List ℕ)) → freed_count (map (λ packet. Freed p
 freed_all [] = refl
 freed_all (packet ∷ packets) = let more = freed_all packets in omega (arith, more)
 
-freed_of : (held : Option (List ℕ)) (freed : List (List ℕ)) → freed_count (map (λ packet. Held packet) (option_to_list held) ++ map (λ packet. Freed packet) freed) ≡ length freed
+pub freed_of : (held : Option (List ℕ)) (freed : List (List ℕ)) → freed_count (map (λ packet. Held packet) (option_to_list held) ++ map (λ packet. Freed packet) freed) ≡ length freed
 freed_of None freed = freed_all freed
 freed_of (Some packet) freed = freed_all freed
 

@@ -17,13 +17,12 @@ use Rattle.fabric_script.specs.declared.ports.PortRef.{PortRef}
 use Rattle.fabric_model.specs.Network.{Network, port_of, room_out, with_device}
 use Rattle.fabric_model.specs.Serving.{device_after}
 use Rattle.fabric_model.specs.Steps.{Take, Leave, NodeStep, Move, Drop, Answer, DeviceStep, Step, AtNode, ByDevice, Needs, IsFirst, only_first, moved_item, item_of, without_first, with_waiting, after, LegalFrom}
-use Rattle.fabric_model.specs.Laws.History.{IsEmptyNetwork}
 use Rattle.fabric_model.specs.Laws.Proper.{AreProper}
 use Rattle.fabric_model.specs.Laws.Priorities.{ByPriority}
 use Rattle.fabric_model.proofs.Joining.{legal_joined, links_stay}
 use Rattle.fabric_model.proofs.Moving.{moves_on, named_goes, sent_by}
 use Rattle.fabric_model.proofs.Boards.{first_item}
-use Rattle.fabric_model.proofs.Lanes.{by_priority, first_passes}
+use Rattle.fabric_model.proofs.Lanes.{AreWell, well_on, well_priority, well_passes}
 use Rattle.fabric_model.proofs.Peers.{ArePeers, peer_back}
 use Rattle.fabric_trace.specs.Lines.{TraceLine, Begun, Stepped, Signed, Lacked, Ended, Undetected, steps_of}
 use Rattle.fabric_trace.specs.Known.{Seen, Found, peer_of, link_at}
@@ -45,25 +44,10 @@ steps_of-append (Lacked lack ∷ xs) ys = steps_of-append xs ys
 steps_of-append (Ended ∷ xs) ys = steps_of-append xs ys
 steps_of-append (Undetected number q e ∷ xs) ys = steps_of-append xs ys
 
--- legal steps from a network without a packet lead to this one
-pub record IsReached (net : Network) : Type 0 where
-  pub start : Network
-  pub steps : List Step
-  pub empty : IsEmptyNetwork start
-  pub legal : LegalFrom start steps net
-
-reached_on : {net next : Network} (steps : List Step) → IsReached net → LegalFrom net steps next → IsReached next
-reached_on {net} {next} steps r legal = record {
-  start = r.start;
-  steps = r.steps ++ steps;
-  empty = r.empty;
-  legal = legal_joined r.start r.steps steps net next r.legal legal;
-}
-
--- What stays true along a trace: the network was reached, its links are proper, and they are sound while every event that
--- was acted on was sent.
+-- What stays true along a trace: all that the network holds is in its link form, in a list of its own priority; its links
+-- are proper; and they are sound while every event that was acted on was sent.
 pub record IsGood (s : Seen) : Type 0 where
-  pub reached : IsReached s.network
+  pub well : AreWell s.network
   pub proper : AreProper s.network.links
   pub links : s.unfaithful ≡ None → AreLinks s
 
@@ -100,7 +84,7 @@ call_keeps s lines p q steps m found good none peers is call =
     record {
       legal = legal;
       good = record {
-        reached = reached_on (steps_of lines) good.reached legal;
+        well = well_on s.network (steps_of lines) (seen s lines).network good.well legal;
         proper = subst AreProper (sym call.elsewhere.links) good.proper;
         links = λ still. by_pair s (seen s lines) p q good.proper call.elsewhere.links peers (call.link still)
             (λ c x y. record { lists = call.elsewhere.others c x y; wire = call.wires c x y; half = call.halves c x y }) (good.links none);
@@ -129,7 +113,7 @@ delivers_keep s p q n good peer none has =
 edit_keeps : (s : Seen) (edit : Option (PortRef × Edit)) → IsGood s → IsGood (edited_by s edit)
 edit_keeps s None good = good
 edit_keeps s (Some edit) good = record {
-  reached = good.reached;
+  well = good.well;
   proper = good.proper;
   links = λ none a b peer. edited_link s edit.0 edit.1 a b (good.links none a b peer);
 }
@@ -146,7 +130,7 @@ step_keeps : (s : Seen) (step : Step) → IsGood s → Needs s.network step → 
 step_keeps s step good needs links same = record {
   legal = (needs, refl);
   good = record {
-    reached = reached_on (step ∷ []) good.reached (needs, refl);
+    well = well_on s.network (step ∷ []) (after s.network step) good.well (needs, refl);
     proper = subst AreProper (sym same) good.proper;
     links = λ none. links (good.links none);
   };
@@ -160,7 +144,7 @@ node_keeps s (Leave n packet) good needs few =
 
 -- a packet that a port has received first is one in its link form
 pub passes_first : (s : Seen) → IsGood s → (p : PortRef) (packet : List ℕ) → IsFirst s.network p packet → Passes packet
-passes_first s good p packet first = first_passes good.reached.start good.reached.steps s.network good.reached.empty good.reached.legal p (prio_of packet) packet first
+passes_first s good p packet first = well_passes s.network good.well p (prio_of packet) packet first
 
 -- a packet moves to another port of a switch, or to the same
 move_links : (s : Seen) (p q : PortRef) (packet : List ℕ) → AreProper s.network.links → Passes packet → Needs s.network (ByDevice (Move p q packet)) → AreLinks s → AreLinks (seen_line s (Stepped (ByDevice (Move p q packet))))
@@ -226,4 +210,4 @@ made_keeps {s} good (Then first rest is own more) =
     })
 
 pub good_by_priority : {s : Seen} → IsGood s → ByPriority s.network
-good_by_priority {s} good = by_priority good.reached.start good.reached.steps s.network good.reached.empty good.reached.legal
+good_by_priority {s} good = well_priority s.network good.well

@@ -33,3 +33,13 @@ pub mod Failing
 pub mod Resting
 pub mod Shows
 pub mod Boards
+pub mod Tracing
+pub mod RunsRest
+pub mod Notings
+pub mod Raising
+pub mod Allowing
+pub mod Sending
+pub mod Ways
+pub mod Joins
+pub mod WorkedPacket
+pub mod Balancing

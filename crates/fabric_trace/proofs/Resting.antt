@@ -45,6 +45,7 @@ unfoldable IsWithin : List TraceLine → Type 0
 IsWithin [] = Unit {0}
 IsWithin (Begun line ∷ lines) = ⊥
 IsWithin (Ended ∷ lines) = ⊥
+IsWithin (Undetected number q e ∷ lines) = ⊥
 IsWithin (line ∷ lines) = IsWithin lines
 
 notes_within : (a b : PortRef) (notes : List Note) → IsWithin (lines_of a b notes)
@@ -115,7 +116,7 @@ within-append (Stepped step ∷ xs) ys first rest = within-append xs ys first re
 within-append (Signed sign ∷ xs) ys first rest = within-append xs ys first rest
 within-append (Lacked lack ∷ xs) ys first rest = within-append xs ys first rest
 within-append (Ended ∷ xs) ys first rest = absurd first
-within-append (Undetected number q e ∷ xs) ys first rest = within-append xs ys first rest
+within-append (Undetected number q e ∷ xs) ys first rest = absurd first
 
 follows_within : (found : Option Found) (More : List TraceLine → Type 0) (rest : List TraceLine) → (More rest → IsWithin rest) → Follows found More NamesNothing rest → IsWithin rest
 unfolding IsWithin
@@ -189,7 +190,7 @@ settled_within (Stepped step ∷ block) rest s port within more = (tt, settled_w
 settled_within (Signed sign ∷ block) rest s port within more = (tt, settled_within block rest (seen_line s (Signed sign)) port within more)
 settled_within (Lacked lack ∷ block) rest s port within more = (tt, settled_within block rest s port within more)
 settled_within (Ended ∷ block) rest s port within more = absurd within
-settled_within (Undetected number q e ∷ block) rest s port within more = (tt, settled_within block rest s port within more)
+settled_within (Undetected number q e ∷ block) rest s port within more = absurd within
 
 -- what an event that settles leaves
 settle_rests : (s : Seen) (port : PortRef) (found : Option (PortRef × PortRef)) (block : List TraceLine) → IsGood s → s.unfaithful ≡ None → (seen s block).unfaithful ≡ None
@@ -236,14 +237,14 @@ event_then s port line More Last lines good none rests more last run =
     (λ e found follows. last t (settled_by line) e run.1 found follows) run.4 in
     rests_by run.2 (record {
       made = made-append begun behind.made;
-      settled = (rests, settled_within block run.1 (seen_line s (Begun line)) (settled_by line) (block_within s line block run.3) behind.settled);
+      settled = ((none, rests), settled_within block run.1 (seen_line s (Begun line)) (settled_by line) (block_within s line block run.3) behind.settled);
     })
 
 named_rests : (number : ℕ) (t : Seen) (p : Option PortRef) (e : Found) (rest : List TraceLine) → t.unfaithful ≡ Some e → Names number e rest → Rests t p rest
-named_rests number t p e rest found named = rests_by named (record { made = one_part (NamesPart number e.port e.event found refl); settled = (tt, tt) })
+named_rests number t p e rest found named = rests_by named (record { made = one_part (NamesPart number e.port e.event found refl); settled = (found, tt) })
 
 pub runs_rest : (script : List Numbered) (s : Seen) (port : Option PortRef) (lines : List TraceLine) → IsGood s → s.unfaithful ≡ None → RestsAt s port → RunsFrom s script lines → Rests s port lines
-runs_rest [] s port lines good none rests run = rests_by run (record { made = one_part (Ends refl); settled = (rests, tt) })
+runs_rest [] s port lines good none rests run = rests_by run (record { made = one_part (Ends refl); settled = ((none, rests), tt) })
 runs_rest (line ∷ script) s port lines good none rests run =
     by_test (is_event line.line)
     (event_then s port line.line (λ t rest. RunsFrom t script rest) (Names line.number) lines good none rests (λ t p rest g still at more. runs_rest script t p rest g still at more) (named_rests line.number))

@@ -1,6 +1,7 @@
 -- What the lines of set-up give, and the laws of runs from there.
-use Rattle.std.proofs.Common.{◌≡◌, ◌≢◌, ℕ, ◌++◌, Bool, true, false, List, [], ◌∷◌, Some, None, refl, sym, ap, ◌∙◌, subst, arith, if◌then◌else◌}
+use Rattle.std.proofs.Common.{◌≡◌, ◌≢◌, ◌↔◌, ℕ, ◌++◌, Bool, true, false, List, [], ◌∷◌, Some, None, refl, sym, ap, ◌∙◌, subst, arith, if◌then◌else◌}
 use Rattle.std.specs.List.{AllByRecursion}
+use Rattle.rio_chars.specs.declared.chars.Char.{Char}
 use Rattle.link_model.specs.Output as out
 use Rattle.link_port.specs.Ports.{new_port}
 use Rattle.link_sound.specs.Histories.{AreBuffers}
@@ -16,12 +17,14 @@ use Rattle.maint_registers.proofs.WithinLaws.{new_endpoint_within, new_switch_wi
 use Rattle.fabric_script.specs.declared.ports.PortRef.{PortRef}
 use Rattle.fabric_script.specs.declared.lines.Line.{Line}
 use Rattle.fabric_script.specs.declared.lines.Line.TheVariants.{Endpoint, Switch, Link, Buffers, Route, Default, Lock}
+use Rattle.link_wires.specs.Deliveries.{undetected}
 use Rattle.fabric_script.specs.declared.lines.Numbered.{Numbered}
 use Rattle.fabric_model.specs.Network.{Network, same_port, with_device}
 use Rattle.fabric_model.specs.Steps.{Step, LegalFrom}
 use Rattle.fabric_model.specs.Laws.Lawful.{Lawful}
 use Rattle.fabric_model.proofs.Boards.{all-append}
 use Rattle.fabric_model.proofs.Forms.{AreWithin-with}
+use Rattle.fabric_model.proofs.Lanes.{well_begun}
 use Rattle.fabric_model.proofs.Freeing.{freed_after_held}
 use Rattle.fabric_model.proofs.Holding.{holding_exactly}
 use Rattle.fabric_model.proofs.Leaving.{once, unchanged}
@@ -31,7 +34,7 @@ use Rattle.fabric_model.proofs.Peers.{ArePeers, AreProper-append}
 use Rattle.fabric_trace.specs.Lines.{TraceLine, steps_of}
 use Rattle.fabric_trace.specs.Views.{packets_in}
 use Rattle.fabric_trace.specs.Known.{Seen, peer_of, port_at, link_at}
-use Rattle.fabric_trace.specs.Fold.{says, seen}
+use Rattle.fabric_trace.specs.Fold.{says, taken_from, seen}
 use Rattle.fabric_trace.specs.Blocks.{lines_of, IsSettle}
 use Rattle.fabric_trace.specs.Runs.{bare, set_up, set_up_all, begins, start, Runs}
 use Rattle.fabric_trace.specs.Links.{IsLink, AreLinks}
@@ -46,10 +49,12 @@ use Rattle.fabric_trace.proofs.FreesRead.{made_freed, start_freed}
 use Rattle.fabric_trace.specs.Holds.{HoldsCame}
 use Rattle.fabric_trace.proofs.Coming.{none_within}
 use Rattle.fabric_trace.proofs.Ending.{runs_end}
-use Rattle.fabric_trace.proofs.HoldsRead.{made_read}
-use Rattle.fabric_trace.specs.Faithful.{Faithful}
+use Rattle.fabric_trace.proofs.HoldsRead.{IsRead, made_read}
+use Rattle.fabric_trace.specs.Allowance.{FreesAllowed}
+use Rattle.fabric_trace.specs.Faithful.{ActsOnSent}
 use Rattle.fabric_trace.specs.Wires.{WireFold}
-use Rattle.fabric_trace.proofs.Faith.{faithful}
+use Rattle.fabric_trace.proofs.Allowing.{made_raised, start_raised}
+use Rattle.fabric_trace.proofs.Faith.{begins_kept, lines_keep, sent_exactly}
 use Rattle.fabric_trace.proofs.Wiring.{made_fold}
 use Rattle.fabric_model.proofs.Joining.{legal_parts}
 use Rattle.fabric_trace.proofs.Folding.{seen-append, network_is}
@@ -140,7 +145,7 @@ begins_link net a b is =
 
 pub good_start : (net : Network) → IsSetUp net → IsGood (begins net)
 good_start net is = record {
-  reached = record { start = net; steps = []; empty = is.empty; legal = refl };
+  well = well_begun net is.empty;
   proper = is.proper;
   links = λ none a b peer. begins_link net a b is;
 }
@@ -205,8 +210,8 @@ settled net before block a b is all peer none settles still =
 pub wires_fold : (net : Network) (lines : List TraceLine) → IsSetUp net → Made (begins net) lines → WireFold net.links (λ p. []) lines
 wires_fold net lines is all = made_fold net.links refl (good_start net is) all
 
-pub always_faithful : (net : Network) (lines : List TraceLine) → Faithful (begins net) lines
-always_faithful net lines = faithful (begins net) lines (λ p. record { left = []; found = refl })
+pub acted_exactly : (net : Network) (lines : List TraceLine) (p q : PortRef) (chars : List Char) → (undetected (taken_from (seen (begins net) lines) p q chars) ≡ None) ↔ ActsOnSent (seen (begins net) lines) p q chars
+acted_exactly net lines p q chars = sent_exactly (seen (begins net) lines) p q chars (lines_keep (begins net) lines (begins_kept net) p)
 
 -- the steps of a front are legal
 pub front_legal : (net : Network) (front rest : List TraceLine) → IsSetUp net → Made (begins net) (front ++ rest) → LegalFrom net (steps_of front) (seen (begins net) front).network
@@ -215,15 +220,20 @@ front_legal net front rest is all =
     let parts = legal_parts net (steps_of front) (steps_of rest) _ (subst (λ (x : List Step). LegalFrom net x (seen (begins net) (front ++ rest)).network) (steps_of-append front rest) whole) in
     subst (LegalFrom net (steps_of front)) (sym (network_is (begins net) front)) parts.0
 
+begins_read : (net : Network) (q : PortRef) → IsRead [] (begins net) q
+begins_read net q = record { within = none_within (says []); place = λ none. sym (place_after-none place_start); expected = λ none. refl }
+
 pub holds_came : (net : Network) (lines : List TraceLine) (q : PortRef) → IsSetUp net → Made (begins net) lines → HoldsCame q lines
-holds_came net lines q is all =
-    (made_read [] q (good_start net is) all (record { within = none_within (says []); place = λ none. sym (place_after-none place_start); expected = λ none. refl })).within
+holds_came net lines q is all = (made_read [] q (good_start net is) all (begins_read net q)).within
 
 pub ends_as : (script : List Numbered) (lines : List TraceLine) → Runs script lines → EndsAs (start script) lines
 ends_as script lines runs = runs_end script (start script) lines refl runs
 
 pub frees_said : (net : Network) (lines : List TraceLine) (p : PortRef) → IsSetUp net → Made (begins net) lines → FreesSaid p nothing_got 0 lines
 frees_said net lines p is all = (made_freed [] p (good_start net is) all (start_freed (begins net) p refl refl)).said
+
+pub frees_allowed : (net : Network) (lines : List TraceLine) (p : PortRef) → IsSetUp net → Made (begins net) lines → FreesAllowed p [] 0 lines
+frees_allowed net lines p is all = (made_raised [] p (good_start net is) all (begins_read net p) (start_freed (begins net) p refl refl) (start_raised p)).all
 
 -- of every trace of a script
 pub runs_lawful : (script : List Numbered) (lines : List TraceLine) → MaySetUpAll bare script → Runs script lines → Lawful (set_up_all bare script) (steps_of lines) (seen (start script) lines).network

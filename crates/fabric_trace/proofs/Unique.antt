@@ -1,11 +1,8 @@
 -- A script has at most one trace: each part of a run determines its lines.
-use Rattle.std.proofs.Common.{◌≡◌, ℕ, zero, suc, Bool, true, false, not, List, [], ◌∷◌, ◌++◌, Option, Some, None, MatchBool, slice_get, sym, ap, ◌∙◌, subst, append_assoc}
+use Rattle.std.proofs.Common.{◌≡◌, ℕ, zero, suc, Bool, true, false, List, [], ◌∷◌, ◌++◌, Option, Some, None, MatchBool, slice_get, sym, ap, ◌∙◌, subst, append_assoc}
 use Rattle.rio_packets.proofs.FormLaws.{LinkForm-one}
-use Rattle.link_watch.specs.declared.side.Side.{Side}
-use Rattle.link_watch.specs.declared.side.Side.TheVariants.{A, B}
-use Rattle.link_rest.specs.Schedules.{NextOf, WhereOf, Is, LoopOf, Rests, GoesOn, Leaves as LeavesLoop}
-use Rattle.link_rest.specs.Acts.{Pump as PumpAct, Fire, Reached, At, goes, holds, acts_notes}
-use Rattle.link_rest.specs.Settling.{of_end, first_has_chars, first_rests, is_retry_stopped, has_failed, may_fire, waits, all_chars, Empties, is_busy, Drains, TakesTurn, Restarts, TimesOut, Requests, Recovers, SendsAll, Settles}
+use Rattle.link_rest.specs.Acts.{At, acts_notes}
+use Rattle.link_rest.proofs.OneWay.{AtMostOne, match_one, settles_one}
 use Rattle.maint_registers.specs.Devices.{Device, is_switch}
 use Rattle.switch_core.specs.SwitchSteps.{step_of}
 use Rattle.switch_core.specs.EndpointSteps.{collected}
@@ -24,97 +21,6 @@ use Rattle.fabric_trace.specs.Served.{face_in, faces_in, step_lines, IsMove, col
 use Rattle.fabric_trace.specs.Blocks.{takes, Sends, pumps, delivers, times_out, lines_of, IsSettle, WithPeer, WithLink, IsBlock}
 use Rattle.fabric_trace.specs.Rounds.{Follows, NamesNothing, Joined, SettleAll, ServesAll, Rests as AtRest, Goes, ServeNodes, Round, Rounds}
 use Rattle.fabric_trace.specs.Runs.{start, BlockThen, Names, RunsFrom, Runs, BlocksFrom, Begins}
-
--- no two lists are of this kind
-abbrev pub AtMostOne : {L : Type 0} → (List L → Type 0) → Type 0
-AtMostOne {L} P = (x y : List L) → P x → P y → x ≡ y
-
--- ---- schedules
-
-next_one : {S L : Type 0} (go : S → List L → S) (First Then : S → List L → Type 0) → ((s : S) → AtMostOne (First s)) → ((s : S) → AtMostOne (Then s)) → (s : S) → AtMostOne (NextOf go First Then s)
-next_one go First Then one two s x y p q =
-    let first = one s p.0 q.0 p.3 q.3 in
-    let rest = two (go s q.0) p.1 q.1 (subst (λ l. Then (go s l) p.1) first p.4) q.4 in
-    cc
-
--- one of two kinds, as a test says
-match_one : {L : Type 0} (test : Bool) (P Q : List L → Type 0) → AtMostOne P → AtMostOne Q → AtMostOne (λ x. MatchBool test (P x) (Q x))
-match_one true P Q one_p one_q = one_p
-match_one false P Q one_p one_q = one_q
-
-where_one : {S L : Type 0} (test : S → Bool) (P : S → List L → Type 0) → ((s : S) → AtMostOne (P s)) → (s : S) → AtMostOne (WhereOf test P s)
-where_one test P one s = match_one (test s) (P s) (λ all. all ≡ []) (one s) (λ x y f g. f ∙ sym g)
-
-is_one : {S L : Type 0} (things : S → List L) (s : S) → AtMostOne (Is things s)
-is_one things s x y f g = f ∙ sym g
-
-loop_one : {S L : Type 0} (go : S → List L → S) (test : S → Bool) (P : S → List L → Type 0) (leaves : S → Bool) (Last : S → List L → Type 0)
-    → ((s : S) → AtMostOne (P s)) → ((s : S) → AtMostOne (Last s))
-    → {s : S} {x y : List L} → LoopOf go test P leaves Last s x → LoopOf go test P leaves Last s y → x ≡ y
-loop_one go test P leaves Last one two (Rests t e) (Rests u f) = e ∙ sym f
-loop_one go test P leaves Last one two (Rests t e) (GoesOn first rest u a f l w) = absurd (cc)
-loop_one go test P leaves Last one two (Rests t e) (LeavesLoop first rest u a f l w) = absurd (cc)
-loop_one go test P leaves Last one two (GoesOn first rest t a e l w) (Rests u f) = absurd (cc)
-loop_one go test P leaves Last one two {s} (GoesOn first rest t a e l w) (GoesOn first2 rest2 u b f m v) =
-    let same = one s first2 first b a in
-    let after = loop_one go test P leaves Last one two w (subst (λ x. LoopOf go test P leaves Last (go s x) rest2) same v) in
-    cc
-loop_one go test P leaves Last one two {s} (GoesOn first rest t a e l w) (LeavesLoop first2 rest2 u b f m v) =
-    let same = one s first2 first b a in
-    absurd (cc)
-loop_one go test P leaves Last one two (LeavesLoop first rest t a e l w) (Rests u f) = absurd (cc)
-loop_one go test P leaves Last one two {s} (LeavesLoop first rest t a e l w) (GoesOn first2 rest2 u b f m v) =
-    let same = one s first2 first b a in
-    absurd (cc)
-loop_one go test P leaves Last one two {s} (LeavesLoop first rest t a e l w) (LeavesLoop first2 rest2 u b f m v) =
-    let same = one s first2 first b a in
-    let last = two (go s first) rest rest2 w (subst (λ x. Last (go s x) rest2) same v) in
-    cc
-
--- ---- settling
-
-empties_one : (side : Side) (s : Reached) → AtMostOne (Empties side s)
-empties_one side = where_one (of_end side first_has_chars) (Is (all_chars side)) (is_one (all_chars side))
-
-drains_one : (s : Reached) → AtMostOne (Drains s)
-drains_one s x y f g =
-    loop_one goes is_busy (NextOf goes (Empties A) (Empties B)) (λ reached. false) (Is (λ reached. []))
-    (next_one goes (Empties A) (Empties B) (empties_one A) (empties_one B)) (is_one (λ reached. [])) f g
-
-turn_one : (side : Side) (s : Reached) → AtMostOne (TakesTurn side s)
-turn_one side =
-    next_one goes (WhereOf (holds (λ link. true)) (Is (λ reached. PumpAct side 1 ∷ []))) Drains
-    (where_one (holds (λ link. true)) (Is (λ reached. PumpAct side 1 ∷ [])) (is_one (λ reached. PumpAct side 1 ∷ []))) drains_one
-
-restarts_one : (side : Side) (s : Reached) → AtMostOne (Restarts side s)
-restarts_one side = where_one (of_end side (λ link. is_retry_stopped link.a.output)) (TakesTurn side) (turn_one side)
-
-fires_one : (side : Side) (s : Reached) → AtMostOne (TimesOut side s)
-fires_one side =
-    where_one (of_end side (λ link. may_fire link.a.output)) (Is (λ reached. Fire side ∷ [])) (is_one (λ reached. Fire side ∷ []))
-
-requests_one : (side : Side) (s : Reached) → AtMostOne (Requests side s)
-requests_one side =
-    where_one (of_end side (λ link. not (first_rests link))) (NextOf goes (TimesOut side) (TakesTurn side))
-    (next_one goes (TimesOut side) (TakesTurn side) (fires_one side) (turn_one side))
-
-recovers_one : (side : Side) (s : Reached) → AtMostOne (Recovers side s)
-recovers_one side =
-    where_one (of_end side (λ link. not (has_failed link.a.output))) (NextOf goes (Restarts side) (Requests side))
-    (next_one goes (Restarts side) (Requests side) (restarts_one side) (requests_one side))
-
-sends_one : (side : Side) (s : Reached) → AtMostOne (SendsAll side s)
-sends_one side =
-    where_one (of_end side first_rests)
-    (LoopOf goes (of_end side (λ link. waits link.a)) (TakesTurn side) (of_end side (λ link. is_retry_stopped link.a.output)) (TakesTurn side))
-    (λ s x y f g. loop_one goes (of_end side (λ link. waits link.a)) (TakesTurn side) (of_end side (λ link. is_retry_stopped link.a.output)) (TakesTurn side) (turn_one side) (turn_one side) f g)
-
-settles_one : (s : Reached) → AtMostOne (Settles s)
-settles_one =
-    next_one goes Drains (NextOf goes (Recovers A) (NextOf goes (Recovers B) (NextOf goes (SendsAll A) (SendsAll B)))) drains_one
-    (next_one goes (Recovers A) (NextOf goes (Recovers B) (NextOf goes (SendsAll A) (SendsAll B))) (recovers_one A)
-    (next_one goes (Recovers B) (NextOf goes (SendsAll A) (SendsAll B)) (recovers_one B)
-    (next_one goes (SendsAll A) (SendsAll B) (sends_one A) (sends_one B))))
 
 -- ---- blocks
 

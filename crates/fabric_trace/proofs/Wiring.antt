@@ -28,7 +28,7 @@ use Rattle.fabric_trace.proofs.Keeping.{IsGood, legal_links, part_keeps}
 
 -- ---- the characters of the fold
 
-abbrev chars_of : Seen → WireChars
+abbrev pub chars_of : Seen → WireChars
 chars_of s p = (s.wires p).chars
 
 set_chars : (wires : PortRef → Wire) (p : PortRef) (wire : Wire) → (λ q. (with_wire wires p wire q).chars) ≡ with_chars (λ q. (wires q).chars) p wire.chars
@@ -68,7 +68,7 @@ signed_is s (Sent p chars) = set_chars s.wires p (wire_sent (s.wires p) chars)
 signed_is s (Got q chars) = got_is s (peer_of s q) q chars
 signed_is s (Fired p) = fired_is s (peer_of s p) p
 
-line_is : (s : Seen) (line : TraceLine) → chars_of (seen_line s line) ≡ on_wires s.network.links (chars_of s) line
+pub line_is : (s : Seen) (line : TraceLine) → chars_of (seen_line s line) ≡ on_wires s.network.links (chars_of s) line
 line_is s (Begun line) = edited_is s (edit_of line)
 line_is s (Stepped step) = refl
 line_is s (Signed sign) = signed_is s sign

@@ -121,7 +121,8 @@ abbrev pub WithLink : Option (PortRef × PortRef) → (PortRef → PortRef → L
 WithLink None Block block = ⊥
 WithLink (Some link) Block block = Block link.0 link.1 block
 
--- These are the lines of the event, behind the line with which it begins. Lines of set-up have none.
+-- These are the lines of the event, behind the line with which it begins. Lines of set-up have
+-- none.
 abbrev pub IsBlock : Seen → Line → List TraceLine → Type 0
 IsBlock s (Send node prio ftype dest hex) block = IsSend s node prio ftype dest hex block
 IsBlock s (Read node prio dest hop tid offset) block =

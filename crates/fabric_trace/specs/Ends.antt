@@ -4,8 +4,8 @@ use Rattle.fabric_trace.specs.Lines.{TraceLine, Ended, Undetected}
 use Rattle.fabric_trace.specs.Known.{Found, Seen}
 use Rattle.fabric_trace.specs.Fold.{seen}
 
--- With the line that says so, where every event that was acted on was sent; or with the line that names the event
--- that was not, which is the one that the lines before it show.
+-- With the line that says so, where every event that was acted on was sent; or with the line that
+-- names the event that was not, which is the one that the lines before it show.
 pub data EndsAs (s : Seen) (lines : List TraceLine) : Type 0 where
   Whole : (front : List TraceLine) → lines ≡ front ++ Ended ∷ [] → (seen s front).unfaithful ≡ None
       → EndsAs s lines

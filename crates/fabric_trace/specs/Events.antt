@@ -1,5 +1,5 @@
 -- What an event of a script names, and where that is in a network.
-use Rattle.std.specs.Prelude.{◌≡◌, ℕ, ◌%◌, ◌^◌, ◌<◌, ◌≤◌, List, [], ◌∷◌, ◌++◌, length, get_or, IsSome, ⊤}
+use Rattle.std.specs.Prelude.{◌≡◌, ℕ, ◌%◌, ◌^◌, ◌<◌, ◌≤◌, List, [], ◌∷◌, ◌++◌, length, All, get_or, IsSome, ⊤}
 use Rattle.rio_packets.specs.Making.{most_rest}
 use Rattle.fabric_script.specs.declared.ports.PortRef.{PortRef}
 use Rattle.fabric_script.specs.declared.lines.Line.{Line}
@@ -64,6 +64,16 @@ IsInRange (Erase port place n) = (place ≤ 100000) × (1 ≤ n) × (n ≤ 10000
 IsInRange (Run n) = (1 ≤ n) × (n ≤ 100000)
 IsInRange _ = ⊤
 
+-- What a line that has a packet sent says fits the bytes of the packet.
+abbrev pub FitsPacket : Line → Type 0
+FitsPacket (Send node prio ftype dest hex) = (prio < 4) × (ftype < 16) × (dest < 256)
+    × All (λ b. b < 256) hex × IsDataLength ftype (length hex)
+FitsPacket (Read node prio dest hop tid offset) =
+    (prio < 4) × (dest < 256) × (hop < 256) × (tid < 256) × (offset < 16 ^ 6)
+FitsPacket (Write node prio dest hop tid offset value) = (prio < 4) × (dest < 256) × (hop < 256)
+    × (tid < 256) × (offset < 16 ^ 6) × (value < 16 ^ 8)
+FitsPacket _ = ⊤
+
 -- a port is one end of a link
 abbrev pub HasLink : Network → PortRef → Type 0
 HasLink net port = IsSome (peer_in net.links port)
@@ -84,7 +94,8 @@ IsThere net (Timeout port) = HasLink net port
 IsThere net (Settle port) = HasLink net port
 IsThere net _ = ⊤
 
--- An event may happen in a network: its nodes have names, it is in range, and what it names is there.
+-- An event may happen in a network: its nodes have names, it is in range, and what it names is
+-- there.
 pub record MayHappen (names : List (List ℕ)) (net : Network) (line : Line) : Type 0 where
   pub named : AreNamed names line
   pub range : IsInRange line

@@ -1,18 +1,22 @@
 -- Small runs, and lines of which the laws do not hold.
 use Rattle.std.specs.Prelude.{ℕ, ◌+◌, ◌*◌, List, [], ◌∷◌, Some}
 use Rattle.rio_chars.specs.declared.chars.Char.{Char}
-use Rattle.rio_chars.specs.declared.chars.Char.TheVariants.{Invalid}
-use Rattle.link_model.specs.declared.event.Event.TheVariants.{Pkt}
+use Rattle.rio_chars.specs.declared.chars.Char.TheVariants.{Data, Special, Invalid}
+use Rattle.link_model.specs.declared.event.Event.TheVariants.{Ctl, Pkt}
 use Rattle.link_model.specs.Output as out
+use Rattle.link_model.specs.Symbols.{packet_accepted}
 use Rattle.fabric_script.specs.declared.ports.PortRef.{PortRef}
-use Rattle.fabric_script.specs.declared.lines.Line.TheVariants.{Endpoint, Switch, Link, Pump, Deliver, Alter, Insert, Timeout, Settle, Move, Collect}
+use Rattle.fabric_script.specs.declared.lines.Line.TheVariants.{Endpoint, Switch, Link, Send, Pump, Deliver, Alter, Insert, Timeout, Settle, Move, Collect}
 use Rattle.fabric_script.specs.declared.lines.Numbered.{Numbered}
 use Rattle.maint_registers.specs.Devices.{new_switch}
 use Rattle.fabric_model.specs.Network.{Item, Network, port_of, with_lane}
-use Rattle.fabric_model.specs.Steps.{Hold, Free, Move as MoveOn, Drop, Linked, ByDevice}
-use Rattle.fabric_trace.specs.Lines.{Empty, Short, Early, NoStep, Sent, Got, Fired, TraceLine, Begun, Stepped, Signed, Lacked, Ended}
+use Rattle.fabric_model.specs.Laws.Examples.{packet}
+use Rattle.fabric_model.specs.Steps.{Hold, Free, Take, Leave, Move as MoveOn, Drop, Linked, AtNode, ByDevice}
+use Rattle.fabric_trace.specs.Lines.{Empty, Short, Early, NoStep, Sent, Got, Fired, TraceLine, Begun, Stepped, Signed, Lacked, Ended, Undetected}
 use Rattle.fabric_trace.specs.Views.{new_half}
 use Rattle.fabric_trace.specs.Known.{Seen}
+use Rattle.fabric_trace.specs.Fold.{seen}
+use Rattle.fabric_trace.specs.Frees.{Gotten}
 use Rattle.fabric_trace.specs.Runs.{bare, set_up_all, begins}
 
 -- the ports of two endpoints
@@ -33,8 +37,9 @@ pair_lines =
 abbrev pub pair : Network
 pair = set_up_all bare pair_lines
 
--- A port with nothing to send takes a turn; characters are asked for, and one is altered, that do not stand on the wire;
--- a time-out fires; a character comes in, so that the next does not; nothing is held.
+-- A port with nothing to send takes a turn; characters are asked for, and one is altered, that do
+-- not stand on the wire; a time-out fires; a character comes in, so that the next does not; nothing
+-- is held.
 abbrev pub idle_script : List Numbered
 idle_script =
     record { number = 1; line = Endpoint 0 0 }
@@ -60,6 +65,47 @@ idle_trace =
     ∷ Begun (Collect 1) ∷ Lacked Empty
     ∷ Ended
     ∷ []
+
+-- ---- a packet on its way
+
+-- between start-of-packet and end-of-packet, as it is sent with ackID 0
+abbrev pub packet_chars : List Char
+packet_chars =
+    Special 0x7c ∷ Data 0x80 ∷ Data 0xf8 ∷ Data 0x1f
+    ∷ Data 0x00 ∷ Data 0x0f ∷ Data 0x02 ∷ Data 0x01 ∷ Data 0xca ∷ Data 0xfe
+    ∷ Data 0x00 ∷ Data 0x01 ∷ Data 0xa9 ∷ Data 0xbb ∷ Data 0x00 ∷ Data 0x00
+    ∷ Special 0x7c ∷ Data 0x80 ∷ Data 0xfa ∷ Data 0x18 ∷ []
+
+-- packet-accepted, with ackID 0
+abbrev pub accepted_chars : List Char
+accepted_chars = Special 0x1c ∷ Data 0x00 ∷ Data 0xff ∷ Data 0x16 ∷ []
+
+-- It is taken, sent, held, acknowledged, freed and collected.
+abbrev pub packet_script : List Numbered
+packet_script =
+    record { number = 1; line = Endpoint 0 1 }
+    ∷ record { number = 2; line = Endpoint 1 2 }
+    ∷ record { number = 3; line = Link near far }
+    ∷ record { number = 4; line = Send 0 0 15 2 (0xca ∷ 0xfe ∷ 0x00 ∷ 0x01 ∷ []) }
+    ∷ record { number = 5; line = Pump near 1 }
+    ∷ record { number = 6; line = Deliver near 20 }
+    ∷ record { number = 7; line = Deliver far 4 }
+    ∷ record { number = 8; line = Collect 1 }
+    ∷ []
+
+abbrev pub packet_trace : List TraceLine
+packet_trace =
+    Begun (Send 0 0 15 2 (0xca ∷ 0xfe ∷ 0x00 ∷ 0x01 ∷ [])) ∷ Stepped (AtNode (Take 0 packet))
+    ∷ Begun (Pump near 1) ∷ Signed (Sent near packet_chars)
+    ∷ Begun (Deliver near 20) ∷ Signed (Got far packet_chars)
+    ∷ Stepped (Linked (Hold far packet)) ∷ Signed (Sent far accepted_chars)
+    ∷ Begun (Deliver far 4) ∷ Signed (Got near accepted_chars)
+    ∷ Stepped (Linked (Free near packet))
+    ∷ Begun (Collect 1) ∷ Stepped (AtNode (Leave 1 packet))
+    ∷ Ended
+    ∷ []
+
+-- ---- switches
 
 -- a switch has nothing to move
 abbrev pub switch_script : List Numbered
@@ -108,7 +154,8 @@ held_from_nowhere = Stepped (Linked (Hold far [])) ∷ []
 -- of what a port got it holds the second packet first
 abbrev pub held_in_wrong_order : List Char → List ℕ → List ℕ → List TraceLine
 held_in_wrong_order chars first second =
-    Signed (Got far chars) ∷ Stepped (Linked (Hold far second)) ∷ Stepped (Linked (Hold far first)) ∷ []
+    Signed (Got far chars) ∷ Stepped (Linked (Hold far second))
+    ∷ Stepped (Linked (Hold far first)) ∷ []
 
 -- a port frees a packet, and frees two
 abbrev pub freed : List TraceLine
@@ -129,16 +176,34 @@ got_another sent other = Signed (Sent near (sent ∷ [])) ∷ Signed (Got far (o
 abbrev pub still_under_way : List TraceLine
 still_under_way = Signed (Sent near (Invalid ∷ [])) ∷ []
 
--- a packet was acted on that nobody sent
-abbrev pub acted_from_nowhere : Seen
-acted_from_nowhere =
-    record (begins pair) { wires = λ p. record { chars = []; sent = []; acted = Pkt 0 [] ∷ [] } }
+-- an acceptance is acted on that nobody sent, and all events are carried out
+abbrev pub acted_from_nowhere : List TraceLine
+acted_from_nowhere = Signed (Got far accepted_chars) ∷ Ended ∷ []
+
+-- an event is named as not sent, and was sent
+abbrev pub named_though_sent : List TraceLine
+named_though_sent =
+    Signed (Sent near accepted_chars) ∷ Signed (Got far accepted_chars)
+    ∷ Undetected 1 far (Ctl (packet_accepted 0)) ∷ []
 
 -- a link was to settle, and a character is still on its way at the end
 abbrev pub not_settled : List TraceLine
 not_settled = Begun (Settle near) ∷ Signed (Sent near (Invalid ∷ [])) ∷ Ended ∷ []
 
--- a sender has failed
+-- the same, and another event begins
+abbrev pub not_settled_yet : List TraceLine
+not_settled_yet =
+    Begun (Settle near) ∷ Signed (Sent near (Invalid ∷ [])) ∷ Begun (Collect 1) ∷ []
+
+-- an event begins
+abbrev pub goes_on_with : List TraceLine
+goes_on_with = Begun (Collect 1) ∷ []
+
+-- a port is named with an event that was not sent
+abbrev pub named_at : PortRef → List TraceLine
+named_at port = Undetected 1 port (Pkt 0 []) ∷ []
+
+-- senders have failed
 abbrev pub near_failed : Seen
 near_failed = record (begins pair) { halves = λ p. record new_half { output = out.Output.Failed } }
 
@@ -146,3 +211,30 @@ near_failed = record (begins pair) { halves = λ p. record new_half { output = o
 abbrev pub found_before : Seen
 found_before =
     record (begins pair) { unfaithful = Some (record { port = far; event = Pkt 0 [] }) }
+
+-- a port gets no character
+abbrev pub got_nothing : List TraceLine
+got_nothing = Signed (Got far []) ∷ []
+
+-- a packet is freed behind a delivery, but in another event
+abbrev pub freed_later : List TraceLine
+freed_later = Signed (Got near accepted_chars) ∷ Begun (Collect 1) ∷ freed
+
+-- the first two characters of an acceptance came before, and the last two in the last delivery
+abbrev pub accepted_in_pieces : Gotten
+accepted_in_pieces = record {
+  before = Special 0x1c ∷ Data 0x00 ∷ [];
+  last = Data 0xff ∷ Data 0x16 ∷ [];
+}
+
+-- a port sends a packet that it does not have
+abbrev pub sent_from_nowhere : List TraceLine
+sent_from_nowhere = Signed (Sent near packet_chars) ∷ []
+
+-- a time-out fires
+abbrev pub fired : List TraceLine
+fired = Signed (Fired near) ∷ []
+
+-- a character is on its way
+abbrev pub moving : Seen
+moving = seen (begins pair) still_under_way

@@ -1,33 +1,53 @@
--- Whatever was acted on since the last silence stands, in order, among what was sent since then.
-use Rattle.std.specs.Prelude.{◌≡◌, List, [], ◌∷◌, ◌++◌, Option, Some, None}
+-- Every event that a port acts on was sent, but for one that ends a trace and is named, by the
+-- lines alone.
+use Rattle.std.specs.Prelude.{◌≡◌, Bool, true, false, List, [], ◌∷◌, ◌++◌, Some}
 use Rattle.rio_chars.specs.declared.chars.Char.{Char}
-use Rattle.link_model.specs.declared.event.Event.{Event}
-use Rattle.link_wires.specs.Deliveries.{told_of, undetected}
+use Rattle.link_model.specs.Said.{said}
+use Rattle.link_wires.specs.Acting.{acted_all}
 use Rattle.link_wires.specs.Kept.{IsSubsequence}
 use Rattle.fabric_script.specs.declared.ports.PortRef.{PortRef}
-use Rattle.fabric_trace.specs.Lines.{Got, TraceLine, Signed}
-use Rattle.fabric_trace.specs.Known.{Seen, peer_of}
-use Rattle.fabric_trace.specs.Fold.{taken_from, seen_line}
+use Rattle.fabric_trace.specs.Lines.{Got, TraceLine, Begun, Signed, Ended, Undetected}
+use Rattle.fabric_trace.specs.Known.{Seen, peer_of, port_at}
+use Rattle.fabric_trace.specs.Fold.{seen_line}
 
--- an event that was not sent is one with which the acted events are no subsequence of those sent
-abbrev pub IsUnsent : List Event → List Event → Option Event → Type 0
-IsUnsent acted sent None = Unit {0}
-IsUnsent acted sent (Some e) = IsSubsequence (acted ++ e ∷ []) sent → ⊥
+-- What was acted on from the wire of p since the last silence, and behind it all that the step
+-- tables have q act on of these characters, stands in this order among what was sent on the wire
+-- since then.
+abbrev pub ActsOnSent : Seen → PortRef → PortRef → List Char → Type 0
+ActsOnSent s p q chars =
+    IsSubsequence ((s.wires p).acted ++ acted_all (port_at s q) (said (port_at s q).place chars))
+    (s.wires p).sent
 
--- What a port acted on of the characters that it got, with what was acted on from that wire since the last silence, is a
--- subsequence of what was sent on it since then. An event that it found not to be sent is indeed none of those behind.
-pub record IsFaithful (s : Seen) (p q : PortRef) (chars : List Char) : Type 0 where
-  pub acted : IsSubsequence ((s.wires p).acted ++ (told_of (taken_from s p q chars)).acted)
-      (s.wires p).sent
-  pub unsent : IsUnsent ((s.wires p).acted ++ (told_of (taken_from s p q chars)).acted)
-      (s.wires p).sent (undetected (taken_from s p q chars))
+-- whether the trace goes on behind a delivery: another event begins, a port gets characters, or all
+-- events were carried out
+abbrev pub trace_goes_on : List TraceLine → Bool
+trace_goes_on [] = false
+trace_goes_on (Begun line ∷ lines) = true
+trace_goes_on (Signed (Got q chars) ∷ lines) = true
+trace_goes_on (Ended ∷ lines) = true
+trace_goes_on (line ∷ lines) = trace_goes_on lines
 
-abbrev pub FaithfulLine : Seen → TraceLine → Type 0
-FaithfulLine s (Signed (Got q chars)) =
-    (p : PortRef) → peer_of s q ≡ Some p → IsFaithful s p q chars
-FaithfulLine s _ = Unit {0}
+-- whether an event that was not sent is named behind it, before any of that
+abbrev pub names_unsent : List TraceLine → Bool
+names_unsent [] = false
+names_unsent (Begun line ∷ lines) = false
+names_unsent (Signed (Got q chars) ∷ lines) = false
+names_unsent (Ended ∷ lines) = false
+names_unsent (Undetected number q e ∷ lines) = true
+names_unsent (line ∷ lines) = names_unsent lines
+
+-- All that the port acts on was sent if the trace goes on, and was not if an event is named.
+pub record IsFaithful (s : Seen) (p q : PortRef) (chars : List Char) (behind : List TraceLine)
+    : Type 0 where
+  pub sent : trace_goes_on behind ≡ true → ActsOnSent s p q chars
+  pub unsent : names_unsent behind ≡ true → ActsOnSent s p q chars → ⊥
+
+abbrev pub FaithfulLine : Seen → TraceLine → List TraceLine → Type 0
+FaithfulLine s (Signed (Got q chars)) behind =
+    (p : PortRef) → peer_of s q ≡ Some p → IsFaithful s p q chars behind
+FaithfulLine s _ behind = Unit {0}
 
 -- at each line
 abbrev pub Faithful : Seen → List TraceLine → Type 0
 Faithful s [] = Unit {0}
-Faithful s (line ∷ lines) = FaithfulLine s line × Faithful (seen_line s line) lines
+Faithful s (line ∷ lines) = FaithfulLine s line lines × Faithful (seen_line s line) lines

@@ -48,8 +48,8 @@ edited_by s (Some edit) = record s {
 abbrev pub says : List Char → List Event
 says chars = said start chars
 
--- What a sender is after a symbol was sent: a restart ends Retry-stopped, and a link-request is noted. The
--- other symbols change nothing.
+-- What a sender is after a symbol was sent: a restart ends Retry-stopped, and a link-request is
+-- noted. The other symbols change nothing.
 abbrev pub symbol_leaves : ℕ → out.Output → out.Output
 symbol_leaves s1 (out.Output.Ok w) = out.Output.Ok w
 symbol_leaves s1 (out.Output.RetryStopped w) =
@@ -93,7 +93,8 @@ half_sent half chars = record half { output = sends half.output (says chars) }
 abbrev pub taken_from : Seen → PortRef → PortRef → List Char → Delivered
 taken_from s p q chars = delivered (port_at s q) (kept_of (s.wires p)) chars
 
--- The half of a port after characters. It stays as it was where an event was not sent: nothing follows.
+-- The half of a port after characters. It stays as it was where an event was not sent: nothing
+-- follows.
 abbrev pub half_after : Half → Delivered → Half
 half_after half (Through flow) = half_of flow.port
 half_after half (Unsent told e) = half

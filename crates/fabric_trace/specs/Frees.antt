@@ -12,7 +12,8 @@ use Rattle.fabric_model.specs.Network.{same_port}
 use Rattle.fabric_model.specs.Steps.{Hold, Free, Step, Linked, AtNode, ByDevice}
 use Rattle.fabric_trace.specs.Lines.{Got, TraceLine, Stepped, Signed}
 
--- an acceptance of the packet of this number, whose ackID is the number modulo 32, or a link-response
+-- an acceptance of the packet of this number, whose ackID is the number modulo 32, or a
+-- link-response
 abbrev pub Acknowledges : ℕ → Event → Type 0
 Acknowledges j (Ctl symbol) =
     ((symbol.s0 ≡ PACKET_ACCEPTED) × (symbol.p0 ≡ j % 32)) ⊎ (symbol.s0 ≡ LINK_RESPONSE)
@@ -57,8 +58,8 @@ FreeSaid p known j (Stepped (Linked (Free q packet))) =
     same_port p q ≡ true → IsSaid j (completed known)
 FreeSaid p known j _ = Unit {0}
 
--- The j-th packet that a port frees, counted from 0, stands in a delivery that completes an acceptance with ackID j
--- modulo 32, or a link-response.
+-- The j-th packet that a port frees, counted from 0, stands in a delivery that completes an
+-- acceptance with ackID j modulo 32, or a link-response.
 abbrev pub FreesSaid : PortRef → Gotten → ℕ → List TraceLine → Type 0
 FreesSaid p known j [] = Unit {0}
 FreesSaid p known j (line ∷ lines) =

@@ -44,7 +44,7 @@ abbrev pub numbered : ℕ → List (List ℕ) → List Event
 numbered n [] = []
 numbered n (packet ∷ packets) = Pkt (n % 32) packet ∷ numbered (suc n) packets
 
--- The i-th packet that a port holds, counted from 0, came to it with ackID i modulo 32, in the order of the
--- holds: in the reading of everything that it got.
+-- The i-th packet that a port holds, counted from 0, came to it with ackID i modulo 32, in the
+-- order of the holds: in the reading of everything that it got.
 abbrev pub HoldsCame : PortRef → List TraceLine → Type 0
 HoldsCame q lines = IsSubsequence (numbered 0 (holds q lines)) (says (got q lines))

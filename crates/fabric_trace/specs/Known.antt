@@ -11,8 +11,8 @@ use Rattle.fabric_model.specs.Network.{Network, same_port, peer_in}
 use Rattle.fabric_trace.specs.Views.{Half, view}
 
 -- A wire, named by the port that sends on it: its characters; the events sent on it since the last
--- silence, and those that were acted on from it since. A silence of a link is a time-out of one of its
--- ports.
+-- silence, and those that were acted on from it since. A silence of a link is a time-out of one of
+-- its ports.
 pub record Wire : Type 0 where
   pub chars : List Char
   pub sent : List Event
@@ -47,8 +47,8 @@ peer_of s p = peer_in s.network.links p
 abbrev pub port_at : Seen → PortRef → PortState
 port_at s p = view s.network p (s.halves p)
 
--- What was sent and is not acted on yet: what stands behind the last acted event, where acted events are
--- found one after another among those sent.
+-- What was sent and is not acted on yet: what stands behind the last acted event, where acted
+-- events are found one after another among those sent.
 abbrev pub kept_of : Wire → List Event
 kept_of wire = unwrap_or (behind_all wire.acted wire.sent) []
 

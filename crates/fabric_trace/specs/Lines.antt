@@ -22,9 +22,9 @@ pub data Sign : Type 0 where
   Got : PortRef → List Char → Sign
   Fired : PortRef → Sign
 
--- An event of the script begins; a step of the network; what a port did; an event that found nothing
--- to do; the trace ends; it ends with the script's line, the port and the event that the port acted on
--- and that was not sent.
+-- An event of the script begins; a step of the network; what a port did; an event that found
+-- nothing to do; the trace ends; it ends with the script's line, the port and the event that the
+-- port acted on and that was not sent.
 pub data TraceLine : Type 0 where
   Begun : Line → TraceLine
   Stepped : Step → TraceLine

@@ -25,8 +25,8 @@ pub record IsKept (wire : Wire) : Type 0 where
   pub left : List Event
   pub found : behind_all wire.acted wire.sent ≡ Some left
 
--- The link of two ports is sound. What each port has lent and what waits there, by its ackIDs, is what the
--- plain network has there.
+-- The link of two ports is sound. What each port has lent and what waits there, by its ackIDs, is
+-- what the plain network has there.
 pub record IsLink (s : Seen) (a b : PortRef) : Type 0 where
   pub sound : IsSoundLink (link_at s a b)
   pub stands : queues_in s.network a b ≡ queues_of (link_at s a b)

@@ -1,5 +1,5 @@
--- What may stand in a trace, whatever script it is of: one part after another, each in the state that is
--- reached.
+-- What may stand in a trace, whatever script it is of: one part after another, each in the state
+-- that is reached.
 use Rattle.std.specs.Prelude.{◌≡◌, ◌<◌, ℕ, true, List, [], ◌∷◌, ◌++◌, Some, None}
 use Rattle.rio_packets.specs.Fields.{prio_of}
 use Rattle.link_model.specs.declared.event.Event.{Event}

@@ -1,5 +1,5 @@
--- What `run` does: rounds, in each of which every link settles in the order of its line, and then every switch in
--- the order of its line makes steps until no packet of it can go.
+-- What `run` does: rounds, in each of which every link settles in the order of its line, and then
+-- every switch in the order of its line makes steps until no packet of it can go.
 use Rattle.std.specs.Prelude.{◌≡◌, ℕ, zero, suc, List, [], ◌∷◌, ◌++◌, Option, Some, None, MatchBool}
 use Rattle.link_rest.specs.Rest.{IsSettled}
 use Rattle.maint_registers.specs.Devices.{Device, is_switch}

@@ -30,24 +30,38 @@ start script = begins (set_up_all bare script)
 
 -- ---- one event after another
 
--- the line that an event begins with, its block, and what comes behind
-abbrev pub BlockThen : (Seen → List TraceLine → Type 0) → (Found → List TraceLine → Type 0) → Seen
-    → Line → List TraceLine → Type 0
-BlockThen More Last s line lines = (block : List TraceLine) × (rest : List TraceLine)
-    × (lines ≡ (Begun line ∷ block) ++ rest) × IsBlock s line block
+-- what is said of the lines of an event, by what is known before it
+abbrev pub OfEvent : Type 1
+OfEvent = Seen → Line → List TraceLine → Type 0
+
+-- the line that an event begins with, lines of which this is said, and what comes behind
+abbrev pub EventThen : OfEvent → (Seen → List TraceLine → Type 0)
+    → (Found → List TraceLine → Type 0) → Seen → Line → List TraceLine → Type 0
+EventThen Block More Last s line lines = (block : List TraceLine) × (rest : List TraceLine)
+    × (lines ≡ (Begun line ∷ block) ++ rest) × Block s line block
     × Follows (seen s (Begun line ∷ block)).unfaithful (More (seen s (Begun line ∷ block))) Last
     rest
+
+-- the same of its block
+abbrev pub BlockThen : (Seen → List TraceLine → Type 0) → (Found → List TraceLine → Type 0) → Seen
+    → Line → List TraceLine → Type 0
+BlockThen More Last s line lines = EventThen IsBlock More Last s line lines
 
 -- the line that names an event that was not sent is the last
 abbrev pub Names : ℕ → Found → List TraceLine → Type 0
 Names number found lines = lines ≡ Undetected number found.port found.event ∷ []
 
--- For each event in turn, the line that it begins with and its block; then the last line.
+-- For each event in turn, the line that it begins with and lines of which this is said; then the
+-- last line.
+abbrev pub RunsBy : OfEvent → Seen → List Numbered → List TraceLine → Type 0
+RunsBy Block s [] lines = lines ≡ Ended ∷ []
+RunsBy Block s (line ∷ script) lines = MatchBool (is_event line.line)
+    (EventThen Block (λ t rest. RunsBy Block t script rest) (Names line.number) s line.line lines)
+    (RunsBy Block s script lines)
+
+-- the same with its block
 abbrev pub RunsFrom : Seen → List Numbered → List TraceLine → Type 0
-RunsFrom s [] lines = lines ≡ Ended ∷ []
-RunsFrom s (line ∷ script) lines = MatchBool (is_event line.line)
-    (BlockThen (λ t rest. RunsFrom t script rest) (Names line.number) s line.line lines)
-    (RunsFrom s script lines)
+RunsFrom s script lines = RunsBy IsBlock s script lines
 
 -- the lines are a trace of the script
 abbrev pub Runs : List Numbered → List TraceLine → Type 0
@@ -56,15 +70,23 @@ Runs script lines = RunsFrom (start script) script lines
 -- ---- fronts
 
 -- The same with no last line: what a trace begins with.
+abbrev pub BlocksBy : OfEvent → Seen → List Numbered → List TraceLine → Type 0
+BlocksBy Block s [] lines = lines ≡ []
+BlocksBy Block s (line ∷ script) lines = MatchBool (is_event line.line)
+    (EventThen Block (λ t rest. BlocksBy Block t script rest) NamesNothing s line.line lines)
+    (BlocksBy Block s script lines)
+
 abbrev pub BlocksFrom : Seen → List Numbered → List TraceLine → Type 0
-BlocksFrom s [] lines = lines ≡ []
-BlocksFrom s (line ∷ script) lines = MatchBool (is_event line.line)
-    (BlockThen (λ t rest. BlocksFrom t script rest) NamesNothing s line.line lines)
-    (BlocksFrom s script lines)
+BlocksFrom s script lines = BlocksBy IsBlock s script lines
+
+-- the lines are those of the first events of the script
+pub record BeginsBy (Block : OfEvent) (script : List Numbered) (lines : List TraceLine) : Type 0
+  where
+    pub done : List Numbered
+    pub rest : List Numbered
+    pub whole : script ≡ done ++ rest
+    pub blocks : BlocksBy Block (start script) done lines
 
 -- the lines are the blocks of the first events of the script
-pub record Begins (script : List Numbered) (lines : List TraceLine) : Type 0 where
-  pub done : List Numbered
-  pub rest : List Numbered
-  pub whole : script ≡ done ++ rest
-  pub blocks : BlocksFrom (start script) done lines
+abbrev pub Begins : List Numbered → List TraceLine → Type 0
+Begins script lines = BeginsBy IsBlock script lines

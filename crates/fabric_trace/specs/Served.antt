@@ -1,5 +1,5 @@
--- What devices do with packets, as lines: the step of a switch, and what an endpoint collects. Which packet goes
--- first and where it goes is said over the lists of ports.
+-- What devices do with packets, as lines: the step of a switch, and what an endpoint collects.
+-- Which packet goes first and where it goes is said over the lists of ports.
 use Rattle.std.specs.Prelude.{◌≡◌, ℕ, zero, suc, List, [], ◌∷◌, Some, slice_get}
 use Rattle.rio_packets.specs.LinkForm.{Passes}
 use Rattle.maint_registers.specs.Devices.{Device}

@@ -21,8 +21,8 @@ pub record IsSetUp (net : Network) : Type 0 where
   pub within : AllByRecursion IsWithin net.registers
 
 -- What a line needs: a switch has 2 to 16 ports; a link joins two ports that have none; 4 to 30
--- buffers; a route is one of a switch, and a lock that of a node; and IDs, ports of routes and locks
--- fit their registers.
+-- buffers; a route is one of a switch, and a lock that of a node; and IDs, ports of routes and
+-- locks fit their registers.
 abbrev pub MaySetUp : Network → Line → Type 0
 MaySetUp net (Link a b) =
     (same_port a b ≡ false) × (peer_in net.links a ≡ None) × (peer_in net.links b ≡ None)

@@ -1,6 +1,7 @@
 -- What the lines of set-up make of a network.
-use Rattle.std.specs.Prelude.{ℕ, false, List, [], ◌∷◌, ◌++◌, slice_set, if◌then◌else◌}
-use Rattle.maint_registers.specs.Devices.{Device, new_endpoint, new_switch, with_link}
+use Rattle.std.specs.Prelude.{ℕ, false, List, [], ◌∷◌, ◌++◌, if◌then◌else◌}
+use Rattle.maint_registers.specs.Devices.{Device, new_endpoint, new_switch}
+pub use Rattle.maint_registers.specs.Changes.{linked_at, routed, defaulted, held_by}
 use Rattle.fabric_script.specs.declared.ports.PortRef.{PortRef}
 use Rattle.fabric_script.specs.declared.lines.Line.{Line}
 use Rattle.fabric_script.specs.declared.lines.Line.TheVariants.{Endpoint, Switch, Link, Buffers, Route, Default, Lock}
@@ -21,20 +22,7 @@ with_change net node change = record net { registers = with_device net.registers
 
 -- the device of a port knows that the port has a link
 abbrev pub with_end : Network → PortRef → Network
-with_end net p =
-    with_change net p.node (λ device. record device { linked = with_link device.linked p.port })
-
--- a switch sends what is for a destination to this port
-abbrev pub routed : ℕ → ℕ → Device → Device
-routed dest port device = record device { routes = slice_set device.routes dest port }
-
--- a switch sends what its table does not name to this port
-abbrev pub defaulted : ℕ → Device → Device
-defaulted port device = record device { default_port = port }
-
--- a host with this ID holds a device
-abbrev pub held_by : ℕ → Device → Device
-held_by id device = record device { lock = id }
+with_end net p = with_change net p.node (linked_at p.port)
 
 -- The network with one more line. An event sets nothing up.
 abbrev pub set_up : Network → Line → Network

@@ -1,11 +1,12 @@
--- A link that was to settle is at rest when the next event begins, by the lines alone.
+-- Each event is over when the next one begins, by the lines alone: nothing was found that was not
+-- sent, and a link that was to settle is at rest.
 use Rattle.std.specs.Prelude.{◌≡◌, List, [], ◌∷◌, Option, Some, None}
 use Rattle.link_rest.specs.Rest.{IsSettled}
 use Rattle.fabric_script.specs.declared.ports.PortRef.{PortRef}
 use Rattle.fabric_script.specs.declared.lines.Line.{Line}
 use Rattle.fabric_script.specs.declared.lines.Line.TheVariants.{Settle}
 use Rattle.fabric_model.specs.Network.{link_in}
-use Rattle.fabric_trace.specs.Lines.{TraceLine, Begun, Ended}
+use Rattle.fabric_trace.specs.Lines.{TraceLine, Begun, Ended, Undetected}
 use Rattle.fabric_trace.specs.Known.{Seen, link_at}
 use Rattle.fabric_trace.specs.Fold.{seen_line}
 
@@ -25,15 +26,16 @@ RestsAt s None = Unit {0}
 RestsAt s (Some port) = (link : PortRef × PortRef) → link_in s.network.links port ≡ Some link
     → IsSettled (link_at s link.0 link.1)
 
--- The event that was under way is over where another begins, or the trace ends, but not where the line that names an
--- unsent event cuts it.
-abbrev pub RestsBefore : Seen → Option PortRef → TraceLine → Type 0
-RestsBefore s port (Begun line) = RestsAt s port
-RestsBefore s port Ended = RestsAt s port
-RestsBefore s port _ = Unit {0}
+-- The event that was under way is over where another begins, or the trace ends. The line that names
+-- an unsent event cuts it, and names what was found in it.
+abbrev pub IsOver : Seen → Option PortRef → TraceLine → Type 0
+IsOver s port (Begun line) = (s.unfaithful ≡ None) × RestsAt s port
+IsOver s port Ended = (s.unfaithful ≡ None) × RestsAt s port
+IsOver s port (Undetected number q e) = s.unfaithful ≡ Some (record { port = q; event = e })
+IsOver s port _ = Unit {0}
 
 -- at each line, with the port whose link the event under way settles
 abbrev pub Settled : Seen → Option PortRef → List TraceLine → Type 0
 Settled s port [] = Unit {0}
 Settled s port (line ∷ lines) =
-    RestsBefore s port line × Settled (seen_line s line) (under_way port line) lines
+    IsOver s port line × Settled (seen_line s line) (under_way port line) lines

@@ -1,5 +1,5 @@
--- The text of a trace. A node is told by its name, a port by its node's name and its number, a packet
--- by its bytes in hexadecimal, and characters by their texts, each behind a space.
+-- The text of a trace. A node is told by its name, a port by its node's name and its number, a
+-- packet by its bytes in hexadecimal, and characters by their texts, each behind a space.
 use Rattle.std.specs.Prelude.{ℕ, List, [], ◌∷◌, ◌++◌, codes}
 use Rattle.std.specs.List.{flat_map}
 use Rattle.std.specs.Fmt.{decimal}
@@ -43,8 +43,8 @@ lack_text Short = codes "short"
 lack_text Early = codes "early"
 lack_text NoStep = codes "none"
 
--- A symbol is told by stype0, its two parameters, stype1 and cmd; a packet by its ackID and its bytes.
--- What is neither is never acted on, and has no text.
+-- A symbol is told by stype0, its two parameters, stype1 and cmd; a packet by its ackID and its
+-- bytes. What is neither is never acted on, and has no text.
 abbrev pub event_text : Event → List ℕ
 event_text (Ctl symbol) =
     codes "symbol " ++ decimal symbol.s0 ++ codes " " ++ decimal symbol.p0 ++ codes " "

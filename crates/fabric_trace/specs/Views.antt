@@ -1,5 +1,5 @@
--- A port as the step tables see it: what it knows beside its packets, and its lists as the plain network
--- has them.
+-- A port as the step tables see it: what it knows beside its packets, and its lists as the plain
+-- network has them.
 use Rattle.std.specs.Prelude.{ℕ, ◌==◌, List, [], ◌∷◌, ◌++◌, map, filter}
 use Rattle.rio_packets.specs.Fields.{prio_of}
 use Rattle.link_model.specs.Places.{Place, start}

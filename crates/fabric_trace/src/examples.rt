@@ -1,22 +1,29 @@
 //! Small runs, and lines of which the laws do not hold.
 
-ghost use Rattle.std.specs.Prelude.{◌≡◌, ◌≢◌, ℕ, List, [], ◌∷◌, Some, None};
+ghost use Rattle.std.specs.Prelude.{◌≡◌, ◌≢◌, ℕ, false, List, [], ◌∷◌, ◌++◌, Some, None};
 ghost use Rattle.rio_chars.specs.declared.chars.Char.{Char};
+ghost use Rattle.link_model.specs.Symbols.{packet_accepted};
+ghost use Rattle.link_model.specs.declared.event.Event.TheVariants.{Ctl, Pkt};
 ghost use Rattle.link_rest.specs.Rest.{IsSettled};
 ghost use Rattle.maint_packets.specs.declared.next_hop.Next.TheVariants.{Port};
+ghost use Rattle.fabric_script.specs.declared.lines.Line.TheVariants.{Settle, Run};
 ghost use Rattle.fabric_model.specs.Network.{Network};
 ghost use Rattle.fabric_model.specs.Serving.{next_at};
 ghost use Rattle.fabric_model.specs.Steps.{LegalFrom};
-ghost use Rattle.fabric_trace.specs.Examples.{near, far, pair, idle_script, idle_trace, switch_script, switch_trace, two_held, dropped_at, moved_to, joined_with_itself, held_from_nowhere, held_in_wrong_order, freed, freed_twice, got_from_nowhere, got_another, still_under_way, acted_from_nowhere, not_settled, near_failed, found_before};
-ghost use Rattle.fabric_trace.specs.Faithful.{IsFaithful};
+ghost use Rattle.fabric_trace.specs.Allowance.{FreesAllowed};
+ghost use Rattle.fabric_trace.specs.AtRest.{IsBlockAtRest};
+ghost use Rattle.fabric_trace.specs.Examples.{near, far, pair, idle_script, idle_trace, packet_script, packet_trace, accepted_chars, switch_script, switch_trace, two_held, dropped_at, moved_to, joined_with_itself, held_from_nowhere, held_in_wrong_order, freed, freed_twice, freed_later, accepted_in_pieces, got_from_nowhere, got_another, got_nothing, sent_from_nowhere, fired, still_under_way, moving, acted_from_nowhere, named_though_sent, not_settled, not_settled_yet, goes_on_with, named_at, near_failed, found_before};
+ghost use Rattle.fabric_trace.specs.Faithful.{Faithful};
 ghost use Rattle.fabric_trace.specs.Firsts.{FindsFirst};
 ghost use Rattle.fabric_trace.specs.Fold.{says, seen};
-ghost use Rattle.link_model.specs.Symbols.{packet_accepted};
-ghost use Rattle.link_model.specs.declared.event.Event.TheVariants.{Ctl, Pkt};
 ghost use Rattle.fabric_trace.specs.Frees.{Gotten, nothing_got, completed, FreesSaid};
 ghost use Rattle.fabric_trace.specs.Holds.{HoldsCame};
-ghost use Rattle.fabric_trace.specs.Known.{link_at};
-ghost use Rattle.fabric_trace.specs.Lines.{steps_of};
+ghost use Rattle.fabric_trace.specs.Known.{Seen, link_at};
+ghost use Rattle.fabric_trace.specs.Lines.{TraceLine, steps_of};
+ghost use Rattle.fabric_trace.specs.Noted.{FreesNoted};
+ghost use Rattle.fabric_trace.specs.OnTheWay.{NeverFailWithin};
+ghost use Rattle.fabric_trace.specs.Owned.{AreOwned};
+ghost use Rattle.fabric_trace.specs.Rounds.{SettlesTo};
 ghost use Rattle.fabric_trace.specs.Runs.{bare, begins, Runs};
 ghost use Rattle.fabric_trace.specs.Served.{IsMove};
 ghost use Rattle.fabric_trace.specs.SetUps.{MaySetUpAll};
@@ -27,6 +34,11 @@ ghost use Rattle.fabric_trace.specs.Working.{NeverFail};
 /// The small run is a trace of its script.
 pub fn small_run()
     ensures { Runs idle_script idle_trace }
+{}
+
+/// So is the run of one packet, which is taken, sent, held, acknowledged, freed and collected.
+pub fn small_run_with_a_packet()
+    ensures { Runs packet_script packet_trace }
 {}
 
 /// So is that of a switch that has nothing to move.
@@ -42,11 +54,9 @@ pub fn two_ports_in_order()
 {}
 
 /// The laws do not hold of these lines: a switch moves a packet to another port than its table
-/// names; a port is linked with itself; a packet is held that nobody sent; a packet is freed before
-/// it was accepted, or two are by one acceptance; a port gets a character that was not on the wire,
-/// or another one than was; a character is still on its way; an event was acted on that nobody sent;
-/// a link is not at rest behind its `settle`; a sender has failed; a port gets characters behind an
-/// event that was found not to be sent.
+/// names; a port is linked with itself; a packet is held that nobody sent, or two are in the wrong
+/// order; a port gets a character that was not on the wire, or another one than was; it sends a
+/// packet that it does not have; a time-out fires where a character is on its way.
 pub fn laws_can_fail()
     ensures elsewhere { (net end : Network) (node from named to : ℕ) (packet : List ℕ)
         → next_at net node packet ≡ Some (Port named) → named ≢ to
@@ -57,15 +67,51 @@ pub fn laws_can_fail()
     ensures order { (chars : List Char) (first second : List ℕ) → first ≢ second
         → says chars ≡ Pkt 0 first ∷ Pkt 1 second ∷ []
         → HoldsCame far (held_in_wrong_order chars first second) → ⊥ }
-    ensures freed { FreesSaid near nothing_got 0 freed → ⊥ }
-    ensures twice { (known : Gotten) → completed known ≡ Ctl (packet_accepted 0) ∷ []
-        → FreesSaid near known 0 freed_twice → ⊥ }
     ensures got { WireFold pair.links (λ p. []) got_from_nowhere → ⊥ }
     ensures another { (sent other : Char) → sent ≢ other
         → WireFold pair.links (λ p. []) (got_another sent other) → ⊥ }
-    ensures moving { IsSettled (link_at (seen (begins pair) still_under_way) near far) → ⊥ }
-    ensures acted { IsFaithful acted_from_nowhere near far [] → ⊥ }
+    ensures sent { AreOwned (begins pair) sent_from_nowhere → ⊥ }
+    ensures fired { AreOwned moving fired → ⊥ }
+{}
+
+/// The laws of frees do not hold of these: a packet is freed before it was accepted, or two are by
+/// one acceptance; one is freed in another event than that of the delivery. An acceptance may come
+/// in two deliveries: the second completes it.
+pub fn laws_of_frees_can_fail()
+    ensures freed { FreesSaid near nothing_got 0 freed → ⊥ }
+    ensures twice { (known : Gotten) → completed known ≡ Ctl (packet_accepted 0) ∷ []
+        → FreesSaid near known 0 freed_twice → ⊥ }
+    ensures pieces { FreesSaid near accepted_in_pieces 0 freed }
+    ensures noted { FreesNoted near false freed → ⊥ }
+    ensures later { FreesNoted near false freed_later → ⊥ }
+    ensures allowed { FreesAllowed near [] 0 freed → ⊥ }
+    ensures once { FreesAllowed near accepted_chars 0 freed }
+    ensures too_many { FreesAllowed near accepted_chars 0 freed_twice → ⊥ }
+{}
+
+/// Nor do those of what is acted on, of rest and of senders: an event was acted on that nobody
+/// sent, or is named though it was sent; a character is still on its way; a link is not at rest
+/// behind its `settle`, where the trace ends or the next event begins; an event begins, or a port
+/// gets characters, behind an event that was found not to be sent; another event is named than was
+/// found, or one where none was; a sender has failed, or fails in a delivery.
+pub fn laws_of_links_can_fail()
+    ensures acted { Faithful (begins pair) acted_from_nowhere → ⊥ }
+    ensures unsent { Faithful (begins pair) named_though_sent → ⊥ }
+    ensures moving { IsSettled (link_at moving near far) → ⊥ }
+    ensures round { SettlesTo (λ s a b lines. lines ≡ []) moving near far [] → ⊥ }
+    ensures settle { (s : Seen) (block : List TraceLine) → s.network ≡ pair
+        → IsBlockAtRest s (Settle near) block → (seen s block).unfaithful ≡ None
+        → IsSettled (link_at (seen s block) near far) }
+    ensures rounds { (s : Seen) (block : List TraceLine) → s.network ≡ pair
+        → IsBlockAtRest s (Run 1) block → (first : List TraceLine) × (rest : List TraceLine)
+        × (block ≡ first ++ rest) × ((seen s first).unfaithful ≡ None
+        → IsSettled (link_at (seen s first) near far)) }
     ensures resting { Settled (begins pair) None not_settled → ⊥ }
-    ensures failed { NeverFail near_failed [] → ⊥ }
+    ensures resting_before { Settled (begins pair) None not_settled_yet → ⊥ }
+    ensures found_before { Settled found_before None goes_on_with → ⊥ }
+    ensures named { Settled (begins pair) None (named_at far) → ⊥ }
+    ensures named_other { Settled found_before None (named_at near) → ⊥ }
     ensures second { FindsFirst found_before got_from_nowhere → ⊥ }
+    ensures failed { NeverFail near_failed [] → ⊥ }
+    ensures failed_within { NeverFailWithin near_failed got_nothing → ⊥ }
 {}

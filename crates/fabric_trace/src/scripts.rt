@@ -4,6 +4,7 @@ ghost use Rattle.std.specs.Prelude.{◌≡◌, ℕ, true, List, ◌∷◌, ◌++
 ghost use Rattle.fabric_script.specs.declared.lines.Numbered.{Numbered};
 ghost use Rattle.fabric_script.specs.Lines.{is_event};
 ghost use Rattle.fabric_script.specs.Scripts.{Passes};
+ghost use Rattle.fabric_model.specs.Laws.Nodes.{JoinsNodes};
 ghost use Rattle.fabric_trace.specs.Events.{ArePorts, MayHappen, port_counts};
 ghost use Rattle.fabric_trace.specs.Runs.{bare, set_up_all};
 ghost use Rattle.fabric_trace.specs.SetUps.{MaySetUpAll};
@@ -25,4 +26,10 @@ pub fn events_may_happen()
 pub fn ports_are_there()
     ensures { (names : List (List ℕ)) (before behind : List Numbered) (line : Numbered)
         → Passes names (before ++ line ∷ behind) → ArePorts (port_counts before) line.line }
+{}
+
+/// The links of a script that passes join ports of nodes, and each endpoint has its port.
+pub fn scripts_join_nodes()
+    ensures { (names : List (List ℕ)) (lines : List Numbered) → Passes names lines
+        → JoinsNodes (set_up_all bare lines) }
 {}

@@ -1,5 +1,6 @@
 //! `LinkLines`: a watch of a link that writes its notes.
-ghost use Rattle.std.specs.Prelude.{◌≡◌, ◌<◌, ◌++◌, length, codes};
+ghost use Rattle.std.specs.Prelude.{◌≡◌, ◌<◌, ◌≤◌, ◌++◌, ◌∷◌, [], ℕ, length, codes, IsOk, OnOk, OnErr, IsErrOf};
+ghost use Rattle.rio_chars.specs.Faults.{Rose};
 ghost use Rattle.rio_chars.specs.Written.{Writes};
 ghost use Rattle.fabric_trace.specs.Text.{trace_line_text};
 ghost use Rattle.fabric_trace.specs.Blocks.{port_at_side, line_of};
@@ -32,7 +33,7 @@ impl<'o, 's, 'n, K: Sink> Watch for LinkLines<'o, 's, 'n, K> {
     ghost use Rattle.trace_lines.specs.Watching.{WritesNotes};
     ghost use Rattle.trace_lines.specs.WatchingLaws.{writes_no_notes, writes_more_notes};
 
-    ghost faults = { λ watch. K.faults watch.outbox.now.sink.now };
+    ghost faults = { λ watch. 0 };
 
     ghost grew = { WritesNotes K.written K.faults };
 
@@ -44,7 +45,15 @@ impl<'o, 's, 'n, K: Sink> Watch for LinkLines<'o, 's, 'n, K> {
 
     ghost cut_none = { λ watch note. refl };
 
-    fn note(&mut self, _alloc: Global, note: &Note) -> Result<(), NoteEnd> {
+    fn note(&mut self, _alloc: Global, note: &Note) -> Result<(), NoteEnd>
+        ensures taken { OnOk result
+            (WritesNotes K.written K.faults self.old (note.now ∷ []) self.new) }
+        ensures stopped { OnErr result (self.new ≡ self.old) }
+        ensures cause { IsErrOf result NoteEnd.Failed → Rose 0 0 }
+        ensures counts { ¬ IsErrOf result NoteEnd.Failed → ◌≡◌ {A = ℕ} 0 0 }
+        ensures never_falls { 0 ≤ 0 }
+        ensures always { IsOk result }
+    {
         write_note(self.outbox, self.names, self.a, self.b, note);
         Ok(())
     }

@@ -2,7 +2,7 @@
 -- does not hold.
 use Rattle.std.specs.Prelude.{ℕ, true, List, [], ◌∷◌}
 use Rattle.maint_registers.specs.Devices.{new_endpoint}
-use Rattle.fabric_model.specs.Network.{Item, Network, bare, port_of}
+use Rattle.fabric_model.specs.Network.{Item, Network, bare, port_of, with_lane}
 use Rattle.fabric_model.specs.Steps.{Hold, Free, Take, Leave, Step, Linked, AtNode, after_all}
 
 -- a packet of priority 0 and format type 15, from device 1 to 2
@@ -40,6 +40,13 @@ kept_too = record (after_all pair held_once) { waiting = λ p r. first ∷ [] }
 abbrev pub left_twice : List Step
 left_twice = AtNode (Take 0 packet) ∷ Linked (Hold (port_of 1) packet) ∷ AtNode (Leave 1 packet)
     ∷ AtNode (Leave 1 packet) ∷ []
+
+-- one number stands twice, and both items leave
+abbrev pub twins : Network
+twins = record pair { received = with_lane (λ p r. []) (port_of 1) 0 (first ∷ first ∷ []) }
+
+abbrev pub left_both : List Step
+left_both = AtNode (Leave 1 packet) ∷ AtNode (Leave 1 packet) ∷ []
 
 -- it leaves as another
 abbrev pub left_as_other : List Step

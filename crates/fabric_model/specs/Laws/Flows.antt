@@ -6,7 +6,8 @@ use Rattle.fabric_model.specs.Steps.{Step, after, after_all}
 use Rattle.fabric_model.specs.Laws.History.{Left, Answered, taken_by, ended_by, ended}
 use Rattle.fabric_model.specs.Laws.Holding.{how_often}
 
--- The items go the same way through any fabric. Each field reads what they were when they were taken.
+-- The items go the same way through any fabric. Each field reads what they were when they were
+-- taken.
 pub record SameCourse (x y : Item) : Type 0 where
   pub port : x.port ≡ y.port
   pub dest : dest_of x.taken ≡ dest_of y.taken
@@ -14,8 +15,8 @@ pub record SameCourse (x y : Item) : Type 0 where
   pub maintenance : (ftype_of x.taken == 8) ≡ (ftype_of y.taken == 8)
   pub hop : hop_of x.taken ≡ hop_of y.taken
 
--- The items are of one flow: of one course and one source. A further field makes flows finer, and the law
--- weaker.
+-- The items are of one flow: of one course and one source. A further field makes flows finer, and
+-- the law weaker.
 pub record SameFlow (x y : Item) : Type 0 where
   pub source : source_of x.taken ≡ source_of y.taken
   pub course : SameCourse x y
@@ -27,9 +28,9 @@ RoutesStand dest net (step ∷ steps) =
     ((n : ℕ) → route_at (after net step) dest n ≡ route_at net dest n)
     × RoutesStand dest (after net step) steps
 
--- Of two items that are alike the one that was taken first leaves first: x is taken by one step, and by
--- a later one y leaves. If the routes of their destination stand in between, and x is the earlier one,
--- then x has left before, or was answered.
+-- Of two items that are alike the one that was taken first leaves first: x is taken by one step,
+-- and by a later one y leaves. If the routes of their destination stand in between, and x is the
+-- earlier one, then x has left before, or was answered.
 abbrev pub EarlierFirst : (Item → Item → Type 0) → Network → List Step → Type 0
 EarlierFirst Alike start steps =
     (before : List Step) (first : Step) (between : List Step) (last : Step) (later : List Step)

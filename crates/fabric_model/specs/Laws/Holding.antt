@@ -6,8 +6,8 @@ use Rattle.fabric_model.specs.Network.{Item, Network, same_port}
 use Rattle.fabric_model.specs.Steps.{Step}
 use Rattle.fabric_model.specs.Laws.History.{End, same_end, taken, ended, WasTaken}
 
--- Where an item can stand: in a list of a port and a priority, or among those that have ended in one
--- way. What is lent are copies.
+-- Where an item can stand: in a list of a port and a priority, or among those that have ended in
+-- one way. What is lent are copies.
 pub data Place : Type 0 where
   Received : PortRef → ℕ → Place
   Waiting : PortRef → ℕ → Place

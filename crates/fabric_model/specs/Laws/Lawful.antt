@@ -9,8 +9,8 @@ use Rattle.fabric_model.specs.Laws.Tables.{ByTables}
 use Rattle.fabric_model.specs.Laws.Flows.{InOrder}
 
 -- The steps are a legal run of plain first-in first-out queues that hold exactly the packets taken.
--- Each packet leaves at most once, where the tables name, unchanged but for its hop count, and in order
--- per flow while the routes stand, and no port frees it before the next hop holds it.
+-- Each packet leaves at most once, where the tables name, unchanged but for its hop count, and in
+-- order per flow while the routes stand, and no port frees it before the next hop holds it.
 pub record Lawful (start : Network) (steps : List Step) (end : Network) : Type 0 where
   pub legal : LegalFrom start steps end
   pub holding_exactly : HoldingExactly start steps end

@@ -23,8 +23,8 @@ pub record Once (start : Network) (steps : List Step) : Type 0 where
   pub each : length (gone start steps) ≡ length (packets_left steps)
   pub never_twice : (n : ℕ) → how_often n (gone start steps) ≤ 1
 
--- A packet as it was before a move and after it: the hop count of a maintenance packet is lowered by one,
--- and its CRC made again. Any other packet stays.
+-- A packet as it was before a move and after it: the hop count of a maintenance packet is lowered
+-- by one, and its CRC made again. Any other packet stays.
 abbrev pub MovesTo : List ℕ → List ℕ → Type 0
 MovesTo old new = MatchBool (is_maintenance old) (Lowered old new) (new ≡ old)
 
@@ -46,8 +46,8 @@ moved_by net (ByDevice (Answer p packet response)) = []
 abbrev pub moves : Network → List Step → List Item
 moves net steps = gathered moved_by net steps
 
--- What leaves is what was taken, after as many moves as the item has made: but for the hop count and the
--- CRC over it.
+-- What leaves is what was taken, after as many moves as the item has made: but for the hop count
+-- and the CRC over it.
 pub record Unchanged (start : Network) (steps : List Step) : Type 0 where
   -- the steps show the packets of the items that have left
   pub shown : packets_left steps ≡ map (λ item. item.now) (gone start steps)

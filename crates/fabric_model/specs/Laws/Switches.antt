@@ -1,5 +1,5 @@
--- Small lists of steps through switches: a packet's way, a route in a circle, two packets that part, and
--- lists of which laws do not hold.
+-- Small lists of steps through switches: a packet's way, a route in a circle, two packets that
+-- part, and lists of which laws do not hold.
 use Rattle.std.specs.Prelude.{◌≡◌, ℕ, true, List, [], ◌∷◌}
 use Rattle.rio_packets.specs.Fields.{prio_of}
 use Rattle.maint_registers.specs.Devices.{Device, new_endpoint, new_switch}
@@ -56,7 +56,8 @@ through =
     ∷ AtNode (Leave 1 packet)
     ∷ []
 
--- The first of two packets goes to the other switch and back, and comes to a list where the second waits.
+-- The first of two packets goes to the other switch and back, and comes to a list where the second
+-- waits.
 abbrev pub circle : List Step
 circle =
     AtNode (Take 0 for_9)
@@ -71,8 +72,8 @@ circle =
     ∷ ByDevice (Move (port_at 2 2) (port_at 2 1) for_9)
     ∷ []
 
--- Two packets of one port and priority go by different links, as the table names, and the second leaves
--- while the first waits.
+-- Two packets of one port and priority go by different links, as the table names, and the second
+-- leaves while the first waits.
 abbrev pub parting : List Step
 parting =
     AtNode (Take 0 packet)
@@ -135,8 +136,8 @@ response =
     0x00 ∷ 0x48 ∷ 0x01 ∷ 0x02 ∷ 0x30 ∷ 0x00 ∷ 0xff ∷ 0x00 ∷ 0x00 ∷ 0x00
     ∷ 0xd4 ∷ 0x00 ∷ []
 
--- The first switch sends what has no entry to port 1, until its registers answer the write. So the second
--- packet of a flow goes by the other link, and leaves while the first waits.
+-- The first switch sends what has no entry to port 1, until its registers answer the write. So the
+-- second packet of a flow goes by the other link, and leaves while the first waits.
 abbrev pub changing : List Step
 changing =
     AtNode (Take 0 for_7)

@@ -1,8 +1,8 @@
 use Rattle.std.proofs.Common.{◌≤◌, None, length, sym, ap, ◌∙◌, subst, arith}
 use Rattle.fabric_trace.specs.Lines.{Ended}
-use Rattle.fabric_trace.specs.Runs.{bare, set_up_all}
+use Rattle.fabric_trace.specs.Runs.{bare, set_up_all, start}
 use Rattle.fabric_ports.specs.Events.{MayFollow}
-use Rattle.fabric_replay.proofs.Telling.{item_of, may_follow, Going-begin, Going-skip, Going-event, Going-failed, Going-end, whole_front, Evented-names, EventEnds-names, end_named, Going-ended, ended_front, ended_whole}
+use Rattle.fabric_replay.proofs.Telling.{item_of, may_follow, Going-begin, Going-skip, Going-event, Going-failed, Going-until, Going-end, whole_front, Evented-names, EventEnds-names, end_named, Going-ended, ended_front, ended_whole}
 use Rattle.fabric_replay.proofs.replaying.tell_trace.Goals as goal
 use Rattle.fabric_replay.proofs.replaying.tell_trace.Goals.{then-is_event+in_default+else-failed, else-is_event}
 
@@ -20,7 +20,7 @@ tell_end-requires g c =
     let script = c.args.script.now.lines.items in
     let h = c.loop-numbered.invariant in
     let line = c.numbered-item.result.line in
-    let ends = EventEnds-names line c.deref.result.now names _ _ _ _ (set_up_all bare script) h.lines c.in-Err.end c.deref.ensures.value (c.in-Err.ensures.ended (set_up_all bare script) h.lines h.stands) in
+    let ends = EventEnds-names line c.deref.result.now names _ _ _ _ (start script) h.lines c.in-Err.end c.deref.ensures.value (c.in-Err.ensures.ended (start script) h.lines h.stands) in
     end_named names _ script _ _ _ _ h.lines line c.loop-numbered.fabric c.in-Err.end c.requires.passes c.deref-in-Err.ensures.value h.stands ends
 
 pub returns-in-Err-clause-front : goal.returns-in-Err-clause-front
@@ -32,7 +32,7 @@ returns-in-Err-clause-front g c =
     let line = c.numbered-item.result.line in
     let is = item_of script _ c.loop-numbered.numbered-index c.numbered-item.result c.deref-numbered-items.ensures.value c.numbered-item.is c.loop-numbered-test.true in
     let block = sym c.is_event.ensures ∙ c.if-is_event.true in
-    let ends = EventEnds-names line c.deref.result.now names _ _ _ _ (set_up_all bare script) h.lines c.in-Err.end c.deref.ensures.value (c.in-Err.ensures.ended (set_up_all bare script) h.lines h.stands) in
+    let ends = EventEnds-names line c.deref.result.now names _ _ _ _ (start script) h.lines c.in-Err.end c.deref.ensures.value (c.in-Err.ensures.ended (start script) h.lines h.stands) in
     ended_front _ _ begun names script _ c.tell_end.result (Going-ended _ _ begun names script _ _ c.numbered-item.result _ _ _ _ c.in-Err.end c.tell_end.result c.deref-in-Err.ensures.value is block h ends c.tell_end.ensures)
 
 pub returns-in-Err-clause-undetected : goal.returns-in-Err-clause-undetected
@@ -44,7 +44,7 @@ returns-in-Err-clause-undetected g c =
     let line = c.numbered-item.result.line in
     let is = item_of script _ c.loop-numbered.numbered-index c.numbered-item.result c.deref-numbered-items.ensures.value c.numbered-item.is c.loop-numbered-test.true in
     let block = sym c.is_event.ensures ∙ c.if-is_event.true in
-    let ends = EventEnds-names line c.deref.result.now names _ _ _ _ (set_up_all bare script) h.lines c.in-Err.end c.deref.ensures.value (c.in-Err.ensures.ended (set_up_all bare script) h.lines h.stands) in
+    let ends = EventEnds-names line c.deref.result.now names _ _ _ _ (start script) h.lines c.in-Err.end c.deref.ensures.value (c.in-Err.ensures.ended (start script) h.lines h.stands) in
     ended_whole _ _ begun names script _ c.tell_end.result (Going-ended _ _ begun names script _ _ c.numbered-item.result _ _ _ _ c.in-Err.end c.tell_end.result c.deref-in-Err.ensures.value is block h ends c.tell_end.ensures)
 
 pub returns-then-failed-clause-front : goal.returns-then-failed-clause-front
@@ -54,8 +54,18 @@ returns-then-failed-clause-front g c =
     let h = c.loop-numbered.invariant in
     let is = item_of script _ c.loop-numbered.numbered-index c.numbered-item.result c.deref-numbered-items.ensures.value c.numbered-item.is c.loop-numbered-test.true in
     let block = sym c.is_event.ensures ∙ c.if-is_event.true in
-    let done = Evented-names c.numbered-item.result.line _ names c.deref.ensures.value (c.in_default.ensures.done (set_up_all bare script) h.lines h.stands) in
+    let done = Evented-names c.numbered-item.result.line _ names c.deref.ensures.value (c.in_default.ensures.done (start script) h.lines h.stands) in
     Going-failed _ _ c.args.outbox.now names script _ c.numbered-item.result _ _ _ _ _ is block h done
+
+pub returns-then-failed-clause-write_fault : goal.returns-then-failed-clause-write_fault
+returns-then-failed-clause-write_fault g c = λ fault.
+    let names = c.args.script.now.names.items in
+    let script = c.args.script.now.lines.items in
+    let h = c.loop-numbered.invariant in
+    let is = item_of script _ c.loop-numbered.numbered-index c.numbered-item.result c.deref-numbered-items.ensures.value c.numbered-item.is c.loop-numbered-test.true in
+    let block = sym c.is_event.ensures ∙ c.if-is_event.true in
+    let done = Evented-names c.numbered-item.result.line _ names c.deref.ensures.value (c.in_default.ensures.done (start script) h.lines h.stands) in
+    Going-until _ _ c.args.outbox.now names script _ c.numbered-item.result _ _ _ _ _ is block h (sym c.failed.ensures ∙ c.if-failed.true) done
 
 pub loop-numbered-init : goal.loop-numbered-init
 loop-numbered-init g c = Going-begin _ _ c.args.outbox.now c.args.script.now.names.items c.args.script.now.lines.items c.args.fabric.now c.requires.fine c.requires.stands
@@ -69,7 +79,7 @@ loop-numbered-preserved g c =
     let is = item_of script _ c.loop-numbered.numbered-index c.numbered-item.result c.deref-numbered-items.ensures.value c.numbered-item.is c.loop-numbered-test.true in
     elim c.if-is_event.branch [
       | then-is_event+in_default+else-failed w ↦
-          let done = Evented-names c.numbered-item.result.line _ names w.deref.ensures.value (w.in_default.ensures.done (set_up_all bare script) h.lines h.stands) in
+          let done = Evented-names c.numbered-item.result.line _ names w.deref.ensures.value (w.in_default.ensures.done (start script) h.lines h.stands) in
           rw (w.outbox-is, w.fabric-is) (Going-event _ _ begun names script _ c.numbered-item.result _ _ _ _ _ is (sym c.is_event.ensures ∙ w.if-is_event.true) h (sym w.failed.ensures ∙ w.if-failed.false) done)
       | else-is_event w ↦ rw (w.outbox-is, w.fabric-is) (Going-skip _ _ begun names script _ c.numbered-item.result _ _ is (sym c.is_event.ensures ∙ w.if-is_event.false) h)
     ]

@@ -38,7 +38,7 @@ returns-clause-undetected g c =
 
 pub returns-clause-write_fault : goal.returns-clause-write_fault
 returns-clause-write_fault g c = λ is.
-    let down = c.flush.ensures.written.stays (c.tell_trace-end.ensures.write_fault is) in
+    let down = c.flush.ensures.written.stays (c.tell_trace-end.ensures.write_fault is).failed in
     absurd (true≢false (sym down.0 ∙ (sym c.failed.ensures ∙ c.if-failed.false)))
 
 pub returns-clause-no_memory : goal.returns-clause-no_memory

@@ -1,5 +1,5 @@
-use Rattle.fabric_trace.proofs.Starting.{always_faithful}
+use Rattle.fabric_trace.proofs.Starting.{acted_exactly}
 use Rattle.fabric_trace.proofs.laws.acted_events_were_sent.Goals as goal
 
 pub returns : goal.returns
-returns c = always_faithful
+returns c = acted_exactly

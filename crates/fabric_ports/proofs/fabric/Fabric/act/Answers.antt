@@ -25,11 +25,11 @@ returns-in-Err-clause-ended g c =
     c.act_between.new.wires _ c.act_between.new.watch c.act_between.result
     (met c.link_of-place.ensures c.index_mut-cable.ensures.value c.deref_mut.ensures.value)
     c.act_between.ensures refl refl c.in-Err.end c.in-Err.is in
-    λ net lines stands.
-    ended_by _ _ _ _ _ c.act_between.new.watch.outbox.now _ net lines _ _ (search (rules, same))
+    λ from lines stands.
+    ended_by _ _ _ _ _ c.act_between.new.watch.outbox.now _ from lines _ _ (search (rules, same))
     c.ended.ensures
     (act_ended g.K.Sink.written g.K.Sink.faults c.args.self.now c.args.port c.link_of-place.result
     c.args.action c.index_mut-cable.result.now c.deref_mut.result.now c.act_between.new.ports
     c.act_between.new.wires _ c.act_between.new.watch c.act_between.result
     (met c.link_of-place.ensures c.index_mut-cable.ensures.value c.deref_mut.ensures.value)
-    c.act_between.ensures refl refl c.in-Err.end c.in-Err.is net lines stands)
+    c.act_between.ensures refl refl c.in-Err.end c.in-Err.is from lines stands)

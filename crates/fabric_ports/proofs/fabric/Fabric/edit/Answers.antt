@@ -18,6 +18,6 @@ returns-in-Ok-clause-done g c =
     (c.write_lack.ensures names))
 
 pub returns-in-Err-clause-ended : goal.returns-in-Err-clause-ended
-returns-in-Err-clause-ended g c = λ names line is net lines stands.
+returns-in-Err-clause-ended g c = λ names line is from lines stands.
     edit_cut g.K.Sink.written g.K.Sink.faults c.args.port c.args.edit.now c.args.outbox.now names
-    line net lines is
+    line from lines is

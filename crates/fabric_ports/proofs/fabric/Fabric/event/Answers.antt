@@ -3,6 +3,7 @@ use Rattle.rio_chars.specs.Written.{Writes}
 use Rattle.fabric_script.specs.declared.lines.Line.{Line}
 use Rattle.fabric_script.specs.declared.lines.Line.TheVariants.{Move, Collect, Run}
 use Rattle.fabric_trace.specs.Fold.{edited_by, seen}
+use Rattle.fabric_trace.specs.Known.{Seen}
 use Rattle.fabric_trace.specs.Lines.{TraceLine, Begun}
 use Rattle.fabric_trace.specs.Runs.{begins}
 use Rattle.fabric_trace.specs.Text.{trace_line_text}
@@ -11,38 +12,38 @@ use Rattle.fabric_ports.specs.Events.{Evented, EventEnds}
 use Rattle.fabric_ports.specs.Standing.{Stands}
 use Rattle.fabric_ports.proofs.RoundLaws.{run_done, run_ended}
 use Rattle.fabric_ports.specs.declared.answers.Happened.TheVariants.{Other}
-use Rattle.fabric_trace.proofs.Keeping.{good_by_priority, made_keeps}
+use Rattle.fabric_trace.proofs.Existing.{ready_on}
 use Rattle.fabric_trace.proofs.Starting.{good_start}
 use Rattle.fabric_ports.proofs.EventLaws.{end_of, base_is, IsTaken, is_send, is_read, is_write, sent_block, evented, linked_done, linked_ended, at_link_is, other_happened}
 use Rattle.fabric_ports.proofs.fabric.Fabric.event.Goals as goal
 
 pub returns-in-Move-clause-done : goal.returns-in-Move-clause-done
-returns-in-Move-clause-done g c = λ net lines stands.
-    let s = seen (begins net) lines in
+returns-in-Move-clause-done g c = λ from lines stands.
+    let s = seen from lines in
     let begun = subst
     (λ (l : Line). Writes g.K.Sink.written g.K.Sink.faults c.args.outbox.now
     c.write_begun.new.outbox (trace_line_text c.args.names.now (Begun l) ++ 10 ∷ []))
     c.in-Move.is c.write_begun.ensures in
-    let by = good_by_priority (made_keeps (good_start net stands.set_up) stands.made).good in
+    let by = (ready_on stands.ready stands.made).by_priority in
     subst (λ (l : Line). Evented l c.args.names.now g.K.Sink.written g.K.Sink.faults
-    c.args.outbox.now c.step_or_none.new.outbox net lines c.step_or_none.new.self Other)
+    c.args.outbox.now c.step_or_none.new.outbox from lines c.step_or_none.new.self Other)
     (sym c.in-Move.is)
-    (evented (Move c.in-Move.node) c.args.names.now _ _ _ _ _ net lines c.args.self.now
+    (evented (Move c.in-Move.node) c.args.names.now _ _ _ _ _ from lines c.args.self.now
     c.step_or_none.new.self Other _ refl stands begun
     (c.step_or_none.ensures s stands.shows stands.sent by) (λ block is. (is, refl)))
 
 pub returns-in-Collect-clause-done : goal.returns-in-Collect-clause-done
-returns-in-Collect-clause-done g c = λ net lines stands.
-    let s = seen (begins net) lines in
+returns-in-Collect-clause-done g c = λ from lines stands.
+    let s = seen from lines in
     let begun = subst
     (λ (l : Line). Writes g.K.Sink.written g.K.Sink.faults c.args.outbox.now
     c.write_begun.new.outbox (trace_line_text c.args.names.now (Begun l) ++ 10 ∷ []))
     c.in-Collect.is c.write_begun.ensures in
-    let by = good_by_priority (made_keeps (good_start net stands.set_up) stands.made).good in
+    let by = (ready_on stands.ready stands.made).by_priority in
     subst (λ (l : Line). Evented l c.args.names.now g.K.Sink.written g.K.Sink.faults
-    c.args.outbox.now c.collect.new.outbox net lines c.collect.new.self c.collect.result)
+    c.args.outbox.now c.collect.new.outbox from lines c.collect.new.self c.collect.result)
     (sym c.in-Collect.is)
-    (evented (Collect c.in-Collect.node) c.args.names.now _ _ _ _ _ net lines c.args.self.now
+    (evented (Collect c.in-Collect.node) c.args.names.now _ _ _ _ _ from lines c.args.self.now
     c.collect.new.self c.collect.result _ refl stands begun
     (c.collect.ensures s stands.shows stands.sent by) (λ block is. is))
 
@@ -74,24 +75,24 @@ returns-in-Run g c =
     c.write_begun.new.outbox c.run.new.outbox n c.args.self.now c.run.new.self c.run.result
     c.run.ensures.ended in
     record {
-      done = subst (λ (l : Line). IfOk c.other.result (λ answer. (net : Network)
-          (lines : List TraceLine) → Stands net lines c.args.self.now → Evented l c.args.names.now
-          g.K.Sink.written g.K.Sink.faults c.args.outbox.now c.run.new.outbox net lines
+      done = subst (λ (l : Line). IfOk c.other.result (λ answer. (from : Seen)
+          (lines : List TraceLine) → Stands from lines c.args.self.now → Evented l c.args.names.now
+          g.K.Sink.written g.K.Sink.faults c.args.outbox.now c.run.new.outbox from lines
           c.run.new.self answer)) (sym c.in-Run.is)
           (linked_done (Run n) c.args.names.now _ _ _ _ _ c.args.self.now c.run.new.self
           c.run.result c.other.result (λ block. refl) begun done c.other.ensures);
-      ended = subst (λ (l : Line). IfErr c.other.result (λ end. (net : Network)
-          (lines : List TraceLine) → Stands net lines c.args.self.now → EventEnds l
-          c.args.names.now g.K.Sink.written g.K.Sink.faults c.args.outbox.now c.run.new.outbox net
+      ended = subst (λ (l : Line). IfErr c.other.result (λ end. (from : Seen)
+          (lines : List TraceLine) → Stands from lines c.args.self.now → EventEnds l
+          c.args.names.now g.K.Sink.written g.K.Sink.faults c.args.outbox.now c.run.new.outbox from
           lines end)) (sym c.in-Run.is)
           (linked_ended (Run n) c.args.names.now _ _ _ _ _ c.args.self.now c.run.result
           c.other.result begun ended c.other.ensures);
     }
 
 pub returns-in-Send-clause-done : goal.returns-in-Send-clause-done
-returns-in-Send-clause-done g c = λ net lines stands.
+returns-in-Send-clause-done g c = λ from lines stands.
     let may = c.requires.may in
-    let s = seen (begins net) lines in
+    let s = seen from lines in
     let takes_it : IsTaken c.args.line.now c.in-Send.node = elim c.in-Send.is [
       | inl sends ↦ subst (λ (l : Line). IsTaken l c.in-Send.node) (sym sends.4)
           (is_send c.in-Send.node sends.0 sends.1 sends.2 sends.3)
@@ -102,13 +103,13 @@ returns-in-Send-clause-done g c = λ net lines stands.
             (is_write c.in-Send.node writes.0 writes.1 writes.2 writes.3 writes.4 writes.5)
       ]
     ] in
-    let end = end_of c.args.self.now (seen (begins may.net) may.lines) c.in-Send.node
+    let end = end_of c.args.self.now (seen may.from may.lines) c.in-Send.node
     may.stands.shows
-    (takes_it.there (seen (begins may.net) may.lines).network may.happens.there) in
-    let base = c.base_id.ensures
+    (takes_it.there (seen may.from may.lines).network may.happens.there) in
+    let base = c.base_id.ensures.value
     ∙ base_is c.args.self.now s c.in-Send.node c.from.result c.index.result.now stands.shows
     end.device c.from.ensures c.index.ensures in
-    evented c.args.line.now c.args.names.now _ _ _ _ _ net lines c.args.self.now c.send.new.self
+    evented c.args.line.now c.args.names.now _ _ _ _ _ from lines c.args.self.now c.send.new.self
     c.send.result _ (ap (edited_by s) takes_it.edits) stands c.write_begun.ensures
     (c.send.ensures s stands.shows stands.sent)
     (sent_block s c.args.line.now c.in-Send.node _ c.packet_of-packet.result c.send.result takes_it

@@ -1,6 +1,7 @@
 use Rattle.std.proofs.Common.{◌≡◌, ◌≤◌, ◌++◌, List, length, arith}
 use Rattle.fabric_model.specs.Network.{Network}
 use Rattle.fabric_trace.specs.Blocks.{IsSettle}
+use Rattle.fabric_trace.specs.Known.{Seen}
 use Rattle.fabric_trace.specs.Lines.{TraceLine}
 use Rattle.fabric_trace.specs.Rounds.{Rounds}
 use Rattle.fabric_ports.specs.Ran.{RanEnds}
@@ -11,8 +12,8 @@ use Rattle.fabric_ports.proofs.SettlingLaws.{devices_stay}
 use Rattle.fabric_ports.proofs.fabric.Fabric.run.Goals as goal
 
 pub loop-init : goal.loop-init
-loop-init g c = λ net lines stands.
-    ran_nothing g.K.Sink.written g.K.Sink.faults c.args.names.now c.args.outbox.now net lines
+loop-init g c = λ from lines stands.
+    ran_nothing g.K.Sink.written g.K.Sink.faults c.args.names.now c.args.outbox.now from lines
     c.args.self.now stands
 
 pub settle_all-requires-clause-stands : goal.settle_all-requires-clause-stands
@@ -31,15 +32,15 @@ settle_all-requires-clause-named g c =
 pub returns-in_err-settle_all-clause-ended : goal.returns-in_err-settle_all-clause-ended
 returns-in_err-settle_all-clause-ended g c =
     handed_on c.from_residual.result c.in_err-settle_all.field-0.0
-    (λ end. (net : Network) (lines : List TraceLine) → Stands net lines c.args.self.now
+    (λ end. (from : Seen) (lines : List TraceLine) → Stands from lines c.args.self.now
     → RanEnds (Rounds IsSettle c.args.rounds) c.args.names.now g.K.Sink.written g.K.Sink.faults
-    c.args.outbox.now c.settle_all.new.outbox net lines end)
+    c.args.outbox.now c.settle_all.new.outbox from lines end)
     c.from_residual.ensures.1
-    (λ net lines stands.
+    (λ from lines stands.
     ran_short g.K.Sink.written g.K.Sink.faults c.args.names.now c.args.outbox.now c.loop.outbox
-    c.settle_all.new.outbox net lines c.args.self.now c.loop.self c.loop.counter c.args.rounds
-    c.in_err-settle_all.field-0.0 c.loop-test.true stands (c.loop.invariant net lines stands)
-    (c.in_err-settle_all.ensures.ended net))
+    c.settle_all.new.outbox from lines c.args.self.now c.loop.self c.loop.counter c.args.rounds
+    c.in_err-settle_all.field-0.0 c.loop-test.true stands (c.loop.invariant from lines stands)
+    (c.in_err-settle_all.ensures.ended from))
 
 pub serve_all-requires-clause-stands : goal.serve_all-requires-clause-stands
 serve_all-requires-clause-stands g c =
@@ -58,15 +59,15 @@ serve_all-requires-clause-named g c =
     omega (arith, same, named)
 
 pub loop-preserved : goal.loop-preserved
-loop-preserved g c = λ net lines stands.
+loop-preserved g c = λ from lines stands.
     ran_more g.K.Sink.written g.K.Sink.faults c.args.names.now c.args.outbox.now c.loop.outbox
-    c.settle_all.new.outbox c.serve_all.new.outbox net lines c.args.self.now c.loop.self
+    c.settle_all.new.outbox c.serve_all.new.outbox from lines c.args.self.now c.loop.self
     c.settle_all.new.self c.serve_all.new.self c.loop.counter stands
-    (c.loop.invariant net lines stands) (c.in_ok-settle_all.ensures.done net)
-    (c.serve_all.ensures net)
+    (c.loop.invariant from lines stands) (c.in_ok-settle_all.ensures.done from)
+    (c.serve_all.ensures from)
 
 pub returns-clause-done : goal.returns-clause-done
-returns-clause-done g c = λ net lines stands.
-    ran_all g.K.Sink.written g.K.Sink.faults c.args.names.now c.args.outbox.now c.loop.outbox net
+returns-clause-done g c = λ from lines stands.
+    ran_all g.K.Sink.written g.K.Sink.faults c.args.names.now c.args.outbox.now c.loop.outbox from
     lines c.loop.self c.loop.counter c.args.rounds (omega arith)
-    (c.loop.invariant net lines stands)
+    (c.loop.invariant from lines stands)

@@ -1,6 +1,7 @@
 use Rattle.std.proofs.Common.{List}
 use Rattle.fabric_model.specs.Network.{Network}
 use Rattle.fabric_trace.specs.Blocks.{IsSettle}
+use Rattle.fabric_trace.specs.Known.{Seen}
 use Rattle.fabric_trace.specs.Lines.{TraceLine}
 use Rattle.fabric_trace.specs.Rounds.{Rounds}
 use Rattle.fabric_ports.specs.Ran.{Ran}
@@ -8,6 +9,6 @@ use Rattle.fabric_ports.specs.Standing.{Stands}
 use Rattle.fabric_ports.proofs.fabric.Fabric.run.Given as goal
 
 abbrev pub invariant-loop : goal.invariant-loop
-invariant-loop g l = (net : Network) (lines : List TraceLine) → Stands net lines l.fn.self
+invariant-loop g l = (from : Seen) (lines : List TraceLine) → Stands from lines l.fn.self
     → Ran (Rounds IsSettle l.counter) l.names g.K.Sink.written g.K.Sink.faults l.fn.outbox
-    l.outbox net lines l.self
+    l.outbox from lines l.self

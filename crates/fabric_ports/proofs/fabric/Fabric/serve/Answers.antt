@@ -1,5 +1,6 @@
 use Rattle.std.proofs.Common.{◌++◌, subst}
 use Rattle.fabric_trace.specs.Fold.{seen}
+use Rattle.fabric_trace.specs.Known.{Seen}
 use Rattle.fabric_trace.specs.Runs.{begins}
 use Rattle.fabric_trace.proofs.Keeping.{good_by_priority}
 use Rattle.fabric_ports.specs.Events.{IsStep}
@@ -8,8 +9,8 @@ use Rattle.fabric_ports.proofs.ServeLaws.{held_fewer, serves_begin, serves_more,
 use Rattle.fabric_ports.proofs.fabric.Fabric.serve.Goals as goal
 
 pub loop-init : goal.loop-init
-loop-init g c = λ net lines stands.
-    serves_begin g.K.Sink.written g.K.Sink.faults c.args.names.now c.args.outbox.now net lines
+loop-init g c = λ from lines stands.
+    serves_begin g.K.Sink.written g.K.Sink.faults c.args.names.now c.args.outbox.now from lines
     c.args.self.now c.args.node stands
 
 pub step-requires-clause-switch : goal.step-requires-clause-switch
@@ -22,29 +23,29 @@ pub loop-smaller : goal.loop-smaller
 loop-smaller g c =
     let known = c.requires.stands in
     let ran = c.loop.invariant known.0 known.1 known.2 in
-    let s = seen (begins known.0) (known.1 ++ ran.block) in
-    let good = good_behind ran.stands.set_up ran.stands.made in
+    let s = seen known.0 (known.1 ++ ran.block) in
+    let good = good_behind ran.stands.ready ran.stands.made in
     let did = c.step.ensures s ran.stands.shows ran.stands.sent (good_by_priority good) in
     let own = subst (λ r. IsStep s.network c.args.node r did.block) c.loop-test.true did.is in
     held_fewer s c.loop.self c.step.new.self c.args.node did.block good ran.stands.shows did.shows
     own.0 own.1
 
 pub loop-preserved : goal.loop-preserved
-loop-preserved g c = λ net lines stands.
-    let ran = c.loop.invariant net lines stands in
-    let good = good_behind ran.stands.set_up ran.stands.made in
+loop-preserved g c = λ from lines stands.
+    let ran = c.loop.invariant from lines stands in
+    let good = good_behind ran.stands.ready ran.stands.made in
     serves_more g.K.Sink.written g.K.Sink.faults c.args.names.now c.args.outbox.now c.loop.outbox
-    c.step.new.outbox net lines c.loop.self c.step.new.self c.args.node c.step.result
+    c.step.new.outbox from lines c.loop.self c.step.new.self c.args.node c.step.result
     c.loop-test.true ran
-    (c.step.ensures (seen (begins net) (lines ++ ran.block)) ran.stands.shows ran.stands.sent
+    (c.step.ensures (seen from (lines ++ ran.block)) ran.stands.shows ran.stands.sent
     (good_by_priority good))
 
 pub returns : goal.returns
-returns g c = λ net lines stands.
-    let ran = c.loop.invariant net lines stands in
-    let good = good_behind ran.stands.set_up ran.stands.made in
+returns g c = λ from lines stands.
+    let ran = c.loop.invariant from lines stands in
+    let good = good_behind ran.stands.ready ran.stands.made in
     serves_end g.K.Sink.written g.K.Sink.faults c.args.names.now c.args.outbox.now c.loop.outbox
-    c.step.new.outbox net lines c.loop.self c.step.new.self c.args.node c.step.result
+    c.step.new.outbox from lines c.loop.self c.step.new.self c.args.node c.step.result
     c.loop-test.false ran
-    (c.step.ensures (seen (begins net) (lines ++ ran.block)) ran.stands.shows ran.stands.sent
+    (c.step.ensures (seen from (lines ++ ran.block)) ran.stands.shows ran.stands.sent
     (good_by_priority good))

@@ -1,5 +1,6 @@
 use Rattle.std.proofs.Common.{List}
 use Rattle.fabric_model.specs.Network.{Network}
+use Rattle.fabric_trace.specs.Known.{Seen}
 use Rattle.fabric_trace.specs.Lines.{TraceLine}
 use Rattle.fabric_ports.specs.Ran.{Ran}
 use Rattle.fabric_ports.specs.Standing.{Stands}
@@ -7,8 +8,8 @@ use Rattle.fabric_ports.proofs.ServeLaws.{ServesFirst, held_by}
 use Rattle.fabric_ports.proofs.fabric.Fabric.serve.Given as goal
 
 abbrev pub invariant-loop : goal.invariant-loop
-invariant-loop g l = (net : Network) (lines : List TraceLine) → Stands net lines l.fn.self
-    → Ran (ServesFirst l.node) l.names g.K.Sink.written g.K.Sink.faults l.fn.outbox l.outbox net
+invariant-loop g l = (from : Seen) (lines : List TraceLine) → Stands from lines l.fn.self
+    → Ran (ServesFirst l.node) l.names g.K.Sink.written g.K.Sink.faults l.fn.outbox l.outbox from
     lines l.self
 
 abbrev pub decreases-loop : goal.decreases-loop

@@ -40,8 +40,8 @@ serve-requires-clause-switch g c =
     }
 
 pub loop-node-preserved : goal.loop-node-preserved
-loop-node-preserved g c = λ net lines stands.
-    let ran = c.loop-node.invariant net lines stands in
+loop-node-preserved g c = λ from lines stands.
+    let ran = c.loop-node.invariant from lines stands in
     let same = devices_stay stands ran.stands in
     let end = c.len-node-end.ensures in
     let test = c.loop-node-test.true in
@@ -54,41 +54,41 @@ loop-node-preserved g c = λ net lines stands.
           subst (λ (f : Fabric). Ran
           (ServeNodes 0 (take (c.loop-node.node + 1) c.args.self.now.devices.items))
           c.args.names.now g.K.Sink.written g.K.Sink.faults c.args.outbox.now
-          c.if-is_switch.outbox net lines f) (sym w.self-is)
+          c.if-is_switch.outbox from lines f) (sym w.self-is)
           (subst (λ o. Ran
           (ServeNodes 0 (take (c.loop-node.node + 1) c.args.self.now.devices.items))
-          c.args.names.now g.K.Sink.written g.K.Sink.faults c.args.outbox.now o net lines
+          c.args.names.now g.K.Sink.written g.K.Sink.faults c.args.outbox.now o from lines
           w.serve.new.self) (sym w.outbox-is)
           (served_more g.K.Sink.written g.K.Sink.faults c.args.names.now c.args.outbox.now
-          c.loop-node.outbox w.serve.new.outbox net lines c.args.self.now c.loop-node.self
+          c.loop-node.outbox w.serve.new.outbox from lines c.args.self.now c.loop-node.self
           w.serve.new.self c.loop-node.node c.args.self.now.devices.items stands
           (next_node c.loop-node.node c.index.result.now true stands ran.stands c.index.ensures
           within (sym c.is_switch.ensures ∙ w.if-is_switch.true)) ran
-          (w.serve.ensures net (lines ++ ran.block) ran.stands)))
+          (w.serve.ensures from (lines ++ ran.block) ran.stands)))
       | else-is_switch w ↦
           subst (λ (f : Fabric). Ran
           (ServeNodes 0 (take (c.loop-node.node + 1) c.args.self.now.devices.items))
           c.args.names.now g.K.Sink.written g.K.Sink.faults c.args.outbox.now
-          c.if-is_switch.outbox net lines f) (sym w.self-is)
+          c.if-is_switch.outbox from lines f) (sym w.self-is)
           (subst (λ o. Ran
           (ServeNodes 0 (take (c.loop-node.node + 1) c.args.self.now.devices.items))
-          c.args.names.now g.K.Sink.written g.K.Sink.faults c.args.outbox.now o net lines
+          c.args.names.now g.K.Sink.written g.K.Sink.faults c.args.outbox.now o from lines
           c.loop-node.self) (sym w.outbox-is)
           (served_none g.K.Sink.written g.K.Sink.faults c.args.names.now c.args.outbox.now
-          c.loop-node.outbox net lines c.args.self.now c.loop-node.self c.loop-node.node
+          c.loop-node.outbox from lines c.args.self.now c.loop-node.self c.loop-node.node
           c.args.self.now.devices.items stands
           (next_node c.loop-node.node c.index.result.now false stands ran.stands c.index.ensures
           within (sym c.is_switch.ensures ∙ w.if-is_switch.false)) ran))
     ]
 
 pub returns : goal.returns
-returns g c = λ net lines stands.
+returns g c = λ from lines stands.
     let end = c.len-node-end.ensures in
     let test = c.loop-node-test.false in
     let counted : vec_len c.args.self.now.devices ≡ length c.args.self.now.devices.items =
     search rules in
     served_all g.K.Sink.written g.K.Sink.faults c.args.names.now c.args.outbox.now
-    c.loop-node.outbox net lines c.args.self.now c.loop-node.self
+    c.loop-node.outbox from lines c.args.self.now c.loop-node.self
     (take c.loop-node.node c.args.self.now.devices.items) stands
     (take_all c.loop-node.node c.args.self.now.devices.items (omega (arith, end, test, counted)))
-    (c.loop-node.invariant net lines stands)
+    (c.loop-node.invariant from lines stands)

@@ -1,6 +1,7 @@
 use Rattle.std.proofs.Common.{◌≡◌, ◌<◌, ◌≤◌, ◌++◌, List, length, take, rules, arith, vec_len, sym, ap, ◌∙◌}
 use Rattle.std.proofs.lemmas.List.{take_all, length-map}
 use Rattle.fabric_model.specs.Network.{Network}
+use Rattle.fabric_trace.specs.Known.{Seen}
 use Rattle.fabric_trace.specs.Lines.{TraceLine}
 use Rattle.fabric_ports.specs.Ran.{RanEnds, LinksSettle}
 use Rattle.fabric_ports.specs.Showing.{ends_of}
@@ -45,49 +46,49 @@ act-requires-clause-named g c =
 pub returns-in_err-act-clause-ended : goal.returns-in_err-act-clause-ended
 returns-in_err-act-clause-ended g c =
     handed_on c.from_residual.result c.in_err-act.field-0.0
-    (λ end. (net : Network) (lines : List TraceLine) → Stands net lines c.args.self.now
+    (λ end. (from : Seen) (lines : List TraceLine) → Stands from lines c.args.self.now
     → RanEnds LinksSettle c.args.names.now g.K.Sink.written g.K.Sink.faults c.args.outbox.now
-    c.act.new.outbox net lines end)
+    c.act.new.outbox from lines end)
     c.from_residual.ensures.1
-    (λ net lines stands.
-    (let ran = c.loop-place.invariant net lines stands in
+    (λ from lines stands.
+    (let ran = c.loop-place.invariant from lines stands in
     let same = cables_stay stands ran.stands in
     let end = c.len-place-end.ensures in
     let test = c.loop-place-test.true in
     let counted : vec_len c.args.self.now.cables ≡ length c.args.self.now.cables.items =
     search rules in
     settled_short g.K.Sink.written g.K.Sink.faults c.args.names.now c.args.outbox.now
-    c.loop-place.outbox c.act.new.outbox net lines c.args.self.now c.loop-place.self
+    c.loop-place.outbox c.act.new.outbox from lines c.args.self.now c.loop-place.self
     c.loop-place.place (ends_of c.index.result.now) c.in_err-act.field-0.0 stands
     (next_link c.loop-place.place c.index.result.now ran.stands c.index.ensures
     (omega (arith, same, end, test, counted))) ran
-    (c.in_err-act.ensures.ended net (lines ++ ran.block) ran.stands)))
+    (c.in_err-act.ensures.ended from (lines ++ ran.block) ran.stands)))
 
 pub loop-place-preserved : goal.loop-place-preserved
-loop-place-preserved g c = λ net lines stands.
-    let ran = c.loop-place.invariant net lines stands in
+loop-place-preserved g c = λ from lines stands.
+    let ran = c.loop-place.invariant from lines stands in
     let same = cables_stay stands ran.stands in
     let end = c.len-place-end.ensures in
     let test = c.loop-place-test.true in
     let counted : vec_len c.args.self.now.cables ≡ length c.args.self.now.cables.items =
     search rules in
     settled_more g.K.Sink.written g.K.Sink.faults c.args.names.now c.args.outbox.now
-    c.loop-place.outbox c.act.new.outbox net lines c.args.self.now c.loop-place.self c.act.new.self
+    c.loop-place.outbox c.act.new.outbox from lines c.args.self.now c.loop-place.self c.act.new.self
     c.loop-place.place (ends_of c.index.result.now) stands
     (next_link c.loop-place.place c.index.result.now ran.stands c.index.ensures
     (omega (arith, same, end, test, counted))) ran
-    (c.in_ok-act.ensures.done net (lines ++ ran.block) ran.stands)
+    (c.in_ok-act.ensures.done from (lines ++ ran.block) ran.stands)
 
 pub returns-clause-done : goal.returns-clause-done
-returns-clause-done g c = λ net lines stands.
+returns-clause-done g c = λ from lines stands.
     let end = c.len-place-end.ensures in
     let test = c.loop-place-test.false in
     let counted : vec_len c.args.self.now.cables ≡ length c.args.self.now.cables.items =
     search rules in
-    let many : length net.links ≡ length c.args.self.now.cables.items =
+    let many : length from.network.links ≡ length c.args.self.now.cables.items =
     sym (ap (λ l. length l) (links_stand stands))
     ∙ length-map c.args.self.now.cables.items ends_of in
     settled_all g.K.Sink.written g.K.Sink.faults c.args.names.now c.args.outbox.now
-    c.loop-place.outbox net lines c.loop-place.self (take c.loop-place.place net.links)
-    (take_all c.loop-place.place net.links (omega (arith, end, test, counted, many)))
-    (c.loop-place.invariant net lines stands)
+    c.loop-place.outbox from lines c.loop-place.self (take c.loop-place.place from.network.links)
+    (take_all c.loop-place.place from.network.links (omega (arith, end, test, counted, many)))
+    (c.loop-place.invariant from lines stands)

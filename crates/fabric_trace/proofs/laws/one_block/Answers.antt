@@ -1,0 +1,6 @@
+use Rattle.fabric_trace.proofs.Tracing.{block_exists}
+use Rattle.fabric_trace.proofs.Unique.{block_one}
+use Rattle.fabric_trace.proofs.laws.one_block.Goals as goal
+
+pub returns : goal.returns
+returns c = record { one = block_one; some = block_exists }
