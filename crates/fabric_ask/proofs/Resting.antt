@@ -1,0 +1,192 @@
+-- After a response all links are at rest.
+use Rattle.std.proofs.Common.{◌≡◌, ℕ, List, [], ◌∷◌, ◌++◌, Option, Some, None, refl, sym, ap, ◌∙◌, subst, append_assoc, inl, inr, ◌⊎◌, Bool, true, false, if◌then◌else◌}
+use Rattle.maint_packets.specs.declared.request.Request.{Request}
+use Rattle.switch_core.specs.declared.endpoint.Collected.{Collected}
+use Rattle.switch_core.specs.declared.endpoint.Collected.TheVariants as Collects
+use Rattle.link_wires.specs.declared.edits.Edit.{Edit}
+use Rattle.fabric_script.specs.declared.ports.PortRef.{PortRef}
+use Rattle.fabric_model.specs.Network.{IsEndpoint, port_of, room_out}
+use Rattle.fabric_model.specs.Steps.{Leave, AtNode, Take}
+use Rattle.fabric_trace.specs.Blocks.{Asks}
+use Rattle.fabric_trace.specs.Fold.{seen, seen_line}
+use Rattle.fabric_trace.specs.Known.{Seen, Found}
+use Rattle.fabric_trace.specs.Lines.{TraceLine, Stepped, steps_of, Full, Lacked}
+use Rattle.fabric_trace.specs.Parts.{Made, Steps, Lacks}
+use Rattle.fabric_trace.specs.Served.{collect_lines}
+use Rattle.fabric_trace.proofs.Folding.{seen-append}
+use Rattle.fabric_trace.proofs.Keeping.{IsGood, made_keeps, legal_links, few_prio}
+use Rattle.rio_packets.specs.Fields.{prio_of}
+use Rattle.rio_packets.specs.LinkForm.{Passes}
+use Rattle.rio_packets.proofs.FormLaws.{Passes-from_form}
+use Rattle.maint_packets.specs.Requests.{request_body}
+use Rattle.fabric_trace.specs.Rounds.{Follows, NamesNothing}
+use Rattle.fabric_trace.proofs.Making.{one_part, made-append, made_by}
+use Rattle.fabric_ask.specs.Answered.{IsReplied}
+use Rattle.fabric_ask.specs.Asks.{AskRounds, most_rounds, IsAsk}
+use Rattle.fabric_ask.specs.Own.{CollectsNothing, NeverAnswers}
+use Rattle.fabric_ask.specs.Quiet.{AreQuiet}
+use Rattle.fabric_ask.proofs.Crossing.{Split, split}
+use Rattle.fabric_ask.proofs.Quieting.{OnlySteps, steps_same, all_same}
+use Rattle.fabric_ask.proofs.Uncollected.{CollectsLast, IsApart, made_endpoint, never-append, nothing_leaves, rounds_apart, nothing_answers, answers-append}
+
+collect_steps : (node : ℕ) (made : Collected) → OnlySteps (collect_lines node made)
+unfolding OnlySteps
+collect_steps node (Collects.Left packet) = tt
+collect_steps node (Collects.Answered request response) = tt
+collect_steps node Collects.Empty = tt
+collect_steps node Collects.Full = tt
+
+-- The request is taken, or has no room: the host collects nothing in it.
+pub record IsTaken (host : ℕ) (s : Seen) (first : List TraceLine) : Type 0 where
+  pub made : Made s first
+  pub nothing : CollectsNothing host first
+  pub good : IsGood (seen s first)
+  pub endpoint : IsEndpoint (seen s first).network host
+  pub sent : s.unfaithful ≡ None → (seen s first).unfaithful ≡ None
+  pub links : (seen s first).network.links ≡ s.network.links
+
+pub asks_apart : (s : Seen) (host : ℕ) (request : Request) (first : List TraceLine) → IsGood s
+    → IsEndpoint s.network host → Asks s host request first → IsTaken host s first
+asks_apart s host request first good endpoint own =
+    by_room (room_out s.network (port_of host) (prio_of own.packet)) refl own.lines
+  where
+    passes : Passes own.packet
+    passes = Passes-from_form (request_body request) own.packet own.form
+
+    whole : (line : TraceLine) → first ≡ line ∷ [] → Made s first → CollectsNothing host (line ∷ [])
+        → (seen_line s line).unfaithful ≡ s.unfaithful → IsTaken host s first
+    whole line is made nothing same = record {
+      made = made;
+      nothing = subst (CollectsNothing host) (sym is) nothing;
+      good = (made_keeps good made).good;
+      endpoint = made_endpoint host s first good made endpoint;
+      sent = λ none. ap (λ (l : List TraceLine). (seen s l).unfaithful) is ∙ same ∙ none;
+      links = legal_links s.network (steps_of first) (seen s first).network
+          (made_keeps good made).legal;
+    }
+
+    by_room : (room : Bool) → room_out s.network (port_of host) (prio_of own.packet) ≡ room
+        → first ≡ (if room_out s.network (port_of host) (prio_of own.packet)
+        then Stepped (AtNode (Take host own.packet)) ∷ [] else Lacked Full ∷ [])
+        → IsTaken host s first
+    by_room true room lines =
+        let is : first ≡ Stepped (AtNode (Take host own.packet)) ∷ [] = lines
+        ∙ ap (λ r. if r then Stepped (AtNode (Take host own.packet)) ∷ [] else Lacked Full ∷ [])
+        room in
+        whole (Stepped (AtNode (Take host own.packet))) is
+        (made_by is (one_part (Steps (Take host own.packet) (endpoint, passes, room)
+        (few_prio own.packet passes) refl))) (tt, tt) refl
+    by_room false room lines =
+        let is : first ≡ Lacked Full ∷ [] = lines
+        ∙ ap (λ r. if r then Stepped (AtNode (Take host own.packet)) ∷ [] else Lacked Full ∷ [])
+        room in
+        whole (Lacked Full) is (made_by is (one_part (Lacks Full refl))) (tt, tt) refl
+
+-- Where a packet leaves at the host in the end, all links are at rest then.
+module _ (host : ℕ) (request : Request) (noise : List Edit) (s : Seen) (lines : List TraceLine)
+    (good : IsGood s) (endpoint : IsEndpoint s.network host)
+    (ask : IsAsk host request noise s lines)
+    (still : (seen s lines).unfaithful ≡ None) where
+  parts : Split (Asks s host request) (AskRounds host most_rounds noise) s lines
+  parts = split (Asks s host request) (AskRounds host most_rounds noise) s lines ask still
+
+  abbrev t : Seen
+  t = seen s parts.first
+
+  taken : IsTaken host s parts.first
+  taken = asks_apart s host request parts.first good endpoint parts.own
+
+  pub rests_then : (front : List TraceLine) (packet : List ℕ)
+      → lines ≡ front ++ Stepped (AtNode (Leave host packet)) ∷ []
+      → AreQuiet s.network.links (seen s lines)
+  rests_then front packet whole =
+      by_end (rounds_apart host most_rounds noise t parts.rest taken.good parts.still
+      taken.endpoint parts.more)
+    where
+      by_end : (IsApart host t parts.rest) ⊎ CollectsLast host t parts.rest
+          → AreQuiet s.network.links (seen s lines)
+      by_end (inl apart) =
+          absurd (nothing_leaves host front packet (subst (CollectsNothing host)
+          (sym parts.whole ∙ whole) (never-append host parts.first parts.rest
+          taken.nothing apart.nothing)))
+      by_end (inr last) =
+          let u = seen t last.front in
+          let only : OnlySteps last.last =
+          subst OnlySteps (sym last.collect.lines) (collect_steps host _) in
+          let end : seen s lines ≡ seen u last.last =
+          parts.after ∙ ap (seen t) last.whole ∙ seen-append t last.front last.last in
+          subst (AreQuiet s.network.links) (sym end)
+          (all_same s.network.links u (seen u last.last) (λ c. steps_same u last.last c only)
+          (subst (λ l. AreQuiet l u) taken.links last.quiet))
+
+-- ---- the registers of the host
+
+collect_still : (s : Seen) (node : ℕ) (made : Collected)
+    → (seen s (collect_lines node made)).unfaithful ≡ s.unfaithful
+collect_still s node (Collects.Left packet) = refl
+collect_still s node (Collects.Answered request response) = refl
+collect_still s node Collects.Empty = refl
+collect_still s node Collects.Full = refl
+
+-- lines in which the registers of a host answer nothing, made of parts
+pub record AnswersNothing (host : ℕ) (s : Seen) (lines : List TraceLine) : Type 0 where
+  pub never : NeverAnswers host lines
+  pub made : Made s lines
+
+-- In an ask they answer nothing if it is replied to where every event that was acted on was sent.
+pub ask_answers_nothing : (host : ℕ) (request : Request) (noise : List Edit) (at : PortRef)
+    (s : Seen) (lines : List TraceLine) → IsGood s → s.unfaithful ≡ None
+    → IsEndpoint s.network host → IsAsk host request noise s lines
+    → ((seen s lines).unfaithful ≡ None → IsReplied host s lines at request)
+    → AnswersNothing host s lines
+ask_answers_nothing host request noise at s lines good none endpoint ask replied =
+    by_found (seen s lines).unfaithful refl
+  where
+    first : List TraceLine
+    first = ask.0
+
+    rest : List TraceLine
+    rest = ask.1
+
+    taken : IsTaken host s first
+    taken = asks_apart s host request first good endpoint ask.3
+
+    still : (seen s first).unfaithful ≡ None
+    still = taken.sent none
+
+    more : AskRounds host most_rounds noise (seen s first) rest
+    more = subst (λ (f : Option Found). Follows f (AskRounds host most_rounds noise (seen s first))
+        NamesNothing rest) still ask.4
+
+    after : seen s lines ≡ seen (seen s first) rest
+    after = ap (seen s) ask.2 ∙ seen-append s first rest
+
+    by_end : (Some_found : (seen (seen s first) rest).unfaithful ≡ None → ⊥)
+        → (IsApart host (seen s first) rest) ⊎ CollectsLast host (seen s first) rest
+        → AnswersNothing host s lines
+    by_end found (inl apart) = record {
+      never = nothing_answers host lines (subst (CollectsNothing host) (sym ask.2)
+          (never-append host first rest taken.nothing apart.nothing));
+      made = made_by ask.2 (made-append taken.made apart.made);
+    }
+    by_end found (inr last) =
+        absurd (found (ap (λ (l : List TraceLine). (seen (seen s first) l).unfaithful) last.whole
+        ∙ ap (λ (x : Seen). x.unfaithful) (seen-append (seen s first) last.front last.last)
+        ∙ ap (λ (l : List TraceLine). (seen (seen (seen s first) last.front) l).unfaithful)
+        last.collect.lines
+        ∙ collect_still (seen (seen s first) last.front) host _ ∙ last.still))
+
+    by_found : (o : Option Found) → (seen s lines).unfaithful ≡ o → AnswersNothing host s lines
+    by_found None is =
+        let own = replied is in
+        record {
+          never = subst (NeverAnswers host) (sym own.whole)
+              (answers-append host own.front _ (nothing_answers host own.front own.nothing)
+              (tt, tt));
+          made = own.made;
+        }
+    by_found (Some found) is =
+        by_end (λ same. let bad : None ≡ Some found = sym same
+        ∙ sym (ap (λ (x : Seen). x.unfaithful) after) ∙ is in absurd cc)
+        (rounds_apart host most_rounds noise (seen s first) rest taken.good still taken.endpoint
+        more)

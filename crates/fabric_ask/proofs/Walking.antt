@@ -1,0 +1,173 @@
+-- Where the walk of a packet goes, and how many hops it has left then.
+use Rattle.std.proofs.Common.{◌≡◌, ℕ, zero, suc, ◌==◌, ◌&&◌, not, Bool, true, false, List, length, Option, Some, None, refl, sym, ap, ◌∙◌, subst, arith, if◌then◌else◌, MatchBool}
+use Rattle.std.specs.List.{slice_index}
+use Rattle.std.specs.Option.{option_and_then}
+use Rattle.std.proofs.lemmas.Bool.{ne_eqb}
+use Rattle.rio_packets.specs.Fields.{tt_of, ftype_of, is_maintenance, is_maintenance_length, is_request, Lowered, dest_of, hop_of}
+use Rattle.rio_packets.proofs.LowerLaws.{maintenance_size}
+use Rattle.maint_registers.specs.Devices.{Device}
+use Rattle.maint_registers.specs.Routes.{next_port}
+use Rattle.maint_packets.specs.declared.next_hop.Next.TheVariants.{Nowhere, RegisterUnit}
+use Rattle.maint_packets.specs.NextHops.{is_foreign, is_at_end, to_port, next_of, moved, is_spent}
+use Rattle.fabric_script.specs.declared.ports.PortRef.{PortRef}
+use Rattle.fabric_map.specs.Topology.{Topology}
+use Rattle.fabric_map.specs.Routes.{Registers, walk}
+use Rattle.fabric_model.specs.Network.{peer_in}
+use Rattle.fabric_model.specs.Laws.Leaving.{MovesTo}
+use Rattle.fabric_model.proofs.Moving.{moves_on}
+use Rattle.fabric_model.proofs.Peers.{peer_back}
+use Rattle.fabric_model.specs.Laws.Proper.{AreProper}
+use Rattle.fabric_map.specs.Topology.{port_at}
+use Rattle.fabric_map.specs.Plain.{topology_of, registers_of}
+use Rattle.fabric_ask.specs.Answered.{hops_left}
+use Rattle.fabric_ask.specs.Travel.{IsOn}
+
+-- ---- the packet
+
+narrow_is : (packet : List ℕ) → is_maintenance packet ≡ true
+    → (is_foreign packet ≡ false) × ((tt_of packet == 0) ≡ true)
+narrow_is packet is = by_tests (ftype_of packet == 8) (tt_of packet == 0)
+    (is_maintenance_length (length packet)) is
+  where
+    by_tests : (eight narrow long : Bool) → (eight && (narrow && long)) ≡ true
+        → ((eight && not (eight && (narrow && long))) ≡ false) × (narrow ≡ true)
+    by_tests true true true is = (refl, refl)
+    by_tests true true false is = absurd cc
+    by_tests true false long is = absurd cc
+    by_tests false narrow long is = absurd cc
+
+dest_is : (packet : List ℕ) (dest hops : ℕ) → IsOn packet dest hops → dest_of packet ≡ Some dest
+dest_is packet dest hops on =
+    ap (λ b. if b then Some (slice_index packet 2) else None)
+    (narrow_is packet on.maintenance).1 ∙ ap Some on.goal
+
+hop_is : (packet : List ℕ) (dest hops : ℕ) → IsOn packet dest hops → hop_of packet ≡ Some hops
+hop_is packet dest hops on =
+    ap (λ b. if b then Some (slice_index packet 6) else None) on.maintenance ∙ ap Some on.hop
+
+-- where a switch sends it, with no hop left, and with one
+pub next_ends : (device : Device) (packet : List ℕ) (dest : ℕ) → IsOn packet dest 0
+    → next_of device packet ≡ (if is_request packet then RegisterUnit else Nowhere)
+next_ends device packet dest on =
+    let foreign = (narrow_is packet on.maintenance).0 in
+    let hop = hop_is packet dest 0 on in
+    λ i. if foreign i then Nowhere
+    else (if is_spent (hop i) then (if is_request packet then RegisterUnit else Nowhere)
+    else to_port (option_and_then (next_port device) (dest_of packet)))
+
+pub next_goes : (device : Device) (packet : List ℕ) (dest h : ℕ) → IsOn packet dest (suc h)
+    → next_of device packet ≡ to_port (next_port device dest)
+next_goes device packet dest h on =
+    let foreign = (narrow_is packet on.maintenance).0 in
+    let hop = hop_is packet dest (suc h) on in
+    let goal = dest_is packet dest (suc h) on in
+    (λ i. if foreign i then Nowhere
+    else (if is_spent (hop i) then (if is_request packet then RegisterUnit else Nowhere)
+    else to_port (option_and_then (next_port device) (goal i))))
+    ∙ ap (λ b. if b then (if is_request packet then RegisterUnit else Nowhere)
+    else to_port (next_port device dest)) (ne_eqb (suc h) 0 (λ same. omega arith))
+
+-- it moves on
+pub on_moves : (packet : List ℕ) (dest h : ℕ) → IsOn packet dest (suc h)
+    → IsOn (moved packet) dest h
+on_moves packet dest h on =
+    let goes : is_at_end packet ≡ false =
+    ap is_spent (hop_is packet dest (suc h) on) ∙ ne_eqb (suc h) 0 (λ same. omega arith) in
+    let moves = moves_on packet on.passes goes in
+    let low : MovesTo packet (moved packet) = moves.once in
+    let lower : Lowered packet (moved packet) =
+    subst (λ b. MatchBool b (Lowered packet (moved packet)) (moved packet ≡ packet))
+    on.maintenance low in
+    let size = (maintenance_size packet on.maintenance).least in
+    record {
+      passes = moves.passes;
+      maintenance = lower.is;
+      goal = lower.others 2 (omega arith) (omega (arith, size)) ∙ on.goal;
+      hop = (let now = lower.hop in let was = on.hop in omega (arith, now, was));
+    }
+
+-- ---- the walk
+
+module _ (topology : Topology) (registers : Registers) (dest : ℕ) where
+  -- over a link to an endpoint
+  pub walk_endpoint : (n : ℕ) (p q : PortRef) → topology.peer p ≡ Some q
+      → topology.switch_ports q.node ≡ None → walk topology registers dest n p ≡ Some q
+  walk_endpoint zero p q peer kind = peer
+  walk_endpoint (suc n) p q peer kind = rw peer (rw kind refl)
+
+  walk_ends : (p q : PortRef) → topology.peer p ≡ Some q → walk topology registers dest 0 p ≡ Some q
+  walk_ends p q peer = peer
+
+  pub walk_switch : (n ports : ℕ) (p q : PortRef) → topology.peer p ≡ Some q
+      → topology.switch_ports q.node ≡ Some ports
+      → walk topology registers dest (suc n) p ≡ option_and_then
+      (λ port. walk topology registers dest n (port_at q.node port))
+      (next_port (registers q.node) dest)
+  walk_switch n ports p q peer kind = rw peer (rw kind refl)
+
+  pub walk_none : (n : ℕ) (p : PortRef) → topology.peer p ≡ None
+      → walk topology registers dest n p ≡ None
+  walk_none zero p none = none
+  walk_none (suc n) p none = rw none refl
+
+module _ (topology : Topology) (registers : Registers) (dest : ℕ) where
+  pub left_endpoint : (n : ℕ) (p q : PortRef) → topology.peer p ≡ Some q
+      → topology.switch_ports q.node ≡ None → hops_left topology registers dest n p ≡ n
+  left_endpoint zero p q peer kind = refl
+  left_endpoint (suc n) p q peer kind = rw peer (rw kind refl)
+
+  pub left_switch : (n ports to : ℕ) (p q : PortRef) → topology.peer p ≡ Some q
+      → topology.switch_ports q.node ≡ Some ports → next_port (registers q.node) dest ≡ Some to
+      → hops_left topology registers dest (suc n) p
+      ≡ hops_left topology registers dest n (port_at q.node to)
+  left_switch n ports to p q peer kind port = rw peer (rw kind (rw port refl))
+
+-- A walk ends at the end of a link.
+module _ (regs : List Device) (links : List (PortRef × PortRef)) (host dest : ℕ)
+    (proper : AreProper links) where
+  abbrev way_topology : Topology
+  way_topology = topology_of regs links host
+
+  abbrev way_table : Registers
+  way_table = registers_of regs
+
+  pub walk_peer : (n : ℕ) (p at : PortRef)
+      → walk (topology_of regs links host) (registers_of regs) dest n p ≡ Some at
+      → (q : PortRef) × (peer_in links at ≡ Some q)
+  walk_peer zero p at ends = (p, peer_back links at p proper ends)
+  walk_peer (suc n) p at ends =
+      by_peer (peer_in links p) refl ends (λ q rest. walk_peer n q at rest)
+    where
+      by_port : (node : ℕ) (o : Option ℕ)
+          → option_and_then (λ port. walk way_topology way_table dest n (port_at node port))
+          o ≡ Some at
+          → ((q : PortRef) → walk way_topology way_table dest n q ≡ Some at
+          → (q : PortRef) × (peer_in links at ≡ Some q))
+          → (q : PortRef) × (peer_in links at ≡ Some q)
+      by_port node None is again = absurd cc
+      by_port node (Some port) is again = again (port_at node port) is
+
+      by_kind : (next : PortRef) (kind : Option ℕ) → way_topology.switch_ports next.node ≡ kind
+          → peer_in links p ≡ Some next → walk way_topology way_table dest (suc n) p ≡ Some at
+          → ((q : PortRef) → walk way_topology way_table dest n q ≡ Some at
+          → (q : PortRef) × (peer_in links at ≡ Some q))
+          → (q : PortRef) × (peer_in links at ≡ Some q)
+      by_kind next None kind is end again =
+          let here : Some next ≡ Some at =
+          sym (walk_endpoint way_topology way_table dest (suc n) p next is kind)
+          ∙ end in
+          (p, peer_back links at p proper (is ∙ here))
+      by_kind next (Some ports) kind is end again =
+          by_port next.node (next_port (way_table next.node) dest)
+          (sym (walk_switch way_topology way_table dest n ports p next is kind) ∙ end) again
+
+      by_peer : (o : Option PortRef) → peer_in links p ≡ o
+          → walk way_topology way_table dest (suc n) p ≡ Some at
+          → ((q : PortRef) → walk way_topology way_table dest n q ≡ Some at
+          → (q : PortRef) × (peer_in links at ≡ Some q))
+          → (q : PortRef) × (peer_in links at ≡ Some q)
+      by_peer None is end again =
+          let bad : None ≡ Some at = sym (walk_none way_topology way_table dest (suc n) p is)
+          ∙ end in absurd cc
+      by_peer (Some next) is end again =
+          by_kind next (way_topology.switch_ports next.node) refl is end again
