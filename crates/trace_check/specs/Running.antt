@@ -1,0 +1,74 @@
+-- What a checker keeps of a port, and what it asks of a line.
+use Rattle.std.specs.Prelude.{◌≡◌, ℕ, suc, ◌+◌, ◌%◌, ◌<◌, List, [], ◌∷◌, ◌++◌, length, Option, Some, None, IsSome, unwrap_or, if◌then◌else◌}
+use Rattle.rio_chars.specs.declared.chars.Char.{Char}
+use Rattle.link_model.specs.declared.event.Event.{Event}
+use Rattle.link_model.specs.declared.event.Event.TheVariants.{Ctl, Pkt, Bad}
+use Rattle.link_model.specs.Events.{same_event}
+use Rattle.link_model.specs.Places.{Place, start, place_after}
+use Rattle.link_model.specs.Said.{said}
+use Rattle.fabric_script.specs.declared.ports.PortRef.{PortRef}
+use Rattle.fabric_model.specs.Network.{same_port}
+use Rattle.fabric_model.specs.Steps.{Hold, Free, Linked}
+use Rattle.fabric_trace.specs.Lines.{Got, TraceLine, Stepped, Signed}
+use Rattle.fabric_trace.specs.Allowance.{raised_all}
+
+-- a packet that came, with its ackID
+abbrev pub Come : Type 0
+Come = ℕ × List ℕ
+
+abbrev pub packets_of : List Event → List Come
+packets_of [] = []
+packets_of (Ctl symbol ∷ events) = packets_of events
+packets_of (Pkt ack packet ∷ events) = (ack, packet) ∷ packets_of events
+packets_of (Bad cause ∷ events) = packets_of events
+
+-- what stands behind the first that is this packet with this ackID
+abbrev pub behind_packet : ℕ → List ℕ → List Come → Option (List Come)
+behind_packet ack packet [] = None
+behind_packet ack packet (came ∷ more) =
+    if same_event (Pkt came.0 came.1) (Pkt ack packet) then Some more
+    else behind_packet ack packet more
+
+-- Where its reader stands; the packets that came behind the last one held; how many packets it held
+-- and freed, and how many it may free.
+pub record PortRun : Type 0 where
+  pub place : Place
+  pub unheld : List Come
+  pub held : ℕ
+  pub freed : ℕ
+  pub allowed : ℕ
+
+abbrev pub new_run : PortRun
+new_run = record { place = start; unheld = []; held = 0; freed = 0; allowed = 0 }
+
+abbrev pub hears : PortRun → List Char → PortRun
+hears run chars = record {
+  place = place_after run.place chars;
+  unheld = run.unheld ++ packets_of (said run.place chars);
+  held = run.held;
+  freed = run.freed;
+  allowed = raised_all run.allowed (said run.place chars);
+}
+
+abbrev pub holds_one : PortRun → List ℕ → PortRun
+holds_one run packet = record run {
+  unheld = unwrap_or (behind_packet (run.held % 32) packet run.unheld) [];
+  held = run.held + 1;
+}
+
+-- after one more line
+abbrev pub port_after : PortRef → PortRun → TraceLine → PortRun
+port_after p run (Stepped (Linked (Hold q packet))) =
+    if same_port p q then holds_one run packet else run
+port_after p run (Stepped (Linked (Free q packet))) =
+    if same_port p q then record run { freed = run.freed + 1 } else run
+port_after p run (Signed (Got q chars)) = if same_port p q then hears run chars else run
+port_after p run _ = run
+
+-- the packet has come
+abbrev pub MayHold : PortRun → List ℕ → Type 0
+MayHold run packet = IsSome (behind_packet (run.held % 32) packet run.unheld)
+
+-- one more may be freed
+abbrev pub MayFree : PortRun → Type 0
+MayFree run = run.freed < run.allowed

@@ -1,0 +1,34 @@
+//! Whether a trace of a fabric is lawful, whoever made it.
+//!
+//! Promised: what a lawful trace is, apart from any code, and laws of it. Every trace of a script
+//! is lawful, but for its form; the steps of a lawful trace are legal; a text spells one line at
+//! most. What is read of a text is a line that it spells.
+//!
+//! - `Words`, in `specs`: the words of each line of a trace, and which lines there are;
+//! - `Checks`, `Wires`: what holds at each line, by the lines before it and the one behind;
+//! - `Lawful`: which texts are a lawful trace, and which line of others a reason first hits;
+//! - `Running`: what is enough to be known of a port.
+//!
+//! [`check_trace`] checks a script of set-up lines and a trace. That it decides what is lawful is
+//! only tested. It takes memory for the lines of set-up, the ports, the packets and characters that
+//! are on their way, and the packets that came and are not held.
+#![tactic(auto)]
+
+mod checker;
+mod checking;
+mod hearing;
+mod lanes;
+mod laws;
+mod lines;
+mod network;
+mod port;
+mod queue;
+mod reading;
+#[cfg(test)]
+mod tests;
+
+pub use checking::{CheckEnd, Unlawful, check_trace};
+pub use laws::{
+    every_trace_is_lawful, lawful_or_unlawful, lawful_traces_are_legal, one_trace_line,
+    texts_spell_their_lines, words_are_the_text,
+};
