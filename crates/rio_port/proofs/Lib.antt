@@ -1,0 +1,4 @@
+pub mod AnsweringLaws
+pub mod InputLaws
+pub mod RequestLaws
+pub mod ServingLaws

@@ -1,0 +1,6 @@
+pub mod Statuses
+pub mod Requests
+pub mod Texts
+pub mod Answers
+pub mod Lines
+pub mod Program

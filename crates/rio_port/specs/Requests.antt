@@ -1,0 +1,55 @@
+-- What a line asks for: its words, which single spaces part, are those of a request.
+use Rattle.std.specs.Prelude.{◌≡◌, ℕ, ◌≤◌, ◌<◌, List, [], ◌∷◌, All, codes, map, Result, Ok, Err}
+use Rattle.std.specs.Fmt.{decimal}
+use Rattle.rio_chars.specs.CharText.{char_text_of, HasByte}
+use Rattle.rio_chars.specs.declared.chars.Char.{Char}
+use Rattle.rio_packets.specs.Fields.{body_of}
+use Rattle.rio_packets.specs.LinkForm.{LinkForm}
+use Rattle.rio_packets.specs.declared.making.Header.{Header}
+use Rattle.fabric_script.specs.Texts.{hex_text}
+use Rattle.rio_port.specs.declared.requests.Reason.{Reason}
+use Rattle.rio_port.specs.declared.requests.Request.{Request}
+use Rattle.rio_port.specs.declared.requests.Request.TheVariants.{Got, Turn, TimeOut, Send, Take, State}
+
+-- The first four words say the fields of a packet; these words stand behind them.
+pub record SpellsHeader (words : List (List ℕ)) (header : Header) (behind : List (List ℕ)) : Type 0
+  where
+    pub prio : header.prio ≤ 3
+    pub ftype : header.ftype ≤ 15
+    pub source : header.source ≤ 255
+    pub dest : header.dest ≤ 255
+    pub words_are : words ≡ decimal header.prio ∷ decimal header.ftype ∷ decimal header.source
+        ∷ decimal header.dest ∷ behind
+
+-- The words say the fields and the data of a packet, and this is its link form.
+pub record SpellsPacket (words : List (List ℕ)) (packet : List ℕ) : Type 0 where
+  pub header : Header
+  pub bytes : List ℕ
+  pub fields : SpellsHeader words header (hex_text bytes ∷ [])
+  pub are_bytes : All (λ byte. byte < 256) bytes
+  pub form : LinkForm (body_of header.prio header.ftype header.dest header.source bytes) packet
+
+-- the words behind the first one spell these characters
+abbrev pub SpellsGot : List (List ℕ) → List Char → Type 0
+SpellsGot words chars = All (λ c. HasByte c) chars × (words ≡ map char_text_of chars)
+
+-- the words behind the first one spell a number of turns
+abbrev pub SpellsTurns : List (List ℕ) → ℕ → Type 0
+SpellsTurns words count = (1 ≤ count) × (count ≤ 100000) × (words ≡ decimal count ∷ [])
+
+-- words that ask for this: a row for each kind of line
+abbrev pub AsksFor : Request → List (List ℕ) → Type 0
+AsksFor (Got chars) words =
+    (behind : List (List ℕ)) × (words ≡ codes "got" ∷ behind) × SpellsGot behind chars
+AsksFor (Turn count) words =
+    (behind : List (List ℕ)) × (words ≡ codes "turn" ∷ behind) × SpellsTurns behind count
+AsksFor (Send packet) words =
+    (behind : List (List ℕ)) × (words ≡ codes "send" ∷ behind) × SpellsPacket behind packet
+AsksFor TimeOut words = words ≡ codes "timeout" ∷ []
+AsksFor Take words = words ≡ codes "take" ∷ []
+AsksFor State words = words ≡ codes "state" ∷ []
+
+-- what was read of words: what they ask for, or that they ask for nothing
+abbrev pub ReadsWords : List (List ℕ) → Result Request Reason → Type 0
+ReadsWords words (Ok request) = AsksFor request words
+ReadsWords words (Err reason) = (request : Request) → ¬ AsksFor request words

@@ -1,0 +1,148 @@
+//! What a line asks for.
+ghost use Rattle.std.specs.Prelude.{◌≢◌, ◌∷◌, ℕ, List, IfOk, MatchResult, codes};
+ghost use Rattle.fabric_script.specs.Words.{words_left};
+ghost use Rattle.rio_packets.specs.declared.making.Header.{Header as AHeader};
+ghost use Rattle.rio_port.specs.Requests.{SpellsHeader, ReadsWords};
+ghost use Rattle.rio_port.specs.Lines.{ReadsLine};
+
+use crate::words::{read_bytes, read_chars, take_number};
+use fabric_script::split_word;
+use rio_chars::Chars;
+use rio_packets::{Header, Packet, build};
+use std::alloc::{AllocError, Global};
+
+/// The most turns of a line.
+const MOST_TURNS: u32 = 100_000;
+
+/// What a line asks for.
+#[derive(Drop)]
+pub enum Request {
+    /// These characters came from the wire.
+    Got(Chars),
+    /// So many turns to send.
+    Turn(u32),
+    /// The time-out comes.
+    TimeOut,
+    /// A packet is to be sent.
+    Send(Packet),
+    /// The next held packet is taken.
+    Take,
+    /// The state of the port is told.
+    State,
+}
+
+/// Why a line is refused.
+#[derive(Clone, Copy, Debug, PartialEq, Eq)]
+pub enum Reason {
+    /// The first word is none of these, or the number of words is not its form's.
+    Words,
+    /// A number is misspelled or out of range.
+    Number,
+    /// A character is misspelled.
+    Character,
+    /// Bytes are misspelled.
+    Bytes,
+    /// A packet cannot have so many bytes.
+    Length,
+}
+
+/// What a line asks for, or why it is refused: exactly if it asks for nothing.
+pub fn read_request(alloc: Global, line: &[u8]) -> Result<Result<Request, Reason>, AllocError>
+    ensures { IfOk result (λ asked. ReadsLine line.now asked) }
+{
+    let (keyword, words) = split_word(line);
+    if keyword == b"got".as_slice() {
+        return read_got(alloc, words);
+    }
+    if keyword == b"send".as_slice() {
+        return read_send(alloc, words);
+    }
+    if keyword == b"turn".as_slice() {
+        return Ok(read_turn(words));
+    }
+    Ok(read_single(keyword, words))
+}
+
+/// A line of one word.
+fn read_single(keyword: &[u8], words: Option<&[u8]>) -> Result<Request, Reason>
+    requires got { keyword.now ≢ codes "got" }
+    requires turn { keyword.now ≢ codes "turn" }
+    requires send { keyword.now ≢ codes "send" }
+    ensures { ReadsWords (keyword.entry.now ∷ words_left words.entry) result }
+{
+    if words.is_some() {
+        return Err(Reason::Words);
+    }
+    if keyword == b"timeout".as_slice() {
+        Ok(Request::TimeOut)
+    } else if keyword == b"take".as_slice() {
+        Ok(Request::Take)
+    } else if keyword == b"state".as_slice() {
+        Ok(Request::State)
+    } else {
+        Err(Reason::Words)
+    }
+}
+
+/// The words behind `got`.
+fn read_got(alloc: Global, words: Option<&[u8]>) -> Result<Result<Request, Reason>, AllocError>
+    ensures { IfOk result (λ asked.
+        ReadsWords (codes "got" ∷ words_left words.entry) asked) }
+{
+    match read_chars(alloc, words)? {
+        Some(chars) => Ok(Ok(Request::Got(chars))),
+        None => Ok(Err(Reason::Character)),
+    }
+}
+
+/// The words behind `turn`.
+fn read_turn(words: Option<&[u8]>) -> Result<Request, Reason>
+    ensures { ReadsWords (codes "turn" ∷ words_left words.entry) result }
+{
+    let (number, rest) = take_number(words, MOST_TURNS)?;
+    if rest.is_some() {
+        return Err(Reason::Words);
+    }
+    if number == 0 {
+        return Err(Reason::Number);
+    }
+    Ok(Request::Turn(number))
+}
+
+/// The words behind `send`.
+fn read_send(alloc: Global, words: Option<&[u8]>) -> Result<Result<Request, Reason>, AllocError>
+    ensures { IfOk result (λ asked.
+        ReadsWords (codes "send" ∷ words_left words.entry) asked) }
+{
+    let (header, rest) = match read_header(words) {
+        Ok(read) => read,
+        Err(reason) => return Ok(Err(reason)),
+    };
+    let Some(bytes) = read_bytes(alloc, rest)? else {
+        return Ok(Err(Reason::Bytes));
+    };
+    match build(&header, bytes.as_slice()) {
+        Ok(packet) => Ok(Ok(Request::Send(packet))),
+        Err(_) => Ok(Err(Reason::Length)),
+    }
+}
+
+/// The four numbers of a packet, and the words behind them.
+fn read_header(words: Option<&[u8]>) -> Result<(Header, Option<&[u8]>), Reason>
+    ensures { MatchResult result
+        (λ read. SpellsHeader (words_left words.entry) read.0 (words_left read.1))
+        (λ reason. (header : AHeader) (rest : List (List ℕ))
+        → ¬ SpellsHeader (words_left words.entry) header rest) }
+{
+    let (prio, words) = take_number(words, 3)?;
+    let (ftype, words) = take_number(words, 15)?;
+    let (source, words) = take_number(words, 255)?;
+    let (dest, words) = take_number(words, 255)?;
+    let header = Header {
+        prio: prio as u8,
+        ftype: ftype as u8,
+        dest: dest as u8,
+        source: source as u8,
+    };
+    Ok((header, words))
+}

@@ -1,0 +1,104 @@
+//! A port that answers line by line.
+ghost use Rattle.std.specs.Prelude.{◌≡◌, ◌≤◌, [], false, OnOk, OnErr};
+ghost use Rattle.rio_chars.specs.Written.{Writes};
+ghost use Rattle.link_port.specs.Ports.{new_port};
+ghost use Rattle.rio_port.specs.Lines.{AnswersLine};
+ghost use Rattle.rio_port.specs.Answers.{Answer as AnAnswer};
+ghost use Rattle.rio_port.specs.Program.{ServesFrom, status_of};
+
+use crate::answers::answer;
+use crate::input::{Input, LineEnd};
+use crate::requests::read_request;
+use crate::status::Status;
+use link_port::Port;
+use rio_chars::{Outbox, Sink, Source, TextBuffer};
+use std::alloc::{AllocError, Global};
+
+impl From<LineEnd> for Status {
+    ghost from_gives = { λ end status. status ≡ status_of end };
+
+    fn from(end: LineEnd) -> Self {
+        match end {
+            LineEnd::End => Status::Done,
+            LineEnd::Fault => Status::ReadFault,
+            LineEnd::TooLong => Status::TooLong,
+            LineEnd::NoMemory => Status::NoMemory,
+        }
+    }
+}
+
+/// Reads lines, and answers each before the next is asked for, with a port of 4 to 30 buffers.
+pub fn serve<S: Source, K: Sink>(alloc: Global, buffers: u8, source: &mut S, sink: &mut K) -> Status
+    requires least { 4 ≤ buffers }
+    requires most { buffers ≤ 30 }
+    ensures { ServesFrom (new_port buffers) result (S.left source.old) (S.left source.new)
+        (S.faults source.old) (S.faults source.new) (K.written sink.old) (K.written sink.new)
+        (K.faults sink.old) (K.faults sink.new) }
+{
+    let Ok(mut port) = Port::new(alloc, buffers) else {
+        return Status::NoMemory;
+    };
+    let Ok(mut input) = Input::new(alloc) else {
+        return Status::NoMemory;
+    };
+    let Ok(mut buffer) = TextBuffer::new(alloc) else {
+        return Status::NoMemory;
+    };
+    let mut outbox = Outbox::new(&mut buffer, sink);
+    serve_lines(alloc, &mut port, &mut input, source, &mut outbox)
+}
+
+/// Reads lines, and answers each before the next is asked for.
+fn serve_lines<S: Source, K: Sink>(
+    alloc: Global,
+    port: &mut Port,
+    input: &mut Input,
+    source: &mut S,
+    outbox: &mut Outbox<K>,
+) -> Status
+    requires input { input.old ≡ [] }
+    requires fine { outbox.old.failed ≡ false }
+    requires empty { outbox.old.buffer.now ≡ [] }
+    ensures same { outbox.new.sink.ghost_name ≡ outbox.old.sink.ghost_name }
+    ensures serves { ServesFrom port.old result (S.left source.old) (S.left source.new)
+        (S.faults source.old) (S.faults source.new)
+        (K.written outbox.old.sink.now) (K.written outbox.new.sink.now)
+        (K.faults outbox.old.sink.now) (K.faults outbox.new.sink.now) }
+{
+    let mut line = Vec::new(alloc);
+    let mut count = 0u64;
+    while count < u64::MAX {
+        if let Err(end) = input.read_line(source, &mut line) {
+            return Status::from(end);
+        }
+        let Ok(()) = answer_line(alloc, port, line.as_slice(), outbox) else {
+            return Status::NoMemory;
+        };
+        if outbox.failed() {
+            return Status::WriteFault;
+        }
+        count += 1;
+    }
+    Status::Done
+}
+
+/// Answers a line, and writes all of the answer unless a write fails. Where memory is not given,
+/// nothing is done.
+fn answer_line<K: Sink>(
+    alloc: Global,
+    port: &mut Port,
+    line: &[u8],
+    outbox: &mut Outbox<K>,
+) -> Result<(), AllocError>
+    ensures answer { OnOk result ((answer : AnAnswer) × AnswersLine port.old line.now answer
+        × (port.new ≡ answer.port)
+        × Writes K.written K.faults outbox.old outbox.new answer.text) }
+    ensures written { OnOk result (outbox.new.buffer.now ≡ []) }
+    ensures port { OnErr result (port.new ≡ port.old) }
+    ensures outbox { OnErr result (outbox.new ≡ outbox.old) }
+{
+    let asked = read_request(alloc, line)?;
+    answer(port, asked, outbox);
+    outbox.flush();
+    Ok(())
+}

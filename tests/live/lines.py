@@ -1,0 +1,141 @@
+"""Lines of each kind over pipes, with a time limit: each answer must come before the next line is written.
+
+usage: lines.py PROGRAM    The status is 0 if all is as wanted. The characters and packets are those of the worked rows
+of the trace of one packet, which the standard's CRCs give.
+"""
+import pathlib
+import selectors
+import subprocess
+import sys
+
+sys.path.insert(0, str(pathlib.Path(__file__).parents[2] / "examples" / "live"))
+from two_ports import Port  # noqa: E402
+
+PACKET = "000f0201cafe0001a9bb0000"
+BURST = "k7c d80 df8 d1f d00 d0f d02 d01 dca dfe d00 d01 da9 dbb d00 d00 k7c d80 dfa d18"
+ACCEPTED = "k1c d00 dff d16"
+AT_REST = ["output ok", "input ok", "outstanding 0", "waiting no"]
+SECONDS = 20
+
+
+def equal(what, found, wanted):
+    """Says what differs."""
+    if found != wanted:
+        sys.exit("%s: %r, wanted %r" % (what, found, wanted))
+
+
+def one_packet(program):
+    """A packet goes from one port to another, and is acknowledged."""
+    a, b = Port(program, 4), Port(program, 30)
+    equal("send", a.ask("send 0 15 1 2 cafe0001"), ["queued " + PACKET])
+    equal("waiting", a.ask("state"), AT_REST[:3] + ["waiting yes"])
+    equal("turn", a.ask("turn 3"), ["sent " + BURST])
+    equal("outstanding", a.ask("state"), AT_REST[:2] + ["outstanding 1", "waiting no"])
+    equal("got", b.ask("got " + BURST), ["hold " + PACKET, "sent " + ACCEPTED])
+    equal("accepted", a.ask("got " + ACCEPTED), ["free " + PACKET])
+    equal("take", b.ask("take"), ["taken " + PACKET])
+    equal("nothing held", b.ask("take"), ["empty"])
+    equal("a", a.ask("state"), AT_REST)
+    equal("b", b.ask("state"), AT_REST)
+    equal("ends", [a.end(), b.end()], [0, 0])
+
+
+def room(program):
+    """A priority has 16 packets to be sent, and the next priority has its own."""
+    port = Port(program, 8)
+    for _ in range(16):
+        equal("room", len(port.ask("send 1 15 1 2 -")), 1)
+    equal("full", port.ask("send 1 15 1 2 -"), ["full"])
+    equal("other", port.ask("send 2 15 1 2 -")[0].split()[0], "queued")
+    equal("turns", len(port.ask("turn 100000")), 17)
+    port.end()
+
+
+def time_out(program):
+    """A port whose time-out comes asks, and a port that is asked answers which ackID it expects."""
+    a, b = Port(program, 8), Port(program, 8)
+    equal("time-out", a.ask("timeout"), [])
+    equal("asks", a.ask("state"), ["output error-stopped"] + AT_REST[1:])
+    equal("link-request", a.ask("turn 1"), ["sent k1c d80 dfc d87"])
+    equal("link-response", b.ask("got k1c d80 dfc d87"), ["sent k1c dc0 d87 d13"])
+    equal("answered", a.ask("got k1c dc0 d87 d13"), [])
+    equal("good again", a.ask("state"), AT_REST)
+    a.end(), b.end()
+
+
+REFUSED = {
+    "words": ["", "foo", "take 1", "state ", " take", "TAKE", "turn 1 1", "send", "send 1 2 3"],
+    "number": ["turn 0", "turn 100001", "turn x", "turn 01", "send 4 15 1 2 -", "send 0 16 1 2 -", "send 0 0 256 2 -"],
+    "character": ["got k1", "got k1c  d00", "got kBC", "got d00 "],
+    "bytes": ["send 0 15 1 2 ", "send 0 15 1 2 0", "send 0 15 1 2 0G", "send 0 15 1 2", "send 0 15 1 2 00 00"],
+    "length": ["send 0 15 1 2 00", "send 0 15 1 2 " + "00" * 270],
+}
+
+
+def refused(program):
+    """Refused lines change nothing."""
+    port = Port(program, 8)
+    port.ask("got " + BURST[:15])
+    for reason, lines in REFUSED.items():
+        for line in lines:
+            equal(line, port.ask(line), ["refused " + reason])
+    equal("as before", port.ask("got" + BURST[15:]), ["hold " + PACKET, "sent " + ACCEPTED])
+    port.end()
+
+
+def started(program, *words):
+    """The program, with pipes for all its streams."""
+    pipe = subprocess.PIPE
+    return subprocess.Popen([program, *words], stdin=pipe, stdout=pipe, stderr=pipe)
+
+
+def ends(program):
+    """How it ends, and what stands behind the last line feed is not answered."""
+    for text, wanted, status in [(b"", b"", 0), (b"take", b"", 0), (b"take\ntake", b"empty\nok\n", 0)]:
+        process = started(program)
+        equal("end", process.communicate(text)[:2], (wanted, b""))
+        equal("status", process.returncode, status)
+    for words in [["3"], ["31"], ["x"], ["8", "8"], [""], ["08"]]:
+        process = started(program, *words)
+        equal("words", process.communicate(b"take\n")[0], b"")
+        equal("status", process.returncode, 2)
+
+
+def long_lines(program):
+    """A line of 4,194,304 bytes is answered, and one more ends it."""
+    text = b"got" + b" d00" * 1048575 + b"\n"
+    equal("long", len(text), 4194304)
+    process = started(program)
+    answer = process.communicate(text + b"take\n" + b"x" * 4194305 + b"\n")[0]
+    equal("long line", answer[-12:], b"ok\nempty\nok\n")
+    equal("status", process.returncode, 8)
+
+
+def byte_by_byte(program):
+    """A line that comes byte by byte is answered once, when its line feed has come, and not before."""
+    process = started(program)
+    ready = selectors.DefaultSelector()
+    ready.register(process.stdout, selectors.EVENT_READ)
+    for byte in b"take":
+        process.stdin.write(bytes([byte]))
+        process.stdin.flush()
+        equal("too early", ready.select(0.01), [])
+    process.stdin.write(b"\n")
+    process.stdin.flush()
+    equal("in time", len(ready.select(SECONDS)), 1)
+    equal("answer", process.communicate()[0], b"empty\nok\n")
+
+
+def gone(program):
+    """A reader that has gone away ends it."""
+    process = started(program)
+    process.stdout.close()
+    process.stdin.write(b"take\n" * 10)
+    process.stdin.close()
+    equal("write fault", process.wait(SECONDS), 5)
+    process.stderr.close()
+
+
+if __name__ == "__main__":
+    for case in (one_packet, room, time_out, refused, ends, long_lines, byte_by_byte, gone):
+        case(sys.argv[1])
