@@ -4,6 +4,7 @@ use Rattle.std.specs.Io.KnownBytes.{Appends, Consumes, IsAtEnd, Keeps}
 use Rattle.rio_chars.specs.Faults.{Rose}
 use Rattle.rio_chars.specs.Fronts.{AppendsFront}
 use Rattle.rio_chars.specs.Takings.{ConsumesJust, ConsumesUpTo}
+use Rattle.fabric_script.specs.Known.{of_script}
 use Rattle.fabric_script.proofs.ScriptLaws.{not_refused, refused_once}
 use Rattle.rio_cli.specs.declared.command.Command.{Command}
 use Rattle.rio_cli.specs.declared.command.Command.TheVariants.{Replay, Decode}
@@ -116,7 +117,7 @@ module _ (command : Command) (l l2 : Option (List ℕ)) (r r' : ℕ) (w : Option
 pub not_refused_too : (command : Command) (bytes : List ℕ) (line reason : ℕ)
     → IsAccepted command bytes → IsRefused command bytes line reason → ⊥
 not_refused_too Replay bytes line reason is refused =
-    not_refused bytes is.0 is.1 line reason is.2 refused
+    not_refused of_script bytes is.0 is.1 line reason is.2 refused
 not_refused_too Decode bytes line reason is refused = no_bad_word bytes is.0 line is.1 refused.0
 
 -- a refused input has one line and one reason: a row for each command
@@ -124,7 +125,7 @@ pub refused_once_too : (command : Command) (bytes : List ℕ) (line reason line2
     → IsRefused command bytes line reason → IsRefused command bytes line2 reason2
     → (line ≡ line2) × (reason ≡ reason2)
 refused_once_too Replay bytes line reason line2 reason2 h k =
-    refused_once bytes line reason line2 reason2 h k
+    refused_once of_script bytes line reason line2 reason2 h k
 refused_once_too Decode bytes line reason line2 reason2 h k =
     (bad_word_once bytes line line2 h.0 k.0, h.1 ∙ sym k.1)
 

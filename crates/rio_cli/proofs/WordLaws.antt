@@ -1,5 +1,5 @@
 -- Characters are read line by line and word by word.
-use Rattle.std.proofs.Common.{◌≡◌, ◌≢◌, ◌==◌, ℕ, ◌+◌, ◌-◌, ◌/◌, ◌%◌, ◌<◌, ◌≤◌, suc, Bool, true, false, cond, List, [], ◌∷◌, ◌++◌, length, get_or, take, drop, drop-cons, refl, sym, ap, ◌∙◌, subst, arith, take-append-drop, length-append, filter}
+use Rattle.std.proofs.Common.{◌≡◌, ◌≢◌, ◌==◌, ℕ, ◌+◌, ◌-◌, ◌/◌, ◌%◌, ◌<◌, ◌≤◌, suc, Bool, true, false, cond, ◌⊎◌, inl, inr, List, [], ◌∷◌, ◌++◌, length, get_or, take, drop, drop-cons, refl, sym, ap, ◌∙◌, subst, arith, take-append-drop, length-append, filter}
 use denote.Param.Members.{Mut}
 use denote.Ref.{Bor}
 use Rattle.std.specs.Fn.{CalledAt}
@@ -110,6 +110,88 @@ words-turn (x ∷ y ∷ z ∷ s ∷ rest) c four space is =
     let all : take (length (x ∷ y ∷ z ∷ s ∷ rest) - 4) rest ≡ rest = grind (arith, common_steps) in
     rw all (ap (λ b. words_in (x ∷ y ∷ z ∷ b ∷ rest)) space ∙ words_front x y z rest no.0 no.1 no.2
     ∙ ap (λ w. w ∷ words_in rest) is)
+
+-- ---- and one that a space or a line feed follows
+
+digit_no_end : (n : ℕ) → hex_digit n ≢ 10
+digit_no_end n is = grind (arith, nat_tests)
+
+no_end : (c : Char) (x y z : ℕ) → (x ∷ y ∷ z ∷ []) ≡ char_text_of c
+    → (x ≢ 10) × (y ≢ 10) × (z ≢ 10)
+no_end (Data b) x y z e =
+    let first : x ≡ 100 = cc in
+    let second : y ≡ hex_digit (b / 16) = cc in
+    let third : z ≡ hex_digit (b % 16) = cc in (
+      (λ is. absurd (omega arith)),
+      (λ is. digit_no_end (b / 16) (sym second ∙ is)),
+      (λ is. digit_no_end (b % 16) (sym third ∙ is)),
+    )
+no_end (Special b) x y z e =
+    let first : x ≡ 107 = cc in
+    let second : y ≡ hex_digit (b / 16) = cc in
+    let third : z ≡ hex_digit (b % 16) = cc in (
+      (λ is. absurd (omega arith)),
+      (λ is. digit_no_end (b / 16) (sym second ∙ is)),
+      (λ is. digit_no_end (b % 16) (sym third ∙ is)),
+    )
+no_end Invalid x y z e =
+    let first : x ≡ 105 = cc in
+    let second : y ≡ 110 = cc in
+    let third : z ≡ 118 = cc in
+    ((λ is. absurd (omega arith)), (λ is. absurd (omega arith)), (λ is. absurd (omega arith)))
+
+-- by the lines of what stands behind
+by_lines : (x y z : ℕ) (lines : List (List ℕ)) → x ≢ 32 → y ≢ 32 → z ≢ 32
+    → flat_map words_in (onto_first x (onto_first y (onto_first z (onto_first 32 lines))))
+    ≡ (x ∷ y ∷ z ∷ []) ∷ flat_map words_in lines
+by_lines x y z [] nx ny nz =
+    ap (λ ws. ws ++ []) (words_front x y z [] nx ny nz)
+by_lines x y z (line ∷ lines) nx ny nz =
+    ap (λ ws. ws ++ flat_map words_in lines) (words_front x y z line nx ny nz)
+
+alone : (x y z : ℕ) → x ≢ 32 → y ≢ 32 → z ≢ 32
+    → words_in (x ∷ y ∷ z ∷ []) ≡ (x ∷ y ∷ z ∷ []) ∷ []
+alone x y z nx ny nz =
+    let ex : (x == 32) ≡ false = ne_eqb x 32 nx in
+    let ey : (y == 32) ≡ false = ne_eqb y 32 ny in
+    let ez : (z == 32) ≡ false = ne_eqb z 32 nz in
+    rw (ex, ey, ez) refl
+
+words_before : (x y z s : ℕ) (rest : List ℕ) → (x ≢ 32) × (y ≢ 32) × (z ≢ 32)
+    → (x ≢ 10) × (y ≢ 10) × (z ≢ 10) → (s ≡ 32) ⊎ (s ≡ 10)
+    → words_of (x ∷ y ∷ z ∷ s ∷ rest) ≡ (x ∷ y ∷ z ∷ []) ∷ words_of rest
+words_before x y z s rest spaceless endless (inl space) =
+    let ex : (x == 10) ≡ false = ne_eqb x 10 endless.0 in
+    let ey : (y == 10) ≡ false = ne_eqb y 10 endless.1 in
+    let ez : (z == 10) ≡ false = ne_eqb z 10 endless.2 in
+    ap (λ b. words_of (x ∷ y ∷ z ∷ b ∷ rest)) space
+    ∙ rw (ex, ey, ez)
+    (by_lines x y z (lines_of rest) spaceless.0 spaceless.1 spaceless.2)
+words_before x y z s rest spaceless endless (inr end) =
+    let ex : (x == 10) ≡ false = ne_eqb x 10 endless.0 in
+    let ey : (y == 10) ≡ false = ne_eqb y 10 endless.1 in
+    let ez : (z == 10) ≡ false = ne_eqb z 10 endless.2 in
+    ap (λ b. words_of (x ∷ y ∷ z ∷ b ∷ rest)) end
+    ∙ rw (ex, ey, ez) (ap (λ ws. ws ++ words_of rest)
+    (alone x y z spaceless.0 spaceless.1 spaceless.2))
+
+-- one more word was read
+pub words-next : (left : List ℕ) (c : Char) → 4 ≤ length left
+    → (get_or left 3 0 ≡ 32) ⊎ (get_or left 3 0 ≡ 10)
+    → (get_or left 0 0 ∷ get_or left 1 0 ∷ get_or left 2 0 ∷ []) ≡ char_text_of c
+    → words_of left ≡ char_text_of c ∷ words_of (take (length left - 4) (drop 4 left))
+words-next [] c four behind is = absurd (omega arith)
+words-next (x ∷ []) c four behind is = absurd (omega arith)
+words-next (x ∷ y ∷ []) c four behind is = absurd (omega arith)
+words-next (x ∷ y ∷ z ∷ []) c four behind is = absurd (omega arith)
+words-next (x ∷ y ∷ z ∷ s ∷ rest) c four behind is =
+    let all : take (length (x ∷ y ∷ z ∷ s ∷ rest) - 4) rest ≡ rest = grind (arith, common_steps) in
+    rw all (words_before x y z s rest (no_space c x y z is) (no_end c x y z is) behind
+    ∙ ap (λ w. w ∷ words_of rest) is)
+
+pub no_words : (left : List ℕ) → length left ≡ 0 → words_of left ≡ []
+no_words [] none = refl
+no_words (x ∷ left) none = absurd (omega arith)
 
 -- ---- a part that is not spelled
 

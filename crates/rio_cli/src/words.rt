@@ -1,5 +1,5 @@
 //! Characters from the words of the input.
-ghost use Rattle.std.specs.Prelude.{◌≡◌, ◌≤◌, ◌++◌, ℕ, List, length, IfOk, IsErrOf, IsTrue, IsFalse};
+ghost use Rattle.std.specs.Prelude.{◌≡◌, ◌≤◌, ◌⊎◌, ◌++◌, [], ℕ, List, length, IfOk, IsErrOf, IsTrue, IsFalse};
 ghost use Rattle.rio_chars.specs.declared.chars.Char.{Char};
 ghost use Rattle.rio_cli.specs.Decoding.{word_in, words_in, AreTexts, AreSpelled, SpellsChars, BadWordAt};
 ghost use Rattle.rio_cli.specs.Inputs.{most_input};
@@ -33,6 +33,50 @@ pub(crate) fn read_chars(alloc: Global, bytes: &[u8]) -> Result<Vec<Char>, Chars
     ensures bad { (line : ℕ) → IsErrOf result (CharsEnd.BadWord line) → BadWordAt bytes.now line }
 {
     let mut chars = Vec::with_capacity(alloc, bytes.len() / 4 + 1)?;
+    if read_blocks(bytes, &mut chars)? {
+        return Ok(chars);
+    }
+    chars.clear();
+    read_lines(bytes, chars)
+}
+
+/// Appends the characters of words of three bytes that a space or a line feed follows, and answers
+/// whether the bytes are no more than these. Most input is; no line of it is looked for.
+fn read_blocks(bytes: &[u8], chars: &mut Vec<Char>) -> Result<bool, AllocError>
+    requires { chars.old.items ≡ [] }
+    ensures { IfOk result (λ whole. IsTrue whole → SpellsChars bytes.now chars.new.items) }
+{
+    let mut left = bytes;
+    while let [a, b, c, behind, rest @ ..] = left {
+        if !parts_words(*behind) {
+            return Ok(false);
+        }
+        let Some(read) = read_char(&[*a, *b, *c]) else {
+            return Ok(false);
+        };
+        chars.push(read)?;
+        left = rest;
+    }
+    Ok(left.is_empty())
+}
+
+/// Whether a byte is a space or a line feed.
+fn parts_words(byte: u8) -> bool
+    ensures { IsTrue result → (byte ≡ 32) ⊎ (byte ≡ 10) }
+{
+    byte == b' ' || byte == b'\n'
+}
+
+/// Appends the characters of the words of the bytes to none, or answers the first line with a word
+/// that is none.
+fn read_lines(bytes: &[u8], chars: Vec<Char>) -> Result<Vec<Char>, CharsEnd>
+    requires few { length bytes.now ≤ most_input }
+    requires none { chars.items ≡ [] }
+    ensures chars { IfOk result (λ chars. SpellsChars bytes.now chars.items) }
+    ensures count { IfOk result (λ chars. length chars.items ≤ most_input) }
+    ensures bad { (line : ℕ) → IsErrOf result (CharsEnd.BadWord line) → BadWordAt bytes.now line }
+{
+    let mut chars = chars;
     let mut line = 0;
     for text in bytes.split(|byte| *byte == b'\n') {
         line += 1;

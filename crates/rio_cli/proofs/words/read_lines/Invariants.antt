@@ -1,7 +1,7 @@
 use Rattle.std.proofs.Common.{◌≡◌, length, map}
 use Rattle.std.specs.List.{flat_map}
 use Rattle.rio_cli.specs.Decoding.{words_in, AreTexts}
-use Rattle.rio_cli.proofs.words.read_chars.Given as goal
+use Rattle.rio_cli.proofs.words.read_lines.Given as goal
 
 abbrev pub invariant-loop-text : goal.invariant-loop-text
 invariant-loop-text l = record {
