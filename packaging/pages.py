@@ -1,0 +1,84 @@
+"""Reads the pages: their tables, by how the head of each begins, and the releases of the changelog."""
+import re
+from pathlib import Path
+
+TOP = Path(__file__).resolve().parent.parent
+
+
+class Missing(Exception):
+    """A page does not have what is taken from it."""
+
+
+def lines_of(page):
+    file = TOP / page
+    if not file.exists():
+        raise Missing(f"there is no {page}")
+    return file.read_text(encoding="utf-8").splitlines()
+
+
+def cells_of(line):
+    cells = re.split(r"(?<!\\)\|", line.strip())[1:-1]
+    return [cell.strip().replace("\\|", "|") for cell in cells]
+
+
+def tables_of(lines):
+    """Each table: the place of its first line, and its rows, of which the first is the head."""
+    at = 0
+    while at < len(lines):
+        if lines[at].startswith("|"):
+            end = next((n for n in range(at, len(lines)) if lines[n][:1] != "|"), len(lines))
+            yield at, [cells_of(line) for line in lines[at:end] if not line.startswith("|--")]
+            at = end
+        at += 1
+
+
+def table(page, *head):
+    """The lines of the page, and the one table in it whose head begins so: its place and rows."""
+    lines = lines_of(page)
+    found = [(at, rows) for at, rows in tables_of(lines) if rows[0][: len(head)] == list(head)]
+    if len(found) != 1:
+        raise Missing(f"{page} has {len(found)} tables whose head begins with {' | '.join(head)}")
+    return lines, *found[0]
+
+
+def section(page, *head):
+    """The lines of the section that has this table, without its heading."""
+    lines, at, _ = table(page, *head)
+    begin = max((n for n in range(at) if re.match(r"##? ", lines[n])), default=-1) + 1
+    ends = (n for n in range(at, len(lines)) if re.match(r"##? ", lines[n]))
+    return lines[begin : next(ends, len(lines))]
+
+
+def first_console(page):
+    """The lines of the first block of commands on a page."""
+    lines = lines_of(page)
+    if "```console" not in lines:
+        raise Missing(f"{page} has no block of commands")
+    begin = lines.index("```console") + 1
+    return lines[begin : lines.index("```", begin)]
+
+
+def commands():
+    """The commands of rio: the words of each after the program's name."""
+    _, _, rows = table("docs/running.md", "words")
+    found = [re.findall(r"`rio ([^`]+)`", row[0]) for row in rows[1:]]
+    if not all(found):
+        raise Missing("docs/running.md has a row of words that does not begin with a command of rio")
+    return [words for row in found for words in row]
+
+
+def releases():
+    """The releases, the newest first: the version, the date, and the lines of what came. Those of
+    what is not released yet have no version and no date."""
+    found = []
+    for line in lines_of("CHANGELOG.md"):
+        if line.startswith("## "):
+            version, date = re.search(r"\d+\.\d+\.\d+", line), re.search(r"\d{4}-\d\d-\d\d", line)
+            if (version is None) != (date is None):
+                raise Missing(f"CHANGELOG.md: '{line}' lacks a version or a date")
+            found.append((version and version[0], date and date[0], []))
+        elif found:
+            found[-1][2].append(line)
+    if not found:
+        raise Missing("CHANGELOG.md has no head of a release")
+    return found
