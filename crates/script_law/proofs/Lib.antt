@@ -1,0 +1,11 @@
+pub mod Choosing
+pub mod NumberWords
+pub mod NodeWords
+pub mod PortWords
+pub mod HexWords
+pub mod TakingWords
+pub mod TakingLines
+pub mod FormChoice
+pub mod ReasonChoice
+pub mod LineChoice
+pub mod TextChoice
