@@ -1,20 +1,17 @@
 -- No reason hits a line of a trace.
-use Rattle.std.proofs.Common.{◌≡◌, ℕ, ◌+◌, ◌%◌, ◌<◌, ◌++◌, not, Bool, true, false, List, [], ◌∷◌, length, Option, Some, None, IsSome, refl, sym, ap, ◌∙◌, subst, arith, append_assoc, if◌then◌else◌}
+use Rattle.std.proofs.Common.{◌≡◌, ℕ, ◌+◌, ◌%◌, ◌++◌, Bool, true, false, List, [], ◌∷◌, length, Option, Some, None, IsSome, refl, sym, ap, ◌∙◌, subst, arith, append_assoc, if◌then◌else◌}
 use Rattle.std.specs.List.{AllByRecursion}
 use Rattle.std.proofs.lemmas.List.{append-nil}
 use Rattle.rio_chars.specs.declared.chars.Char.{Char}
 use Rattle.link_model.specs.declared.event.Event.{Event}
 use Rattle.link_model.specs.declared.event.Event.TheVariants.{Pkt}
-use Rattle.link_model.proofs.PlacesLaws.{place_after-none}
-use Rattle.link_model.specs.Places.{start as place_start}
-use Rattle.link_wires.specs.Kept.{behind, behind_some, behind_all, IsSubsequence}
-use Rattle.link_wires.specs.Wires.{fits}
+use Rattle.link_wires.specs.Kept.{behind, IsSubsequence}
 use Rattle.link_wires.specs.declared.edits.Edit.{Edit}
 use Rattle.link_wires.proofs.KeptLaws.{all_then, finds_all}
 use Rattle.fabric_script.specs.declared.ports.PortRef.{PortRef}
 use Rattle.fabric_script.specs.declared.lines.Numbered.{Numbered}
-use Rattle.fabric_model.specs.Network.{Network, same_port, peer_in}
-use Rattle.fabric_model.specs.Steps.{Hold, Free, Step, Linked, AtNode, ByDevice, Needs, after_all, LegalFrom}
+use Rattle.fabric_model.specs.Network.{Network, peer_in}
+use Rattle.fabric_model.specs.Steps.{Hold, Free, Step, Linked, AtNode, ByDevice, LegalFrom}
 use Rattle.fabric_model.proofs.Joining.{legal_parts}
 use Rattle.fabric_model.proofs.Peers.{same_port-refl}
 use Rattle.fabric_trace.specs.Lines.{Sent, Got, Fired, TraceLine, Begun, Stepped, Signed, Lacked, Ended, Undetected, steps_of}
@@ -25,19 +22,18 @@ use Rattle.fabric_trace.specs.Frees.{frees_by}
 use Rattle.fabric_trace.specs.Parts.{Made}
 use Rattle.fabric_trace.specs.Runs.{bare, set_up_all, begins, start, Runs}
 use Rattle.fabric_trace.specs.SetUps.{IsSetUp, MaySetUpAll}
-use Rattle.fabric_trace.specs.Wires.{WireChars, IsFrontOf, StoodThere, WireFold}
-use Rattle.fabric_trace.proofs.Coming.{none_within, numbered-append}
+use Rattle.fabric_trace.specs.Wires.{WireChars, StoodThere}
+use Rattle.fabric_trace.proofs.Coming.{numbered-append}
 use Rattle.fabric_trace.proofs.Folding.{network_is}
-use Rattle.fabric_trace.proofs.FreesRead.{frees_all, start_freed}
+use Rattle.fabric_trace.proofs.FreesRead.{frees_all}
 use Rattle.fabric_trace.proofs.Fronting.{cut, cut_came}
 use Rattle.fabric_trace.proofs.HoldsRead.{got-append, holds-append}
 use Rattle.fabric_trace.proofs.Keeping.{steps_of-append}
-use Rattle.fabric_trace.proofs.Starting.{set_up_bare, good_start, legal, made, wires_fold, holds_came}
-use Rattle.fabric_trace.specs.Allowance.{allowance, raised_all, FreesAllowed}
+use Rattle.fabric_trace.proofs.Starting.{set_up_bare, legal, made, wires_fold, holds_came}
+use Rattle.fabric_trace.specs.Allowance.{allowance, FreesAllowed}
 use Rattle.fabric_trace.specs.Owned.{HasEvent, IsOwned, AreOwned}
-use Rattle.fabric_trace.specs.Shown.{Shown}
 use Rattle.trace_check.specs.Wires.{are_short, wires_after}
-use Rattle.trace_check.specs.Checks.{freed, net_after, unheld, EditFits, OnWires, IsStep, HasCome, IsAllowed, MaySend, Passes, PassAll}
+use Rattle.trace_check.specs.Checks.{freed, net_after, EditFits, OnWires, IsStep, HasCome, IsAllowed, MaySend, Passes, PassAll}
 use Rattle.fabric_trace.proofs.Allowing.{allowed_at, freed_is, heard_is}
 use Rattle.fabric_trace.proofs.Sending.{owned_at}
 use Rattle.fabric_trace.proofs.Shows.{runs_shown}
@@ -45,28 +41,44 @@ use Rattle.trace_check.proofs.Edits.{ToldBy, ToldAt, EditsTold, told_at, runs_to
 
 -- ---- wires
 
-edit_fits : (s : Seen) (edit : Option (PortRef × Edit)) (short : Bool) → ToldBy s edit short → EditFits (chars_of s) short edit
+edit_fits : (s : Seen) (edit : Option (PortRef × Edit)) (short : Bool) → ToldBy s edit short
+    → EditFits (chars_of s) short edit
 edit_fits s None short told = tt
 edit_fits s (Some edit) true told = tt
 edit_fits s (Some edit) false told = told
 
-on_wires : (s : Seen) (links : List (PortRef × PortRef)) (line : TraceLine) (behind : List TraceLine) → s.network.links ≡ links → ToldAt s line behind → StoodThere links (chars_of s) line → IsOwned s line
+on_wires : (s : Seen) (links : List (PortRef × PortRef)) (line : TraceLine)
+    (behind : List TraceLine) → s.network.links ≡ links → ToldAt s line behind → StoodThere links
+    (chars_of s) line → IsOwned s line
     → OnWires links (chars_of s) line (are_short behind)
-on_wires s links (Begun line) behind same told stood each = edit_fits s (edit_of line) (are_short behind) told
+on_wires s links (Begun line) behind same told stood each = edit_fits s (edit_of line)
+    (are_short behind) told
 on_wires s links (Stepped step) behind same told stood each = tt
 on_wires s links (Signed (Sent p chars)) behind same told stood each = tt
 on_wires s links (Signed (Got q chars)) behind same told stood each = stood
-on_wires s links (Signed (Fired p)) behind same told stood each = record { peer = each.peer; peer_is = ap (λ l. peer_in l p) (sym same) ∙ each.peer_is; near = each.near; far = each.far }
+on_wires s links (Signed (Fired p)) behind same told stood each =
+    record {
+      peer = each.peer;
+      peer_is = ap (λ l. peer_in l p) (sym same) ∙ each.peer_is;
+      near =
+          each.near;
+      far = each.far;
+    }
 on_wires s links (Lacked lack) behind same told stood each = tt
 on_wires s links Ended behind same told stood each = tt
 on_wires s links (Undetected number q e) behind same told stood each = tt
 
 -- ---- steps
 
-is_step : (net end : Network) (before behind : List TraceLine) (line : TraceLine) → LegalFrom net (steps_of (before ++ line ∷ behind)) end → IsStep (net_after net before) line
-is_step net end before behind line legal = by_line line (legal_parts net (steps_of before) (steps_of (line ∷ behind)) end (subst (λ (l : List Step). LegalFrom net l end) (steps_of-append before (line ∷ behind)) legal)).1
+is_step : (net end : Network) (before behind : List TraceLine) (line : TraceLine) → LegalFrom net
+    (steps_of (before ++ line ∷ behind)) end → IsStep (net_after net before) line
+is_step net end before behind line legal = by_line line
+    (legal_parts net (steps_of before) (steps_of (line ∷ behind)) end
+    (subst (λ (l : List Step). LegalFrom net l end) (steps_of-append before
+    (line ∷ behind)) legal)).1
   where
-    by_line : (line : TraceLine) → LegalFrom (net_after net before) (steps_of (line ∷ behind)) end → IsStep (net_after net before) line
+    by_line : (line : TraceLine) → LegalFrom (net_after net before) (steps_of (line ∷ behind)) end
+        → IsStep (net_after net before) line
     by_line (Begun line) legal = tt
     by_line (Stepped step) legal = legal.0
     by_line (Signed sign) legal = tt
@@ -76,19 +88,31 @@ is_step net end before behind line legal = by_line line (legal_parts net (steps_
 
 -- ---- holds
 
-hold_came : (before : List TraceLine) (q : PortRef) (packet : List ℕ) → HoldsCame q (before ++ Stepped (Linked (Hold q packet)) ∷ []) → HasCome before (Stepped (Linked (Hold q packet)))
+hold_came : (before : List TraceLine) (q : PortRef) (packet : List ℕ) → HoldsCame q
+    (before ++ Stepped (Linked (Hold q packet)) ∷ []) → HasCome before
+    (Stepped (Linked (Hold q packet)))
 hold_came before q packet came =
     let line = Stepped (Linked (Hold q packet)) in
-    let gets : got q (before ++ line ∷ []) ≡ got q before = got-append q before (line ∷ []) ∙ append-nil (got q before) in
-    let one : holds q (line ∷ []) ≡ packet ∷ [] = ap (λ x. (if x then packet ∷ [] else []) ++ []) (same_port-refl q) in
-    let has : holds q (before ++ line ∷ []) ≡ holds q before ++ packet ∷ [] = holds-append q before (line ∷ []) ∙ ap (λ (l : List (List ℕ)). holds q before ++ l) one in
-    let all : numbered 0 (holds q (before ++ line ∷ [])) ≡ numbered 0 (holds q before) ++ Pkt (length (holds q before) % 32) packet ∷ [] =
-    ap (numbered 0) has ∙ numbered-append 0 (length (holds q before)) (holds q before) (packet ∷ []) (omega arith) in
-    let there : IsSubsequence (numbered 0 (holds q before) ++ Pkt (length (holds q before) % 32) packet ∷ []) (says (got q before)) =
-    subst (λ (l : List Event). IsSubsequence l (says (got q before))) all (subst (λ (l : List Char). IsSubsequence (numbered 0 (holds q (before ++ line ∷ []))) (says l)) gets came) in
-    subst IsSome (all_then (numbered 0 (holds q before)) (says (got q before)) (Pkt (length (holds q before) % 32) packet)) (finds_all there)
+    let gets : got q (before ++ line ∷ []) ≡ got q before = got-append q before (line ∷ [])
+    ∙ append-nil (got q before) in
+    let one : holds q (line ∷ []) ≡ packet ∷ [] = ap (λ x. (if x then packet ∷ [] else []) ++ [])
+    (same_port-refl q) in
+    let has : holds q (before ++ line ∷ []) ≡ holds q before ++ packet ∷ [] = holds-append q before
+    (line ∷ []) ∙ ap (λ (l : List (List ℕ)). holds q before ++ l) one in
+    let all : numbered 0 (holds q (before ++ line ∷ [])) ≡ numbered 0 (holds q before) ++ Pkt
+    (length (holds q before) % 32) packet ∷ [] =
+    ap (numbered 0) has ∙ numbered-append 0 (length (holds q before)) (holds q before)
+    (packet ∷ []) (omega arith) in
+    let there : IsSubsequence (numbered 0 (holds q before) ++ Pkt
+    (length (holds q before) % 32) packet ∷ []) (says (got q before)) =
+    subst (λ (l : List Event). IsSubsequence l (says (got q before))) all
+    (subst (λ (l : List Char). IsSubsequence (numbered 0 (holds q (before ++ line ∷ [])))
+    (says l)) gets came) in
+    subst IsSome (all_then (numbered 0 (holds q before)) (says (got q before))
+    (Pkt (length (holds q before) % 32) packet)) (finds_all there)
 
-has_come : (before behind : List TraceLine) (line : TraceLine) → ((q : PortRef) → HoldsCame q (before ++ line ∷ [])) → HasCome before line
+has_come : (before behind : List TraceLine) (line : TraceLine) →
+    ((q : PortRef) → HoldsCame q (before ++ line ∷ [])) → HasCome before line
 has_come before behind (Begun line) came = tt
 has_come before behind (Stepped (Linked (Hold q packet))) came = hold_came before q packet (came q)
 has_come before behind (Stepped (Linked (Free p packet))) came = tt
@@ -105,7 +129,9 @@ frees_are : (p : PortRef) (lines : List TraceLine) → freed p lines ≡ frees_a
 frees_are p [] = refl
 frees_are p (line ∷ lines) = ap (λ n. frees_by p line + n) (frees_are p lines)
 
-free_allowed : (before behind : List TraceLine) (p : PortRef) (packet : List ℕ) → FreesAllowed p [] 0 (before ++ Stepped (Linked (Free p packet)) ∷ behind) → IsAllowed before (Stepped (Linked (Free p packet)))
+free_allowed : (before behind : List TraceLine) (p : PortRef) (packet : List ℕ)
+    → FreesAllowed p [] 0 (before ++ Stepped (Linked (Free p packet)) ∷ behind) → IsAllowed before
+    (Stepped (Linked (Free p packet)))
 free_allowed before behind p packet all =
     let low = allowed_at p before behind packet [] 0 all in
     let count = freed_is p before 0 in
@@ -113,10 +139,12 @@ free_allowed before behind p packet all =
     let chars = ap allowance (heard_is p before []) in
     omega (arith, low, count, same, chars)
 
-is_allowed : (before behind : List TraceLine) (line : TraceLine) → ((p : PortRef) → FreesAllowed p [] 0 (before ++ line ∷ behind)) → IsAllowed before line
+is_allowed : (before behind : List TraceLine) (line : TraceLine) →
+    ((p : PortRef) → FreesAllowed p [] 0 (before ++ line ∷ behind)) → IsAllowed before line
 is_allowed before behind (Begun line) all = tt
 is_allowed before behind (Stepped (Linked (Hold q packet))) all = tt
-is_allowed before behind (Stepped (Linked (Free p packet))) all = free_allowed before behind p packet (all p)
+is_allowed before behind (Stepped (Linked (Free p packet))) all =
+    free_allowed before behind p packet (all p)
 is_allowed before behind (Stepped (AtNode step)) all = tt
 is_allowed before behind (Stepped (ByDevice step)) all = tt
 is_allowed before behind (Signed sign) all = tt
@@ -126,10 +154,12 @@ is_allowed before behind (Undetected number q e) all = tt
 
 -- ---- packets that are sent
 
-may_send : (s : Seen) (net : Network) (line : TraceLine) → s.network ≡ net → IsOwned s line → MaySend net line
+may_send : (s : Seen) (net : Network) (line : TraceLine) → s.network ≡ net → IsOwned s line
+    → MaySend net line
 may_send s net (Begun line) same each = tt
 may_send s net (Stepped step) same each = tt
-may_send s net (Signed (Sent p chars)) same each = subst (λ (n : Network). AllByRecursion (HasEvent n p) (says chars)) same each
+may_send s net (Signed (Sent p chars)) same each = subst
+    (λ (n : Network). AllByRecursion (HasEvent n p) (says chars)) same each
 may_send s net (Signed (Got q chars)) same each = tt
 may_send s net (Signed (Fired p)) same each = tt
 may_send s net (Lacked lack) same each = tt
@@ -148,13 +178,19 @@ line_passes net before behind line is all told owned allowed =
     let s = seen s0 before in
     let links : s.network.links ≡ net.links = links_are s0 before in
     let own = owned_at before behind line s0 owned in
-    let wires : wires_after net.links (λ p. []) before (line ∷ behind) ≡ chars_of s = wires_are before (line ∷ behind) s0 net.links refl told in
-    let stood = stood_at before behind line s0 net.links refl (wires_fold net (before ++ line ∷ behind) is all) in
-    let one : before ++ line ∷ behind ≡ (before ++ line ∷ []) ++ behind = sym (append_assoc before (line ∷ []) behind) in
+    let wires : wires_after net.links (λ p. []) before (line ∷ behind) ≡ chars_of s =
+    wires_are before (line ∷ behind) s0 net.links refl told in
+    let stood = stood_at before behind line s0 net.links refl
+    (wires_fold net (before ++ line ∷ behind) is all) in
+    let one : before ++ line ∷ behind ≡ (before ++ line ∷ []) ++ behind = sym
+    (append_assoc before (line ∷ []) behind) in
     record {
-      wires = subst (λ (w : WireChars). OnWires net.links w line (are_short behind)) (sym wires) (on_wires s net.links line behind links (told_at before behind line s0 told) stood own);
+      wires = subst (λ (w : WireChars). OnWires net.links w line (are_short behind)) (sym wires)
+          (on_wires s net.links line behind links (told_at before behind line s0 told) stood own);
       step = is_step net _ before behind line (legal net (before ++ line ∷ behind) is all);
-      came = has_come before behind line (λ q. cut_came q s0 (before ++ line ∷ []) (λ lines made. holds_came net lines q is made) (cut (before ++ line ∷ []) behind one all));
+      came = has_come before behind line (λ q. cut_came q s0 (before ++ line ∷ [])
+          (λ lines made. holds_came net lines q is made)
+          (cut (before ++ line ∷ []) behind one all));
       allowed = is_allowed before behind line allowed;
       sends = may_send s (net_after net before) line (network_is s0 before) own;
     }

@@ -6,3 +6,11 @@ pub mod OneLine
 pub mod Legal
 pub mod Running
 pub mod ReadLaws
+pub mod FieldLaws
+pub mod KeywordLaws
+pub mod HearingLaws
+pub mod InputLaws
+pub mod StopLaws
+pub mod TableLaws
+pub mod StateLaws
+pub mod NetworkLaws

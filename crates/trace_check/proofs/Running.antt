@@ -1,5 +1,5 @@
 -- What a checker keeps of a port decides what the lines before say.
-use Rattle.std.proofs.Common.{◌≡◌, ℕ, suc, ◌+◌, ◌%◌, ◌<◌, ◌++◌, Bool, true, false, List, [], ◌∷◌, length, Option, Some, None, IsSome, option_map, unwrap_or, refl, sym, ap, ◌∙◌, subst, arith, length-append, if◌then◌else◌}
+use Rattle.std.proofs.Common.{◌≡◌, ℕ, ◌+◌, ◌%◌, ◌++◌, Bool, true, false, List, [], ◌∷◌, length, Option, Some, None, IsSome, option_map, unwrap_or, refl, sym, ap, ◌∙◌, subst, arith, length-append, if◌then◌else◌}
 use Rattle.std.proofs.lemmas.List.{append-nil}
 use Rattle.rio_chars.specs.declared.chars.Char.{Char}
 use Rattle.link_model.specs.declared.event.Event.{Event}
@@ -23,24 +23,28 @@ use Rattle.fabric_trace.proofs.Folding.{says_none}
 use Rattle.fabric_trace.proofs.HoldsRead.{got-append, holds-append}
 use Rattle.fabric_trace.specs.Allowance.{allowance, raised_all}
 use Rattle.trace_check.specs.Checks.{freed, unheld, HasCome}
-use Rattle.trace_check.specs.Running.{Come, packets_of, behind_packet, PortRun, new_run, hears, holds_one, port_after, MayHold}
+use Rattle.trace_check.specs.Running.{Come, packets_of, behind_packet, PortRun, new_run, hears, holds_one, frees_one, port_after, MayHold}
 use Rattle.fabric_trace.proofs.Raising.{raised-append}
 
 -- ---- packets alone
 
-packets-append : (xs ys : List Event) → packets_of (xs ++ ys) ≡ packets_of xs ++ packets_of ys
+pub packets-append : (xs ys : List Event) → packets_of (xs ++ ys) ≡ packets_of xs ++ packets_of ys
 packets-append [] ys = refl
 packets-append (Ctl symbol ∷ xs) ys = packets-append xs ys
-packets-append (Pkt ack packet ∷ xs) ys = ap (λ (l : List Come). (ack, packet) ∷ l) (packets-append xs ys)
+packets-append (Pkt ack packet ∷ xs) ys = ap (λ (l : List Come). (ack, packet) ∷ l)
+    (packets-append xs ys)
 packets-append (Bad cause ∷ xs) ys = packets-append xs ys
 
 -- a packet is found among the packets as among all events
-pub behind_is : (ack : ℕ) (packet : List ℕ) (events : List Event) → option_map packets_of (behind (Pkt ack packet) events) ≡ behind_packet ack packet (packets_of events)
+pub behind_is : (ack : ℕ) (packet : List ℕ) (events : List Event) → option_map packets_of
+    (behind (Pkt ack packet) events) ≡ behind_packet ack packet (packets_of events)
 behind_is ack packet [] = refl
 behind_is ack packet (Ctl symbol ∷ events) = behind_is ack packet events
 behind_is ack packet (Bad cause ∷ events) = behind_is ack packet events
 behind_is ack packet (Pkt b q ∷ events) =
-    elim (same_event (Pkt b q) (Pkt ack packet)) as (λ x. option_map packets_of (if x then Some events else behind (Pkt ack packet) events) ≡ (if x then Some (packets_of events) else behind_packet ack packet (packets_of events))) [
+    elim (same_event (Pkt b q) (Pkt ack packet)) as (λ x. option_map packets_of
+    (if x then Some events else behind (Pkt ack packet) events) ≡
+    (if x then Some (packets_of events) else behind_packet ack packet (packets_of events))) [
       | true ↦ refl
       | false ↦ behind_is ack packet events
     ]
@@ -49,7 +53,7 @@ behind_is ack packet (Pkt b q ∷ events) =
 
 pub record IsRun (p : PortRef) (before : List TraceLine) (run : PortRun) : Type 0 where
   pub place : run.place ≡ place_after start (got p before)
-  pub held : run.held ≡ length (holds p before)
+  pub next : run.next ≡ length (holds p before) % 32
   pub freed_is : run.freed ≡ freed p before
   pub allowed : run.allowed ≡ allowance (got p before)
   pub left : List Event
@@ -57,18 +61,30 @@ pub record IsRun (p : PortRef) (before : List TraceLine) (run : PortRun) : Type 
   pub packets : run.unheld ≡ packets_of left
 
 pub new_is : (p : PortRef) → IsRun p [] new_run
-new_is p = record { place = sym (place_after-none start); held = refl; freed_is = refl; allowed = ap (raised_all 0) (sym none); left = []; found = ap (λ (l : List Event). Some l) none; packets = refl }
+new_is p = record {
+  place = sym (place_after-none start);
+  next = refl;
+  freed_is = refl;
+  allowed =
+      ap (raised_all 0) (sym none);
+  left = [];
+  found = ap (λ (l : List Event). Some l) none;
+  packets = refl;
+}
   where
     none : says [] ≡ []
     none = says_none
 
 -- what a hold asks of what is kept is what the lines before say
-pub hold_decides : (p : PortRef) (before : List TraceLine) (run : PortRun) (packet : List ℕ) → IsRun p before run
-    → option_map packets_of (behind_some (behind (Pkt (length (holds p before) % 32) packet)) (unheld p before)) ≡ behind_packet (run.held % 32) packet run.unheld
+pub hold_decides : (p : PortRef) (before : List TraceLine) (run : PortRun) (packet : List ℕ)
+    → IsRun p before run
+    → option_map packets_of (behind_some (behind (Pkt (length (holds p before) % 32) packet))
+    (unheld p before)) ≡ behind_packet run.next packet run.unheld
 hold_decides p before run packet is =
-    ap (λ o. option_map packets_of (behind_some (behind (Pkt (length (holds p before) % 32) packet)) o)) is.found
+    ap (λ o. option_map packets_of (behind_some (behind (Pkt (length
+    (holds p before) % 32) packet)) o)) is.found
     ∙ behind_is (length (holds p before) % 32) packet is.left
-    ∙ (λ i. behind_packet (sym is.held i % 32) packet (sym is.packets i))
+    ∙ (λ i. behind_packet (sym is.next i) packet (sym is.packets i))
 
 some_map : (o : Option (List Event)) → IsSome (option_map packets_of o) → IsSome o
 some_map None h = absurd cc
@@ -78,16 +94,23 @@ map_some : (o : Option (List Event)) → IsSome o → IsSome (option_map packets
 map_some None h = absurd cc
 map_some (Some x) h = refl
 
-pub may_hold : (p : PortRef) (before : List TraceLine) (run : PortRun) (packet : List ℕ) → IsRun p before run
-    → (MayHold run packet → HasCome before (Stepped (Linked (Hold p packet)))) × (HasCome before (Stepped (Linked (Hold p packet))) → MayHold run packet)
+pub may_hold : (p : PortRef) (before : List TraceLine) (run : PortRun) (packet : List ℕ)
+    → IsRun p before run
+    → (MayHold run packet → HasCome before (Stepped (Linked (Hold p packet)))) ×
+    (HasCome before (Stepped (Linked (Hold p packet))) → MayHold run packet)
 may_hold p before run packet is =
     let same = hold_decides p before run packet is in
-    let looked = behind_some (behind (Pkt (length (holds p before) % 32) packet)) (unheld p before) in
-    (λ may. some_map looked (subst IsSome (sym same) may), λ came. subst IsSome same (map_some looked came))
+    let looked = behind_some (behind (Pkt (length (holds p before) % 32) packet))
+    (unheld p before) in (
+      λ may. some_map looked (subst IsSome (sym same) may),
+      λ came. subst IsSome same
+          (map_some looked came),
+    )
 
 -- ---- one more line
 
-freed-append : (p : PortRef) (before : List TraceLine) (line : TraceLine) → freed p (before ++ line ∷ []) ≡ freed p before + frees_by p line
+freed-append : (p : PortRef) (before : List TraceLine) (line : TraceLine) → freed p
+    (before ++ line ∷ []) ≡ freed p before + frees_by p line
 freed-append p [] line = omega arith
 freed-append p (x ∷ before) line = let more = freed-append p before line in omega (arith, more)
 
@@ -97,10 +120,11 @@ record SaysSame (p : PortRef) (before : List TraceLine) (line : TraceLine) : Typ
   has : holds p (before ++ line ∷ []) ≡ holds p before
   frees : freed p (before ++ line ∷ []) ≡ freed p before
 
-same_run : (p : PortRef) (before : List TraceLine) (line : TraceLine) (run : PortRun) → SaysSame p before line → IsRun p before run → IsRun p (before ++ line ∷ []) run
+same_run : (p : PortRef) (before : List TraceLine) (line : TraceLine) (run : PortRun)
+    → SaysSame p before line → IsRun p before run → IsRun p (before ++ line ∷ []) run
 same_run p before line run same is = record {
   place = is.place ∙ ap (place_after start) (sym same.gets);
-  held = is.held ∙ ap length (sym same.has);
+  next = is.next ∙ ap (λ (l : List (List ℕ)). length l % 32) (sym same.has);
   freed_is = is.freed_is ∙ sym same.frees;
   allowed = is.allowed ∙ ap (λ (l : List Char). raised_all 0 (says l)) (sym same.gets);
   left = is.left;
@@ -108,48 +132,69 @@ same_run p before line run same is = record {
   packets = is.packets;
 }
 
-hears_run : (p : PortRef) (before : List TraceLine) (line : TraceLine) (run : PortRun) (chars : List Char) → got p (before ++ line ∷ []) ≡ got p before ++ chars → holds p (before ++ line ∷ []) ≡ holds p before
-    → freed p (before ++ line ∷ []) ≡ freed p before → IsRun p before run → IsRun p (before ++ line ∷ []) (hears run chars)
+hears_run : (p : PortRef) (before : List TraceLine) (line : TraceLine) (run : PortRun)
+    (chars : List Char) → got p (before ++ line ∷ []) ≡ got p before ++ chars → holds p
+    (before ++ line ∷ []) ≡ holds p before
+    → freed p (before ++ line ∷ []) ≡ freed p before → IsRun p before run → IsRun p
+    (before ++ line ∷ []) (hears run chars)
 hears_run p before line run chars gets has frees is =
     let said_is : says (got p (before ++ line ∷ [])) ≡ says (got p before) ++ said run.place chars =
-    ap says gets ∙ said-append start (got p before) chars ∙ ap (λ (x : Place). says (got p before) ++ said x chars) (sym is.place) in
+    ap says gets ∙ said-append start (got p before) chars ∙ ap
+    (λ (x : Place). says (got p before) ++ said x chars) (sym is.place) in
     record {
-      place = ap (λ (x : Place). place_after x chars) is.place ∙ sym (place_after-append start (got p before) chars) ∙ ap (place_after start) (sym gets);
-      held = is.held ∙ ap length (sym has);
+      place = ap (λ (x : Place). place_after x chars) is.place ∙ sym
+          (place_after-append start (got p before) chars) ∙ ap (place_after start) (sym gets);
+      next = is.next ∙ ap (λ (l : List (List ℕ)). length l % 32) (sym has);
       freed_is = is.freed_is ∙ sym frees;
-      allowed = ap (λ n. raised_all n (said run.place chars)) is.allowed ∙ sym (raised-append (says (got p before)) (said run.place chars) 0) ∙ ap (raised_all 0) (sym said_is);
+      allowed = ap (λ n. raised_all n (said run.place chars)) is.allowed ∙ sym
+          (raised-append (says (got p before)) (said run.place chars) 0) ∙ ap (raised_all 0)
+          (sym said_is);
       left = is.left ++ said run.place chars;
-      found = (λ i. behind_all (numbered 0 (has i)) (said_is i)) ∙ all-more (numbered 0 (holds p before)) (says (got p before)) is.left (said run.place chars) is.found;
-      packets = ap (λ (l : List Come). l ++ packets_of (said run.place chars)) is.packets ∙ sym (packets-append is.left (said run.place chars));
+      found = (λ i. behind_all (numbered 0 (has i)) (said_is i)) ∙ all-more
+          (numbered 0 (holds p before)) (says (got p before)) is.left
+          (said run.place chars) is.found;
+      packets = ap (λ (l : List Come). l ++ packets_of (said run.place chars)) is.packets ∙ sym
+          (packets-append is.left (said run.place chars));
     }
 
-holds_by : (o : Option (List Event)) → IsSome o → (left : List Event) × (o ≡ Some left) × (unwrap_or (option_map packets_of o) [] ≡ packets_of left)
+holds_by : (o : Option (List Event)) → IsSome o → (left : List Event) × (o ≡ Some left) ×
+    (unwrap_or (option_map packets_of o) [] ≡ packets_of left)
 holds_by None h = absurd cc
 holds_by (Some left) h = (left, refl, refl)
 
-holds_run : (p : PortRef) (before : List TraceLine) (line : TraceLine) (run : PortRun) (packet : List ℕ) → got p (before ++ line ∷ []) ≡ got p before → holds p (before ++ line ∷ []) ≡ holds p before ++ packet ∷ []
-    → freed p (before ++ line ∷ []) ≡ freed p before → MayHold run packet → IsRun p before run → IsRun p (before ++ line ∷ []) (holds_one run packet)
+holds_run : (p : PortRef) (before : List TraceLine) (line : TraceLine) (run : PortRun)
+    (packet : List ℕ) → got p (before ++ line ∷ []) ≡ got p before → holds p (before ++ line ∷ [])
+    ≡ holds p before ++ packet ∷ []
+    → freed p (before ++ line ∷ []) ≡ freed p before → MayHold run packet → IsRun p before run
+    → IsRun p (before ++ line ∷ []) (holds_one run packet)
 holds_run p before line run packet gets has frees may is =
-    let looked = behind_some (behind (Pkt (length (holds p before) % 32) packet)) (unheld p before) in
+    let looked = behind_some (behind (Pkt (length (holds p before) % 32) packet))
+    (unheld p before) in
     let rest = holds_by looked ((may_hold p before run packet is).0 may) in
-    let all : numbered 0 (holds p (before ++ line ∷ [])) ≡ numbered 0 (holds p before) ++ Pkt (length (holds p before) % 32) packet ∷ [] =
-    ap (numbered 0) has ∙ numbered-append 0 (length (holds p before)) (holds p before) (packet ∷ []) (omega arith) in
+    let all : numbered 0 (holds p (before ++ line ∷ [])) ≡ numbered 0 (holds p before) ++ Pkt
+    (length (holds p before) % 32) packet ∷ [] =
+    ap (numbered 0) has ∙ numbered-append 0 (length (holds p before)) (holds p before)
+    (packet ∷ []) (omega arith) in
     let longer = length-append (holds p before) (packet ∷ []) in
-    let count = is.held in
+    let count = is.next in
     record {
       place = is.place ∙ ap (place_after start) (sym gets);
-      held = (let now = ap length has in omega (arith, now, longer, count));
+      next = (let now = ap length has in omega (arith, now, longer, count));
       freed_is = is.freed_is ∙ sym frees;
       allowed = is.allowed ∙ ap (λ (l : List Char). raised_all 0 (says l)) (sym gets);
       left = rest.0;
-      found = (λ i. behind_all (all i) (says (gets i))) ∙ all_then (numbered 0 (holds p before)) (says (got p before)) (Pkt (length (holds p before) % 32) packet) ∙ rest.1;
+      found = (λ i. behind_all (all i) (says (gets i))) ∙ all_then (numbered 0 (holds p before))
+          (says (got p before)) (Pkt (length (holds p before) % 32) packet) ∙ rest.1;
       packets = ap (λ o. unwrap_or o []) (sym (hold_decides p before run packet is)) ∙ rest.2;
     }
 
-nothing_said : (p : PortRef) (before : List TraceLine) (line : TraceLine) → got p (line ∷ []) ≡ [] → holds p (line ∷ []) ≡ [] → frees_by p line ≡ 0 → SaysSame p before line
+nothing_said : (p : PortRef) (before : List TraceLine) (line : TraceLine) → got p (line ∷ []) ≡ []
+    → holds p (line ∷ []) ≡ [] → frees_by p line ≡ 0 → SaysSame p before line
 nothing_said p before line gets has frees = record {
-  gets = got-append p before (line ∷ []) ∙ ap (λ (l : List Char). got p before ++ l) gets ∙ append-nil (got p before);
-  has = holds-append p before (line ∷ []) ∙ ap (λ (l : List (List ℕ)). holds p before ++ l) has ∙ append-nil (holds p before);
+  gets = got-append p before (line ∷ []) ∙ ap (λ (l : List Char). got p before ++ l) gets
+      ∙ append-nil (got p before);
+  has = holds-append p before (line ∷ []) ∙ ap (λ (l : List (List ℕ)). holds p before ++ l) has
+      ∙ append-nil (holds p before);
   frees = (let more = freed-append p before line in omega (arith, more, frees));
 }
 
@@ -158,56 +203,82 @@ abbrev pub HoldsFit : PortRef → PortRun → TraceLine → Type 0
 HoldsFit p run (Stepped (Linked (Hold q packet))) = same_port p q ≡ true → MayHold run packet
 HoldsFit p run _ = Unit {0}
 
-pub run_on : (p : PortRef) (before : List TraceLine) (line : TraceLine) (run : PortRun) → HoldsFit p run line → IsRun p before run → IsRun p (before ++ line ∷ []) (port_after p run line)
-run_on p before (Begun line) run fit is = same_run p before (Begun line) run (nothing_said p before (Begun line) refl refl refl) is
+pub run_on : (p : PortRef) (before : List TraceLine) (line : TraceLine) (run : PortRun)
+    → HoldsFit p run line → IsRun p before run → IsRun p (before ++ line ∷ [])
+    (port_after p run line)
+run_on p before (Begun line) run fit is = same_run p before (Begun line) run
+    (nothing_said p before (Begun line) refl refl refl) is
 run_on p before (Stepped (Linked (Hold q packet))) run fit is = by_port (same_port p q) refl
   where
     line : TraceLine
     line = Stepped (Linked (Hold q packet))
 
-    by_port : (x : Bool) → same_port p q ≡ x → IsRun p (before ++ line ∷ []) (if x then holds_one run packet else run)
+    by_port : (x : Bool) → same_port p q ≡ x → IsRun p (before ++ line ∷ [])
+        (if x then holds_one run packet else run)
     by_port true own =
-        let one : holds p (line ∷ []) ≡ packet ∷ [] = ap (λ x. (if x then packet ∷ [] else []) ++ []) own in
+        let one : holds p (line ∷ []) ≡ packet ∷ [] = ap
+        (λ x. (if x then packet ∷ [] else []) ++ []) own in
         let none = freed-append p before line in
-        holds_run p before line run packet (got-append p before (line ∷ []) ∙ append-nil (got p before)) (holds-append p before (line ∷ []) ∙ ap (λ (l : List (List ℕ)). holds p before ++ l) one) (omega (arith, none)) (fit own) is
-    by_port false other = same_run p before line run (nothing_said p before line refl (ap (λ x. (if x then packet ∷ [] else []) ++ []) other) refl) is
+        holds_run p before line run packet (got-append p before (line ∷ []) ∙ append-nil
+        (got p before)) (holds-append p before (line ∷ []) ∙ ap
+        (λ (l : List (List ℕ)). holds p before ++ l) one) (omega (arith, none)) (fit own) is
+    by_port false other = same_run p before line run (nothing_said p before line refl
+        (ap (λ x. (if x then packet ∷ [] else []) ++ []) other) refl) is
 run_on p before (Stepped (Linked (Free q packet))) run fit is = by_port (same_port p q) refl
   where
     line : TraceLine
     line = Stepped (Linked (Free q packet))
 
-    by_port : (x : Bool) → same_port p q ≡ x → IsRun p (before ++ line ∷ []) (if x then record run { freed = run.freed + 1 } else run)
+    by_port : (x : Bool) → same_port p q ≡ x → IsRun p (before ++ line ∷ [])
+        (if x then frees_one run else run)
     by_port true own =
         let more = freed-append p before line in
         let one : frees_by p line ≡ 1 = ap (λ x. if x then 1 else 0) own in
         let count = is.freed_is in
-        let gets : got p (before ++ line ∷ []) ≡ got p before = got-append p before (line ∷ []) ∙ append-nil (got p before) in
-        let has : holds p (before ++ line ∷ []) ≡ holds p before = holds-append p before (line ∷ []) ∙ append-nil (holds p before) in
+        let gets : got p (before ++ line ∷ []) ≡ got p before = got-append p before (line ∷ [])
+        ∙ append-nil (got p before) in
+        let has : holds p (before ++ line ∷ []) ≡ holds p before = holds-append p before
+        (line ∷ []) ∙ append-nil (holds p before) in
         record {
           place = is.place ∙ ap (place_after start) (sym gets);
-          held = is.held ∙ ap length (sym has);
+          next = is.next ∙ ap (λ (l : List (List ℕ)). length l % 32) (sym has);
           freed_is = omega (arith, more, one, count);
           allowed = is.allowed ∙ ap (λ (l : List Char). raised_all 0 (says l)) (sym gets);
           left = is.left;
           found = (λ i. behind_all (numbered 0 (has i)) (says (gets i))) ∙ is.found;
           packets = is.packets;
         }
-    by_port false other = same_run p before line run (nothing_said p before line refl refl (ap (λ x. if x then 1 else 0) other)) is
-run_on p before (Stepped (AtNode step)) run fit is = same_run p before (Stepped (AtNode step)) run (nothing_said p before (Stepped (AtNode step)) refl refl refl) is
-run_on p before (Stepped (ByDevice step)) run fit is = same_run p before (Stepped (ByDevice step)) run (nothing_said p before (Stepped (ByDevice step)) refl refl refl) is
-run_on p before (Signed (Sent q chars)) run fit is = same_run p before (Signed (Sent q chars)) run (nothing_said p before (Signed (Sent q chars)) refl refl refl) is
+    by_port false other = same_run p before line run (nothing_said p before line refl refl
+        (ap (λ x. if x then 1 else 0) other)) is
+run_on p before (Stepped (AtNode step)) run fit is = same_run p before (Stepped (AtNode step)) run
+    (nothing_said p before (Stepped (AtNode step)) refl refl refl) is
+run_on p before (Stepped (ByDevice step)) run fit is = same_run p before
+    (Stepped (ByDevice step)) run (nothing_said p before
+    (Stepped (ByDevice step)) refl refl refl) is
+run_on p before (Signed (Sent q chars)) run fit is = same_run p before (Signed (Sent q chars)) run
+    (nothing_said p before (Signed (Sent q chars)) refl refl refl) is
 run_on p before (Signed (Got q chars)) run fit is = by_port (same_port p q) refl
   where
     line : TraceLine
     line = Signed (Got q chars)
 
-    by_port : (x : Bool) → same_port p q ≡ x → IsRun p (before ++ line ∷ []) (if x then hears run chars else run)
+    by_port : (x : Bool) → same_port p q ≡ x → IsRun p (before ++ line ∷ [])
+        (if x then hears run chars else run)
     by_port true own =
-        let one : got p (line ∷ []) ≡ chars = ap (λ x. (if x then chars else []) ++ []) own ∙ append-nil chars in
+        let one : got p (line ∷ []) ≡ chars = ap (λ x. (if x then chars else []) ++ []) own
+        ∙ append-nil chars in
         let none = freed-append p before line in
-        hears_run p before line run chars (got-append p before (line ∷ []) ∙ ap (λ (l : List Char). got p before ++ l) one) (holds-append p before (line ∷ []) ∙ append-nil (holds p before)) (omega (arith, none)) is
-    by_port false other = same_run p before line run (nothing_said p before line (ap (λ x. (if x then chars else []) ++ []) other) refl refl) is
-run_on p before (Signed (Fired q)) run fit is = same_run p before (Signed (Fired q)) run (nothing_said p before (Signed (Fired q)) refl refl refl) is
-run_on p before (Lacked lack) run fit is = same_run p before (Lacked lack) run (nothing_said p before (Lacked lack) refl refl refl) is
-run_on p before Ended run fit is = same_run p before Ended run (nothing_said p before Ended refl refl refl) is
-run_on p before (Undetected number q e) run fit is = same_run p before (Undetected number q e) run (nothing_said p before (Undetected number q e) refl refl refl) is
+        hears_run p before line run chars (got-append p before (line ∷ []) ∙ ap
+        (λ (l : List Char). got p before ++ l) one)
+        (holds-append p before (line ∷ []) ∙ append-nil (holds p before))
+        (omega (arith, none)) is
+    by_port false other = same_run p before line run (nothing_said p before line
+        (ap (λ x. (if x then chars else []) ++ []) other) refl refl) is
+run_on p before (Signed (Fired q)) run fit is = same_run p before (Signed (Fired q)) run
+    (nothing_said p before (Signed (Fired q)) refl refl refl) is
+run_on p before (Lacked lack) run fit is = same_run p before (Lacked lack) run
+    (nothing_said p before (Lacked lack) refl refl refl) is
+run_on p before Ended run fit is = same_run p before Ended run
+    (nothing_said p before Ended refl refl refl) is
+run_on p before (Undetected number q e) run fit is = same_run p before (Undetected number q e) run
+    (nothing_said p before (Undetected number q e) refl refl refl) is

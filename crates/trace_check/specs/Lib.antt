@@ -1,6 +1,12 @@
 pub mod Wires
 pub mod Checks
 pub mod Words
+pub mod Keywords
 pub mod Running
 pub mod Lawful
 pub mod Reads
+pub mod Inputs
+pub mod Stops
+pub mod Tables
+pub mod States
+pub mod Networks

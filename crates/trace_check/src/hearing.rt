@@ -1,7 +1,11 @@
 //! What a port has got, as far as later lines ask for it.
 
-ghost use Rattle.std.specs.Prelude.{◌≡◌, IsSome};
+ghost use Rattle.std.specs.Prelude.{◌≡◌, ◌++◌, ◌↔◌, ℕ, Some, IfOk, IsSome, IsTrue};
 ghost use Rattle.rio_symbols.specs.Fields.{Fields};
+ghost use Rattle.link_model.specs.declared.event.Event.{Event as AnEvent};
+ghost use Rattle.link_model.specs.declared.event.Event.TheVariants.{Ctl as ACtl};
+ghost use Rattle.fabric_trace.specs.Allowance.{raised};
+ghost use Rattle.trace_check.specs.Running.{new_run, run_of, hears, notes, told_events, packet_in, MayHold, MayFree, holds_one, frees_one};
 
 use rio_chars::Char;
 use rio_framer::{Framer, Told};
@@ -11,38 +15,36 @@ use rio_symbols::stype0::{LINK_RESPONSE, PACKET_ACCEPTED};
 use std::alloc::{AllocError, Global};
 use std::collections::VecDeque;
 
-/// A packet that came, with its ackID.
-#[derive(Drop)]
-struct Came {
-    ack: u8,
-    packet: Packet,
-}
-
-/// The reading of what a port got: where it stands, the packets that came behind the last one held,
-/// and how many packets the port held, freed and may free.
+/// The reading of what a port got: where it stands; the packets that came behind the last one held,
+/// each with its ackID; the ackID of the next to be held; and how many packets the port freed and
+/// may free.
 #[derive(Drop)]
 pub(crate) struct Hearing {
     framer: Framer,
-    unheld: VecDeque<Came>,
-    held: u64,
+    unheld: VecDeque<(u8, Packet)>,
+    next: u8,
     freed: u64,
     allowed: u64,
 }
 
 impl Hearing {
     /// Nothing was got.
-    pub(crate) fn new(alloc: Global) -> Hearing {
+    pub(crate) fn new(alloc: Global) -> Hearing
+        ensures { run_of result ≡ new_run }
+    {
         Hearing {
             framer: Framer::new(),
             unheld: VecDeque::new(alloc),
-            held: 0,
+            next: 0,
             freed: 0,
             allowed: 0,
         }
     }
 
     /// The port got characters.
-    pub(crate) fn hear(&mut self, chars: &[Char]) -> Result<(), AllocError> {
+    pub(crate) fn hear(&mut self, chars: &[Char]) -> Result<(), AllocError>
+        ensures { IfOk result (λ _. run_of self.new ≡ hears (run_of self.old) chars.now) }
+    {
         let mut left = chars;
         while !left.is_empty() {
             let (count, told) = self.framer.read_run(left);
@@ -54,63 +56,77 @@ impl Hearing {
 
     /// Notes what the last characters told.
     fn note(&mut self, told: Told) -> Result<(), AllocError>
-        requires { (symbol : Fields) → told ≡ Told.Ends symbol → IsSome self.old.framer.ended }
+        requires { (symbol : Fields) → told ≡ Told.Ends symbol
+            → IsSome self.old.framer.ended }
+        ensures { IfOk result (λ _. run_of self.new
+            ≡ notes (run_of self.old) (told_events told self.old.framer.ended)) }
     {
         match told {
-            Told::Ctl(symbol) => self.raise(&symbol),
+            Told::Ctl(symbol) => self.allowed = raised_by(self.allowed, &symbol)?,
             Told::Ends(symbol) => {
-                self.keep_packet()?;
-                self.raise(&symbol);
+                keep_packet(&mut self.unheld, &self.framer)?;
+                self.allowed = raised_by(self.allowed, &symbol)?;
             }
             Told::Bad(_) | Told::Nothing => {}
         }
         Ok(())
     }
 
-    /// Keeps the packet that the last character ended.
-    fn keep_packet(&mut self) -> Result<(), AllocError>
-        requires { IsSome self.old.framer.ended }
-    {
-        if let Ok((ack, form)) = self.framer.ended() {
-            let packet = Packet::from_form(form);
-            self.unheld.push_back(Came { ack, packet })?;
-        }
-        Ok(())
-    }
-
-    /// An acceptance of the packet whose turn it is allows one more to be freed. A link-response
-    /// allows all up to the next number that has its ackID modulo 32.
-    fn raise(&mut self, symbol: &Symbol) {
-        let next = (self.allowed % 32) as u8;
-        let more = match symbol.s0 {
-            PACKET_ACCEPTED => u8::from(symbol.p0 == next),
-            LINK_RESPONSE => (symbol.p0 % 32 + 32 - next) % 32,
-            _ => 0,
-        };
-        self.allowed = self.allowed.saturating_add(u64::from(more));
-    }
-
     /// The port holds a packet, if one came with the ackID whose turn it is.
-    pub(crate) fn hold(&mut self, packet: &Packet) -> bool {
-        let ack = (self.held % 32) as u8;
-        for _ in 0..self.unheld.len() {
-            match self.unheld.pop_front() {
-                Some(came) if came.ack == ack && came.packet == *packet => {
-                    self.held = self.held.saturating_add(1);
-                    return true;
-                }
-                _ => {}
+    pub(crate) fn hold(&mut self, packet: &Packet) -> bool
+        ensures may { IsTrue result ↔ MayHold (run_of self.old) packet.now }
+        ensures held { IsTrue result → run_of self.new ≡ holds_one (run_of self.old) packet.now }
+    {
+        while let Some((ack, came)) = self.unheld.pop_front() {
+            if ack == self.next && came == *packet {
+                self.next = self.next.wrapping_add(1) % 32;
+                return true;
             }
         }
         false
     }
 
     /// The port frees a packet, if it may.
-    pub(crate) fn free(&mut self) -> bool {
+    pub(crate) fn free(&mut self) -> bool
+        ensures may { IsTrue result ↔ MayFree (run_of self.old) }
+        ensures freed { IsTrue result → run_of self.new ≡ frees_one (run_of self.old) }
+    {
         if self.freed >= self.allowed {
             return false;
         }
-        self.freed = self.freed.saturating_add(1);
+        self.freed += 1;
         true
+    }
+}
+
+/// Keeps the packet that the last character ended.
+fn keep_packet(unheld: &mut VecDeque<(u8, Packet)>, framer: &Framer) -> Result<(), AllocError>
+    requires { IsSome framer.now.ended }
+    ensures kept { IfOk result
+        (λ _. unheld.new.items ≡ unheld.old.items ++ packet_in framer.now.ended) }
+    ensures quiet { (event : AnEvent) → framer.now.ended ≡ Some event
+        → (n : ℕ) → raised n event ≡ n }
+{
+    if let Ok((ack, form)) = framer.ended() {
+        unheld.push_back((ack, Packet::from_form(form)))?;
+    }
+    Ok(())
+}
+
+/// How many packets may be freed after a symbol. An acceptance of the packet whose turn it is allows
+/// one more. A link-response allows all up to the next number that has its ackID modulo 32. A count
+/// of 2^64 would take more characters than memory holds.
+fn raised_by(allowed: u64, symbol: &Symbol) -> Result<u64, AllocError>
+    ensures { IfOk result (λ count. count ≡ raised allowed (ACtl symbol.now)) }
+{
+    let next = allowed % 32;
+    let more = match symbol.s0 {
+        PACKET_ACCEPTED => u64::from(u64::from(symbol.p0) == next),
+        LINK_RESPONSE => (u64::from(symbol.p0) + 32 - next) % 32,
+        _ => 0,
+    };
+    match allowed.checked_add(more) {
+        Some(raised) => Ok(raised),
+        None => Err(AllocError),
     }
 }

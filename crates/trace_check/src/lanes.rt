@@ -1,8 +1,8 @@
 //! Packets that stand at a port, first in first out for each priority.
 
-ghost use Rattle.std.specs.Prelude.{◌≡◌, ◌<◌, length, slice_get, option_copied, IfOk};
+ghost use Rattle.std.specs.Prelude.{◌≡◌, ◌↔◌, ◌-◌, ◌<◌, length, Some, slice_get, IfOk, IsTrue};
 ghost use Rattle.rio_packets.specs.Fields.{prio_of};
-ghost use Rattle.link_buffers.specs.Queues.{list_at, appended, popped, no_packets};
+ghost use Rattle.link_buffers.specs.Queues.{list_at, appended, packet_count, popped, no_packets};
 
 use rio_packets::Packet;
 use std::alloc::{AllocError, Global};
@@ -40,16 +40,8 @@ impl Lanes {
         }
     }
 
-    /// The first packet of a priority.
-    pub(crate) fn first(&self, prio: u8) -> Option<&Packet>
-        requires { prio < 4 }
-        ensures { option_copied result ≡ slice_get (list_at self.now prio) 0 }
-    {
-        self.lanes[usize::from(prio)].front()
-    }
-
     /// Takes the first packet of a priority.
-    pub(crate) fn pop(&mut self, prio: u8) -> Option<Packet>
+    fn pop(&mut self, prio: u8) -> Option<Packet>
         requires { prio < 4 }
         ensures value { result ≡ slice_get (list_at self.old prio) 0 }
         ensures lists { self.new ≡ popped self.old prio }
@@ -57,9 +49,34 @@ impl Lanes {
         self.lanes[usize::from(prio)].pop_front()
     }
 
+    /// Takes a packet away that is the first of its priority, and tells whether it is.
+    pub(crate) fn take_first(&mut self, packet: &Packet) -> bool
+        ensures first { IsTrue result
+            ↔ (slice_get (list_at self.old (prio_of packet.now)) 0 ≡ Some packet.now) }
+        ensures taken { self.new ≡ popped self.old (prio_of packet.now) }
+        ensures range { prio_of packet.now < 4 }
+    {
+        match self.pop(packet.prio()) {
+            Some(first) => first == *packet,
+            None => false,
+        }
+    }
+
+    /// How many of so many buffers are free, if each packet takes one.
+    pub(crate) fn free_of(&self, buffers: usize) -> usize
+        ensures { result ≡ buffers - packet_count self.now }
+    {
+        buffers
+            .saturating_sub(self.lanes[0].len())
+            .saturating_sub(self.lanes[1].len())
+            .saturating_sub(self.lanes[2].len())
+            .saturating_sub(self.lanes[3].len())
+    }
+
     /// Puts a packet at the end of those of its priority.
     pub(crate) fn push(&mut self, packet: Packet) -> Result<(), AllocError>
         ensures lists { IfOk result (λ _. self.new ≡ appended self.old (prio_of packet) packet) }
+        ensures range { prio_of packet < 4 }
     {
         let prio = packet.prio();
         self.lanes[usize::from(prio)].push_back(packet)?;

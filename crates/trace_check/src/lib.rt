@@ -16,19 +16,29 @@
 
 mod checker;
 mod checking;
+mod fields;
 mod hearing;
+mod keywords;
 mod lanes;
 mod laws;
 mod lines;
+mod links;
 mod network;
-mod port;
+mod places;
 mod queue;
 mod reading;
+mod sending;
+mod splitting;
+mod state;
 #[cfg(test)]
 mod tests;
+mod undetected;
 
 pub use checking::{CheckEnd, Unlawful, check_trace};
+pub use fields::LineEnd;
 pub use laws::{
     every_trace_is_lawful, lawful_or_unlawful, lawful_traces_are_legal, one_trace_line,
     texts_spell_their_lines, words_are_the_text,
 };
+pub use lines::{Lack, Step, TraceLine};
+pub use reading::read_trace_line;

@@ -7,7 +7,7 @@ use rio_packets::Packet;
 
 /// A step of the plain network. A packet is in its link form.
 #[derive(Drop)]
-pub(crate) enum Step {
+pub enum Step {
     /// A port holds a packet that its peer sent.
     Hold(PortRef, Packet),
     /// A port frees a packet that its peer holds.
@@ -26,7 +26,7 @@ pub(crate) enum Step {
 
 /// Why nothing could be done.
 #[derive(Clone, Copy)]
-pub(crate) enum Lack {
+pub enum Lack {
     /// No room for a packet to be sent.
     Full,
     /// Nothing is held.
@@ -41,7 +41,7 @@ pub(crate) enum Lack {
 
 /// A line of a trace.
 #[derive(Drop)]
-pub(crate) enum TraceLine {
+pub enum TraceLine {
     /// An event of the script begins.
     Begun(Line),
     /// A step of the network.

@@ -1,23 +1,43 @@
 //! The plain network: the queues of all ports, and the registers of all nodes.
 
-ghost use Rattle.std.specs.Prelude.{◌≡◌, ℕ, ◌<◌, false, length, Some, IfSome};
+ghost use Rattle.std.specs.Prelude.{◌≡◌, ◌↔◌, ◌==◌, ℕ, ◌<◌, count_by, drop, slice_get, false, List, [], ◌∷◌, Some, IfOk, IsTrue};
+ghost use Rattle.rio_packets.specs.Fields.{prio_of};
+ghost use Rattle.rio_packets.specs.LinkForm.{Passes};
+ghost use Rattle.fabric_model.specs.Network.{Item, Network as ANetwork, room_in, room_out, switch_at};
+ghost use Rattle.fabric_model.specs.Steps.{AtNode, ByDevice, Drop as ADrop, Free, Hold, IsFirst, Leave, Linked, Move, Take, with_waiting, without_first};
+ghost use Rattle.fabric_trace.specs.Views.{packets_in};
+ghost use Rattle.fabric_model.specs.Serving.{next_at};
+ghost use Rattle.trace_check.specs.Networks.{AreLinks, IsNetwork, MakesIt, WaitsFirst, with_lending, with_received, without_waiting};
+ghost use Rattle.trace_check.specs.Tables.{IsIn};
 ghost use Rattle.maint_packets.specs.NextHops.{is_at_end};
 
+use crate::lanes::Lanes;
 use crate::lines::Step;
-use crate::port::Port;
+use crate::links::Links;
+use crate::places::{PORTS, place_of};
+use crate::sending::may_send;
 use fabric_script::{Line, PortRef, SetUp};
 use maint_packets::{Next, answer, move_on, next_of, read_request, write_response};
 use maint_registers::Registers;
+use rio_chars::Char;
 use rio_packets::Packet;
 use std::alloc::{AllocError, Global};
+use std::collections::VecDeque;
 
-/// How many places the ports of a node have.
-const PORTS: usize = 16;
+/// How many receive buffers a port has if no line says how many.
+const BUFFERS: u8 = 8;
 
-/// The ports, 16 places for each node, and the registers of the nodes.
+/// How many packets of a priority a port may have to be sent, those that are lent among them.
+const PLACES: usize = 16;
+
+/// What each port has, at its place: its receive buffers, the packets that it received, those that
+/// wait, and those that it lent; and the registers of the nodes.
 #[derive(Drop)]
 pub(crate) struct Network {
-    pub(crate) ports: Vec<Port>,
+    buffers: Vec<u8>,
+    received: Vec<Lanes>,
+    waiting: Vec<Lanes>,
+    lent: Vec<VecDeque<Packet>>,
     registers: Vec<Registers>,
 }
 
@@ -25,7 +45,10 @@ impl Network {
     /// The network that set-up lines make.
     pub(crate) fn new(alloc: Global, set_up: &SetUp) -> Result<Network, AllocError> {
         let mut network = Network {
-            ports: Vec::new(alloc),
+            buffers: Vec::new(alloc),
+            received: Vec::new(alloc),
+            waiting: Vec::new(alloc),
+            lent: Vec::new(alloc),
             registers: Vec::new(alloc),
         };
         for numbered in set_up.lines() {
@@ -42,13 +65,13 @@ impl Network {
                 self.add_node(alloc, Registers::switch(*ports, 0))?;
             }
             Line::Link { a, b } => {
-                self.link(*a, *b);
-                self.link(*b, *a);
+                self.link(*a);
+                self.link(*b);
             }
             Line::Buffers { port, n } => {
                 let place = place_of(*port);
-                if place < self.ports.len() {
-                    self.ports[place].buffers = *n;
+                if place < self.buffers.len() {
+                    self.buffers[place] = *n;
                 }
             }
             _ => self.set_registers(line),
@@ -60,17 +83,16 @@ impl Network {
     fn add_node(&mut self, alloc: Global, registers: Registers) -> Result<(), AllocError> {
         self.registers.push(registers)?;
         for _ in 0..PORTS {
-            self.ports.push(Port::new(alloc))?;
+            self.buffers.push(BUFFERS)?;
+            self.received.push(Lanes::new(alloc))?;
+            self.waiting.push(Lanes::new(alloc))?;
+            self.lent.push(VecDeque::new(alloc))?;
         }
         Ok(())
     }
 
-    /// A port has a link to another.
-    fn link(&mut self, port: PortRef, peer: PortRef) {
-        let place = place_of(port);
-        if place < self.ports.len() {
-            self.ports[place].peer = Some(peer);
-        }
+    /// A port has a link.
+    fn link(&mut self, port: PortRef) {
         let node = usize::from(port.node);
         if port.port < 16 && node < self.registers.len() {
             self.registers[node].set_linked(port.port);
@@ -108,25 +130,11 @@ impl Network {
         }
     }
 
-    /// The place of a port among all, if it is there.
-    pub(crate) fn place(&self, port: PortRef) -> Option<usize>
-        ensures { IfSome result (λ place. place < length self.now.ports.items) }
-    {
-        let place = place_of(port);
-        if place < self.ports.len() {
-            Some(place)
-        } else {
-            None
-        }
-    }
-
-    /// The other end of a port's link.
-    pub(crate) fn peer(&self, port: PortRef) -> Option<PortRef> {
-        self.ports.get(place_of(port))?.peer
-    }
-
     /// Whether a node is a switch; None if there is no such node.
-    fn is_switch(&self, node: u8) -> Option<bool> {
+    fn is_switch(&self, node: u8) -> Option<bool>
+        ensures { (nodes : ℕ) (net : ANetwork) → IsNetwork nodes net self.now
+            → result ≡ switch_at net node }
+    {
         match self.registers.get(usize::from(node)) {
             Some(registers) => Some(registers.is_switch()),
             None => None,
@@ -134,9 +142,9 @@ impl Network {
     }
 
     /// Makes a step, and tells whether it can be made.
-    pub(crate) fn make(&mut self, step: &Step) -> Result<bool, AllocError> {
+    pub(crate) fn make(&mut self, step: &Step, links: &Links) -> Result<bool, AllocError> {
         match step {
-            Step::Hold(port, packet) => self.hold(*port, packet),
+            Step::Hold(port, packet) => self.hold(*port, packet, links),
             Step::Free(port, packet) => Ok(self.free(*port, packet)),
             Step::Take(node, packet) => self.take(*node, packet),
             Step::Leave(node, packet) => Ok(self.leave(*node, packet)),
@@ -147,35 +155,91 @@ impl Network {
     }
 
     /// A port holds the first packet of its priority that waits at the peer.
-    fn hold(&mut self, port: PortRef, packet: &Packet) -> Result<bool, AllocError> {
-        let Some(peer) = self.peer(port) else {
+    fn hold(&mut self, port: PortRef, packet: &Packet, links: &Links) -> Result<bool, AllocError>
+        ensures { IfOk result (λ made. (nodes : ℕ) (net : ANetwork) → IsNetwork nodes net self.old
+            → AreLinks nodes net.links links.now → IsIn nodes port
+            → MakesIt nodes net (Linked (Hold port packet.now)) self.new made) }
+    {
+        let Some(peer) = links.peer(port) else {
             return Ok(false);
         };
-        let (Some(from), Some(to)) = (self.place(peer), self.place(port)) else {
-            return Ok(false);
-        };
-        let prio = packet.prio();
-        if !self.ports[to].has_room_in(prio) || !self.ports[from].waits_first(packet) {
+        if !self.has_room_in(port, packet.prio()) || !self.take_waiting(peer, packet) {
             return Ok(false);
         }
-        self.ports[from].waiting.pop(prio);
-        self.ports[from].lent.push_back(packet.copy())?;
-        self.ports[to].received.push(packet.copy())?;
+        self.lend(peer, packet)?;
+        self.receive(port, packet)?;
         Ok(true)
     }
 
-    /// A port frees the first packet that the next hop holds.
-    fn free(&mut self, port: PortRef, packet: &Packet) -> bool {
-        let Some(place) = self.place(port) else {
+    /// Whether a packet of this priority may be received: more buffers are free than there are
+    /// higher priorities.
+    fn has_room_in(&self, port: PortRef, prio: u8) -> bool
+        requires { prio < 4 }
+        ensures { (nodes : ℕ) (net : ANetwork) → IsNetwork nodes net self.now → IsIn nodes port
+            → result ≡ room_in net port prio }
+    {
+        let place = place_of(port);
+        if place >= self.buffers.len() || place >= self.received.len() {
             return false;
-        };
-        let first = self.ports[place].lends_first(packet);
-        self.ports[place].lent.pop_front();
-        first
+        }
+        let free = usize::from(self.buffers[place]);
+        self.received[place].free_of(free) > usize::from(3 - prio)
+    }
+
+    /// Takes a packet away that is the first of its priority that waits at a port.
+    fn take_waiting(&mut self, port: PortRef, packet: &Packet) -> bool
+        ensures { (nodes : ℕ) (net : ANetwork) → IsNetwork nodes net self.old → IsIn nodes port
+            → (IsTrue result ↔ WaitsFirst net port packet.now)
+            × (IsTrue result → IsNetwork nodes (without_waiting net port (prio_of packet.now))
+            self.new) }
+    {
+        let place = place_of(port);
+        place < self.waiting.len() && self.waiting[place].take_first(packet)
+    }
+
+    /// A port has lent a packet.
+    fn lend(&mut self, port: PortRef, packet: &Packet) -> Result<(), AllocError>
+        ensures { IfOk result (λ _. (nodes : ℕ) (net : ANetwork) (items : List Item)
+            → IsNetwork nodes net self.old → IsIn nodes port
+            → packets_in items ≡ packet.now ∷ []
+            → IsNetwork nodes (with_lending net port items) self.new) }
+    {
+        let place = place_of(port);
+        if place < self.lent.len() {
+            self.lent[place].push_back(packet.copy())?;
+        }
+        Ok(())
+    }
+
+    /// A port has received a packet.
+    fn receive(&mut self, port: PortRef, packet: &Packet) -> Result<(), AllocError>
+        ensures { IfOk result (λ _. (nodes : ℕ) (net : ANetwork) (items : List Item)
+            → IsNetwork nodes net self.old → IsIn nodes port
+            → packets_in items ≡ packet.now ∷ []
+            → IsNetwork nodes (with_received net port (prio_of packet.now) items) self.new) }
+    {
+        let place = place_of(port);
+        if place < self.received.len() {
+            self.received[place].push(packet.copy())?;
+        }
+        Ok(())
+    }
+
+    /// A port frees the first packet that the next hop holds.
+    fn free(&mut self, port: PortRef, packet: &Packet) -> bool
+        ensures { (nodes : ℕ) (net : ANetwork) → IsNetwork nodes net self.old → IsIn nodes port
+            → MakesIt nodes net (Linked (Free port packet.now)) self.new result }
+    {
+        let place = place_of(port);
+        place < self.lent.len() && take_lent(&mut self.lent[place], packet)
     }
 
     /// An endpoint takes a packet, if there is room to send it.
-    fn take(&mut self, node: u8, packet: &Packet) -> Result<bool, AllocError> {
+    fn take(&mut self, node: u8, packet: &Packet) -> Result<bool, AllocError>
+        ensures { IfOk result (λ made. (nodes : ℕ) (net : ANetwork) → IsNetwork nodes net self.old
+            → node < nodes → Passes packet.now
+            → MakesIt nodes net (AtNode (Take node packet.now)) self.new made) }
+    {
         if self.is_switch(node) != Some(false) {
             return Ok(false);
         }
@@ -183,36 +247,72 @@ impl Network {
     }
 
     /// A packet is put at the end of those that wait at a port, if there is room to send it.
-    fn put_out(&mut self, port: PortRef, packet: Packet) -> Result<bool, AllocError> {
-        let Some(place) = self.place(port) else {
-            return Ok(false);
-        };
-        if !self.ports[place].has_room_out(packet.prio()) {
+    fn put_out(&mut self, port: PortRef, packet: Packet) -> Result<bool, AllocError>
+        ensures { IfOk result (λ put. (nodes : ℕ) (net : ANetwork) (items : List Item)
+            → IsNetwork nodes net self.old → IsIn nodes port → packets_in items ≡ packet ∷ []
+            → (put ≡ room_out net port (prio_of packet))
+            × (IsTrue put → IsNetwork nodes (with_waiting net port (prio_of packet) items)
+            self.new)) }
+    {
+        let place = place_of(port);
+        if place >= self.waiting.len() || !self.has_room_out(port, packet.prio()) {
             return Ok(false);
         }
-        self.ports[place].waiting.push(packet)?;
+        self.waiting[place].push(packet)?;
         Ok(true)
     }
 
-    /// Takes a packet away that is the first of its priority that a port has received.
-    fn take_first(&mut self, port: PortRef, packet: &Packet) -> bool {
-        let Some(place) = self.place(port) else {
+    /// Whether one more packet of this priority may stand to be sent.
+    fn has_room_out(&self, port: PortRef, prio: u8) -> bool
+        requires { prio < 4 }
+        ensures { (nodes : ℕ) (net : ANetwork) → IsNetwork nodes net self.now → IsIn nodes port
+            → result ≡ room_out net port prio }
+    {
+        let place = place_of(port);
+        if place >= self.waiting.len() || place >= self.lent.len() {
             return false;
-        };
-        let first = self.ports[place].received_first(packet);
-        self.ports[place].received.pop(packet.prio());
-        first
+        }
+        let room = PLACES.saturating_sub(self.waiting[place].count(prio));
+        count_of(&self.lent[place], prio) < room
+    }
+
+    /// Takes a packet away that is the first of its priority that a port has received.
+    fn take_first(&mut self, port: PortRef, packet: &Packet) -> bool
+        ensures { (nodes : ℕ) (net : ANetwork) → IsNetwork nodes net self.old → IsIn nodes port
+            → (IsTrue result ↔ IsFirst net port packet.now)
+            × (IsTrue result → IsNetwork nodes (without_first net port (prio_of packet.now))
+            self.new) }
+    {
+        let place = place_of(port);
+        place < self.received.len() && self.received[place].take_first(packet)
+    }
+
+    /// Whether a port has each packet in characters that it sends.
+    pub(crate) fn may_send(&self, port: PortRef, chars: &[Char]) -> bool {
+        let place = place_of(port);
+        place < self.waiting.len()
+            && place < self.lent.len()
+            && may_send(&self.waiting[place], &self.lent[place], chars)
     }
 
     /// A packet leaves at an endpoint. Requests are for its registers.
-    fn leave(&mut self, node: u8, packet: &Packet) -> bool {
-        self.is_switch(node) == Some(false)
-            && read_request(packet).is_none()
-            && self.take_first(PortRef { node, port: 0 }, packet)
+    fn leave(&mut self, node: u8, packet: &Packet) -> bool
+        ensures { (nodes : ℕ) (net : ANetwork) → IsNetwork nodes net self.old → node < nodes
+            → MakesIt nodes net (AtNode (Leave node packet.now)) self.new result }
+    {
+        if self.is_switch(node) != Some(false) {
+            return false;
+        }
+        if read_request(packet).is_some() {
+            return false;
+        }
+        self.take_first(PortRef { node, port: 0 }, packet)
     }
 
     /// Where a switch sends a packet, if the node is one.
     fn next_at(&self, node: u8, packet: &Packet) -> Option<Next>
+        ensures value { (nodes : ℕ) (net : ANetwork) → IsNetwork nodes net self.now
+            → result ≡ next_at net node packet.now }
         ensures hops_left { (port : ℕ) → result ≡ Some (Next.Port port)
             → is_at_end packet.now ≡ false }
     {
@@ -223,11 +323,18 @@ impl Network {
     }
 
     /// A switch moves a packet to the port to which it sends it.
-    fn move_to(&mut self, from: PortRef, to: PortRef, packet: &Packet) -> Result<bool, AllocError> {
+    fn move_to(&mut self, from: PortRef, to: PortRef, packet: &Packet) -> Result<bool, AllocError>
+        ensures { IfOk result (λ made. (nodes : ℕ) (net : ANetwork) → IsNetwork nodes net self.old
+            → IsIn nodes from → IsIn nodes to
+            → MakesIt nodes net (ByDevice (Move from to packet.now)) self.new made) }
+    {
         let Some(Next::Port(port)) = self.next_at(from.node, packet) else {
             return Ok(false);
         };
-        if from.node != to.node || port != to.port || !self.take_first(from, packet) {
+        if from.node != to.node || port != to.port {
+            return Ok(false);
+        }
+        if !self.take_first(from, packet) {
             return Ok(false);
         }
         let mut moved = packet.copy();
@@ -236,7 +343,10 @@ impl Network {
     }
 
     /// A switch drops a packet that it sends nowhere.
-    fn drop_at(&mut self, port: PortRef, packet: &Packet) -> bool {
+    fn drop_at(&mut self, port: PortRef, packet: &Packet) -> bool
+        ensures { (nodes : ℕ) (net : ANetwork) → IsNetwork nodes net self.old → IsIn nodes port
+            → MakesIt nodes net (ByDevice (ADrop port packet.now)) self.new result }
+    {
         self.next_at(port.node, packet) == Some(Next::Nowhere) && self.take_first(port, packet)
     }
 
@@ -270,7 +380,23 @@ impl Network {
     }
 }
 
-/// The place of a port among all.
-fn place_of(port: PortRef) -> usize {
-    PORTS * usize::from(port.node) + usize::from(port.port)
+/// How many of the packets have a priority.
+fn count_of(packets: &VecDeque<Packet>, prio: u8) -> usize
+    ensures { result ≡ count_by (λ packet. prio_of packet == prio) packets.now.items }
+{
+    packets
+        .iter()
+        .filter(|packet| packet.prio() == prio)
+        .count()
+}
+
+/// Takes a packet away that is the first that was lent, and tells whether it is.
+fn take_lent(lent: &mut VecDeque<Packet>, packet: &Packet) -> bool
+    ensures first { IsTrue result ↔ (slice_get lent.old.items 0 ≡ Some packet.now) }
+    ensures taken { lent.new.items ≡ drop 1 lent.old.items }
+{
+    match lent.pop_front() {
+        Some(first) => first == *packet,
+        None => false,
+    }
 }

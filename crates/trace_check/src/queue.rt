@@ -1,27 +1,29 @@
 //! The characters of a wire, first in first out.
-ghost use Rattle.std.specs.Prelude.{◌≡◌, ◌≤◌, ◌<◌, ◌+◌, ◌++◌, ◌∷◌, [], length, take, drop, slice_set, OnOk, OnErr};
 
+ghost use Rattle.std.specs.Prelude.{◌≡◌, ◌+◌, ◌<◌, ◌^◌, ◌++◌, ◌∷◌, [], List, false, length, take, drop, slice_set, nat_le, nat_lt, IfOk, IsTrue, if◌then◌else◌};
+ghost use Rattle.link_wires.specs.Wires.{fits};
+ghost use Rattle.fabric_trace.specs.Fold.{changed};
+ghost use Rattle.rio_chars.specs.declared.chars.Char.{Char as AChar};
+
+use link_wires::Edit;
 use rio_chars::Char;
 use std::alloc::{AllocError, Global};
+use std::collections::VecDeque;
 use std::marker::Model;
 
-/// Characters, first in first out. Those before `head` were taken; they go once they are more than
-/// the half, so that taking costs what is taken, and putting costs what is put.
+/// Characters, first in first out.
 #[derive(Drop)]
 pub(crate) struct CharQueue {
-    chars: Vec<Char>,
-    head: usize,
+    chars: VecDeque<Char>,
 }
 
 impl Model for CharQueue {
-    ghost use Rattle.std.specs.Prelude.{List, length, drop, ◌≤◌};
+    ghost use Rattle.std.specs.Prelude.{List};
     ghost use Rattle.rio_chars.specs.declared.chars.Char.{Char};
 
     ghost Value = { List Char };
 
-    ghost view = { λ queue. drop queue.head queue.chars.items };
-
-    ghost invariant = { λ queue. queue.head ≤ length queue.chars.items };
+    ghost view = { λ queue. queue.chars.items };
 }
 
 impl CharQueue {
@@ -30,95 +32,106 @@ impl CharQueue {
         ensures { result ≡ [] }
     {
         CharQueue {
-            chars: Vec::new(alloc),
-            head: 0,
+            chars: VecDeque::new(alloc),
         }
     }
 
-    /// The number of characters.
-    pub(crate) fn len(&self) -> usize
-        ensures { result ≡ length self.now }
+    /// Whether there are no characters.
+    pub(crate) fn is_empty(&self) -> bool
+        ensures empty { IsTrue result → self.now ≡ [] }
+        ensures some { result ≡ false → self.now ≡ [] → ⊥ }
     {
-        self.chars.len() - self.head
-    }
-
-    /// The characters, in order.
-    pub(crate) fn as_slice(&self) -> &[Char]
-        ensures { result.now ≡ self.now }
-    {
-        &self.chars.as_slice()[self.head..]
+        self.chars.is_empty()
     }
 
     /// Puts characters at the end.
-    pub(crate) fn put(&mut self, more: &[Char]) -> Result<(), AllocError>
-        ensures { OnOk result (self.new ≡ self.old ++ more.now) }
+    pub(crate) fn put(&mut self, more: Vec<Char>) -> Result<(), AllocError>
+        ensures { IfOk result (λ _. self.new ≡ self.old ++ more.items) }
     {
-        match self.chars.extend_from_slice(more) {
-            Ok(()) => Ok(()),
-            Err(_) => Err(AllocError),
-        }
-    }
-
-    /// Takes characters away from the front.
-    pub(crate) fn skip(&mut self, count: usize)
-        requires { count ≤ length self.old }
-        ensures { self.new ≡ drop count self.old }
-    {
-        self.head += count;
-        if self.head > self.chars.len() / 2 {
-            compact(&mut self.chars, &mut self.head);
-        }
+        let mut more = VecDeque::from_vec(more);
+        self.chars.append(&mut more)
     }
 
     /// Takes characters away that stand at the front, and tells whether they do.
-    pub(crate) fn take_front(&mut self, chars: &[Char]) -> bool {
-        let stand = self.as_slice().starts_with(chars);
-        if stand {
-            self.skip(chars.len());
+    pub(crate) fn take_front(&mut self, front: &[Char]) -> bool
+        ensures taken { IsTrue result → self.old ≡ front.now ++ self.new }
+        ensures other { result ≡ false
+            → (behind : List AChar) → self.old ≡ front.now ++ behind → ⊥ }
+    {
+        if !self.starts_with(front) {
+            return false;
         }
-        stand
+        self.chars.drain(..front.len());
+        true
+    }
+
+    /// Whether characters stand at the front.
+    fn starts_with(&self, front: &[Char]) -> bool
+        ensures stands { IsTrue result → (behind : List AChar) × (self.now ≡ front.now ++ behind) }
+        ensures other { result ≡ false
+            → (behind : List AChar) → self.now ≡ front.now ++ behind → ⊥ }
+    {
+        if front.len() > self.chars.len() {
+            return false;
+        }
+        for (i, c) in front.iter().enumerate() {
+            if self.chars[i] != *c {
+                return false;
+            }
+        }
+        true
+    }
+
+    /// Changes the characters, and tells whether the change lies within them. If it does not,
+    /// nothing changes.
+    pub(crate) fn edit(&mut self, edit: &Edit) -> Result<bool, AllocError>
+        ensures fits { IfOk result (λ made. made ≡ fits edit.now self.old) }
+        ensures changed { IfOk result (λ _. self.new ≡ changed edit.now self.old) }
+    {
+        match edit {
+            Edit::Alter { place, ch } => Ok(self.alter(*place as usize, *ch)),
+            Edit::Erase { place, count } => Ok(self.erase(*place as usize, *count as usize)),
+            Edit::Insert { place, ch } => self.insert(*place as usize, *ch),
+        }
     }
 
     /// The character at a place becomes another.
-    pub(crate) fn set(&mut self, place: usize, ch: Char)
-        requires { place < length self.old }
-        ensures { self.new ≡ slice_set self.old place ch }
+    fn alter(&mut self, place: usize, ch: Char) -> bool
+        ensures fits { result ≡ nat_lt place (length self.old) }
+        ensures altered { self.new ≡ (if result then slice_set self.old place ch else self.old) }
     {
-        compact(&mut self.chars, &mut self.head);
-        self.chars[place] = ch;
-    }
-
-    /// Characters from a place on go away, up to another place.
-    pub(crate) fn remove(&mut self, place: usize, end: usize)
-        requires order { place ≤ end }
-        requires end { end ≤ length self.old }
-        ensures { self.new ≡ take place self.old ++ drop end self.old }
-    {
-        compact(&mut self.chars, &mut self.head);
-        self.chars.drain(place..end);
-    }
-
-    /// A character comes in before the one at a place, or at the end. If memory is not given,
-    /// nothing changes.
-    pub(crate) fn insert(&mut self, place: usize, ch: Char) -> Result<(), AllocError>
-        requires { place ≤ length self.old }
-        ensures put { OnOk result (self.new ≡ take place self.old ++ ch ∷ drop place self.old) }
-        ensures unchanged { OnErr result (self.new ≡ self.old) }
-    {
-        compact(&mut self.chars, &mut self.head);
-        match self.chars.insert(place, ch) {
-            Ok(()) => Ok(()),
-            Err(_) => Err(AllocError),
+        let fits = place < self.chars.len();
+        if fits {
+            self.chars[place] = ch;
         }
+        fits
     }
-}
 
-/// The characters that were taken go.
-fn compact(chars: &mut Vec<Char>, head: &mut usize)
-    requires { head.old ≤ length chars.old.items }
-    ensures chars { chars.new.items ≡ drop head.old chars.old.items }
-    ensures head { head.new ≡ 0 }
-{
-    chars.drain(..*head);
-    *head = 0;
+    /// Characters from a place on are lost.
+    fn erase(&mut self, place: usize, count: usize) -> bool
+        requires place { place < 2 ^ 32 }
+        requires count { count < 2 ^ 32 }
+        ensures fits { result ≡ nat_le (place + count) (length self.old) }
+        ensures erased { self.new ≡ (if result
+            then take place self.old ++ drop (place + count) self.old else self.old) }
+    {
+        let fits = place + count <= self.chars.len();
+        if fits {
+            self.chars.drain(place..place + count);
+        }
+        fits
+    }
+
+    /// A character comes in before the one at a place, or at the end.
+    fn insert(&mut self, place: usize, ch: Char) -> Result<bool, AllocError>
+        ensures fits { IfOk result (λ fits. fits ≡ nat_le place (length self.old)) }
+        ensures inserted { IfOk result (λ fits. self.new ≡ (if fits
+            then take place self.old ++ ch ∷ drop place self.old else self.old)) }
+    {
+        let fits = place <= self.chars.len();
+        if fits {
+            self.chars.insert(place, ch)?;
+        }
+        Ok(fits)
+    }
 }

@@ -1,8 +1,10 @@
-use Rattle.std.proofs.Common.{length}
+use Rattle.trace_check.proofs.StopLaws.{IsAhead, left_ahead}
 use Rattle.trace_check.proofs.checking.check_lines.Given as goal
 
-abbrev pub invariant-loop-left : goal.invariant-loop-left
-invariant-loop-left l = Unit {0}
+abbrev pub invariant-loop-ahead : goal.invariant-loop-ahead
+invariant-loop-ahead l =
+    IsAhead l.fn.set_up.known l.fn.bytes l.fn.first l.number l.ahead l.checker.ended
+    l.checker.steps
 
-abbrev pub decreases-loop-left : goal.decreases-loop-left
-decreases-loop-left l = length l.left
+abbrev pub decreases-loop-ahead : goal.decreases-loop-ahead
+decreases-loop-ahead l = left_ahead l.ahead

@@ -1,0 +1,53 @@
+//! The input by lines: the set-up lines, and the lines of the trace behind them.
+
+ghost use Rattle.std.specs.Prelude.{◌≡◌, ◌≤◌, ◌<◌, ◌+◌, ◌++◌, [], ◌∷◌, length, option_map, IfSome, MatchOption};
+ghost use Rattle.trace_check.specs.Inputs.{texts_of, set_up_texts, trace_texts, set_up_bytes};
+
+/// The line between the set-up lines and the trace.
+const BETWEEN: &[u8] = b"---";
+
+/// The bytes of the set-up lines, those of the trace if a line `---` stands behind the set-up
+/// lines, and how many set-up lines there are.
+pub(crate) fn split_input(bytes: &[u8]) -> (&[u8], Option<&[u8]>, u32)
+    requires { length bytes.now ≤ 16777216 }
+    ensures set_up { result.0.now ≡ set_up_bytes bytes.now }
+    ensures trace { option_map (λ trace. texts_of trace.now) result.1
+        ≡ trace_texts (texts_of bytes.now) }
+    ensures lines { result.2 ≡ length (set_up_texts (texts_of bytes.now)) }
+    ensures few { IfSome result.1 (λ trace. result.2 + length trace.now < length bytes.now) }
+    ensures few_lines { result.2 ≤ length bytes.now }
+    ensures short { length result.0.now ≤ length bytes.now }
+{
+    let mut left = bytes;
+    let mut lines: u32 = 0;
+    while let Some((text, behind)) = next_line(left) {
+        if text == BETWEEN {
+            return (&bytes[..bytes.len() - left.len()], Some(behind), lines);
+        }
+        left = behind;
+        lines += 1;
+    }
+    (bytes, None, lines)
+}
+
+/// The first line without its line feed, and what stands behind it; None if there is no line.
+pub(crate) fn next_line(bytes: &[u8]) -> Option<(&[u8], &[u8])>
+    ensures texts { MatchOption result (bytes.now ≡ [])
+        (λ found. texts_of bytes.now ≡ found.0.now ∷ texts_of found.1.now) }
+    ensures shorter { IfSome result (λ found.
+        length found.0.now + length found.1.now ≤ length bytes.now) }
+    ensures less { IfSome result (λ found. length found.1.now < length bytes.now) }
+    ensures joined { IfSome result (λ found. 0 < length found.1.now
+        → bytes.now ≡ found.0.now ++ 10 ∷ found.1.now) }
+{
+    for (i, byte) in bytes.iter().enumerate() {
+        if *byte == b'\n' {
+            return Some((&bytes[..i], &bytes[i + 1..]));
+        }
+    }
+    if bytes.is_empty() {
+        None
+    } else {
+        Some((bytes, b""))
+    }
+}

@@ -1,0 +1,226 @@
+//! What the lines of a trace leave of a fabric, and which of its steps and signs may follow.
+
+ghost use Rattle.std.specs.Prelude.{◌≡◌, ◌≤◌, ◌↔◌, [], IfOk, IsTrue};
+ghost use Rattle.fabric_trace.specs.Fold.{edit_of};
+ghost use Rattle.trace_check.specs.Reads.{step_of};
+ghost use Rattle.trace_check.specs.States.{Edits, Fires, Frees, Gets, Holds, IsEditIn, IsReached, IsStepIn, Makes, Reached, Sends};
+ghost use Rattle.trace_check.specs.Tables.{IsIn};
+
+use crate::hearing::Hearing;
+use crate::lines::Step;
+use crate::links::Links;
+use crate::network::Network;
+use crate::places::place_of;
+use crate::queue::CharQueue;
+use fabric_script::{Line, PortRef, SetUp};
+use link_wires::Edit;
+use rio_chars::Char;
+use rio_packets::Packet;
+use std::alloc::{AllocError, Global};
+
+/// Why a line is not lawful, apart from its form.
+#[derive(Clone, Copy)]
+pub(crate) enum Fault {
+    /// What was got does not stand on the wire; an edit is outside the wire; or a time-out fired
+    /// and a wire of the link is not empty.
+    OffWire,
+    /// The step cannot be made.
+    NoStep,
+    /// A packet is held that has not come with its ackID.
+    NotCome,
+    /// More packets are freed than were accepted.
+    NotAllowed,
+    /// A packet is sent that the port does not have.
+    NotThere,
+}
+
+/// The network, the characters that each port put on its wire, and what each port has got.
+#[derive(Drop)]
+pub(crate) struct State {
+    links: Links,
+    network: Network,
+    wires: Vec<CharQueue>,
+    hearings: Vec<Hearing>,
+}
+
+impl State {
+    /// Before the first line.
+    pub(crate) fn new(alloc: Global, set_up: &SetUp) -> Result<State, AllocError> {
+        let links = Links::new(alloc, set_up)?;
+        let network = Network::new(alloc, set_up)?;
+        let mut wires = Vec::new(alloc);
+        let mut hearings = Vec::new(alloc);
+        for _ in 0..links.len() {
+            wires.push(CharQueue::new(alloc))?;
+            hearings.push(Hearing::new(alloc))?;
+        }
+        Ok(State {
+            links,
+            network,
+            wires,
+            hearings,
+        })
+    }
+
+    /// An event line, which may edit a wire.
+    pub(crate) fn edit(&mut self, line: &Line) -> Result<Option<Fault>, AllocError>
+        ensures { IfOk result (λ fault. (r : Reached) → IsReached r self.old
+            → IsEditIn r.nodes (edit_of line.now) → Edits r line.now self.new fault) }
+    {
+        let Some((port, edit)) = edit_of(line) else {
+            return Ok(None);
+        };
+        let place = place_of(port);
+        if place >= self.wires.len() || !self.wires[place].edit(&edit)? {
+            return Ok(Some(Fault::OffWire));
+        }
+        Ok(None)
+    }
+
+    /// A port puts characters on its wire.
+    pub(crate) fn sent(
+        &mut self,
+        port: PortRef,
+        chars: Vec<Char>,
+    ) -> Result<Option<Fault>, AllocError>
+        ensures { IfOk result (λ fault. (r : Reached) → IsReached r self.old
+            → IsIn r.nodes port → Sends r port chars.items self.new fault) }
+    {
+        let place = place_of(port);
+        if place >= self.wires.len() || !self.network.may_send(port, chars.as_slice()) {
+            return Ok(Some(Fault::NotThere));
+        }
+        self.wires[place].put(chars)?;
+        Ok(None)
+    }
+
+    /// A port takes characters from the front of its peer's wire.
+    pub(crate) fn got(&mut self, port: PortRef, chars: &[Char]) -> Result<Option<Fault>, AllocError>
+        ensures { IfOk result (λ fault. (r : Reached) → IsReached r self.old
+            → IsIn r.nodes port → Gets r port chars.now self.new fault) }
+    {
+        let Some(peer) = self.links.peer(port) else {
+            return Ok(Some(Fault::OffWire));
+        };
+        let from = place_of(peer);
+        let to = place_of(port);
+        if from >= self.wires.len() || to >= self.hearings.len() {
+            return Ok(Some(Fault::OffWire));
+        }
+        if !self.wires[from].take_front(chars) {
+            return Ok(Some(Fault::OffWire));
+        }
+        self.hearings[to].hear(chars)?;
+        Ok(None)
+    }
+
+    /// The time-out of a port fires: nothing is on its way on its link.
+    pub(crate) fn fired(&self, port: PortRef) -> Option<Fault>
+        ensures { (r : Reached) → IsReached r self.now → IsIn r.nodes port
+            → Fires r port result }
+    {
+        match self.links.peer(port) {
+            Some(peer) if self.is_empty(port) && self.is_empty(peer) => None,
+            _ => Some(Fault::OffWire),
+        }
+    }
+
+    /// Whether no character is on the wire of a port.
+    fn is_empty(&self, port: PortRef) -> bool
+        ensures { (r : Reached) → IsReached r self.now → IsIn r.nodes port
+            → IsTrue result ↔ (r.wires port ≡ []) }
+    {
+        let place = place_of(port);
+        place < self.wires.len() && self.wires[place].is_empty()
+    }
+
+    /// A step is made.
+    pub(crate) fn step(&mut self, step: &Step) -> Result<Option<Fault>, AllocError>
+        ensures { IfOk result (λ fault. (r : Reached) → IsReached r self.old
+            → IsStepIn r.nodes (step_of step.now) → Makes r (step_of step.now) self.new fault) }
+    {
+        if !self.network.make(step, &self.links)? {
+            return Ok(Some(Fault::NoStep));
+        }
+        match step {
+            Step::Hold(port, packet) => {
+                let came = self.has_come(*port, packet);
+                Ok(if came { None } else { Some(Fault::NotCome) })
+            }
+            Step::Free(port, _) => {
+                let allowed = self.is_allowed(*port);
+                Ok(if allowed {
+                    None
+                } else {
+                    Some(Fault::NotAllowed)
+                })
+            }
+            Step::Take(..) | Step::Leave(..) | Step::Move(..) => Ok(None),
+            Step::Drop(..) | Step::Answer(..) => Ok(None),
+        }
+    }
+
+    /// Whether a packet that a port holds has come to it.
+    fn has_come(&mut self, port: PortRef, packet: &Packet) -> bool
+        ensures { (r : Reached) → IsReached r self.old → IsIn r.nodes port
+            → Holds r port packet.now self.new result }
+    {
+        let place = place_of(port);
+        place < self.hearings.len() && self.hearings[place].hold(packet)
+    }
+
+    /// Whether a port may free one more packet.
+    fn is_allowed(&mut self, port: PortRef) -> bool
+        ensures { (r : Reached) → IsReached r self.old → IsIn r.nodes port
+            → Frees r port self.new result }
+    {
+        let place = place_of(port);
+        place < self.hearings.len() && self.hearings[place].free()
+    }
+}
+
+/// The change that an event line makes of the wire of a port.
+fn edit_of(line: &Line) -> Option<(PortRef, Edit)>
+    ensures { result ≡ edit_of line.now }
+{
+    match line {
+        Line::Alter { port, place, ch } => Some((
+            *port,
+            Edit::Alter {
+                place: *place,
+                ch: *ch,
+            },
+        )),
+        Line::Erase { port, place, n } => Some((
+            *port,
+            Edit::Erase {
+                place: *place,
+                count: *n,
+            },
+        )),
+        Line::Insert { port, place, ch } => Some((
+            *port,
+            Edit::Insert {
+                place: *place,
+                ch: *ch,
+            },
+        )),
+        _ => None,
+    }
+}
+
+impl Fault {
+    /// The number of the reason.
+    pub(crate) fn number(self) -> u8
+        ensures least { 22 ≤ result }
+        ensures most { result ≤ 26 }
+    {
+        match self {
+            Fault::OffWire => 22,
+            Fault::NoStep => 23,
+            Fault::NotCome => 24,
+            Fault::NotAllowed => 25,
+            Fault::NotThere => 26,
+        }
+    }
+}
