@@ -2,3 +2,8 @@ pub mod Joining
 pub mod Cutting
 pub mod Naming
 pub mod Telling
+pub mod TallyLaws
+pub mod LineFeeds
+pub mod Letters
+pub mod FewTakes
+pub mod SummingLaws

@@ -1,3 +1,5 @@
 pub mod Replaying
 pub mod Going
 pub mod Ending
+pub mod Tallies
+pub mod Summing
