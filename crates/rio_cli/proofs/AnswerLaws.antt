@@ -4,18 +4,21 @@ use Rattle.std.specs.Io.KnownBytes.{Appends, Consumes, IsAtEnd, Keeps}
 use Rattle.rio_chars.specs.Faults.{Rose}
 use Rattle.rio_chars.specs.Fronts.{AppendsFront}
 use Rattle.rio_chars.specs.Takings.{ConsumesJust, ConsumesUpTo}
-use Rattle.fabric_script.specs.Known.{of_script}
+use Rattle.fabric_script.specs.Known.{of_script, of_set_up}
 use Rattle.fabric_script.proofs.ScriptLaws.{not_refused, refused_once}
 use Rattle.rio_cli.specs.declared.command.Command.{Command}
-use Rattle.rio_cli.specs.declared.command.Command.TheVariants.{Replay, Decode}
-use Rattle.rio_cli.specs.Words.{Asks, AreUnknown}
-use Rattle.rio_cli.specs.declared.answer.Refusal.{Refusal}
+use Rattle.rio_cli.specs.declared.command.Command.TheVariants.{Replay, Decode, Check}
+use Rattle.rio_cli.specs.Words.{Asks, AsksSoak}
+use Rattle.rio_cli.specs.declared.refusal.Refusal.{Refusal}
 use Rattle.rio_cli.proofs.WordLaws.{no_bad_word, bad_word_once}
 use Rattle.rio_cli.specs.declared.status.Status.{Status}
-use Rattle.rio_cli.specs.declared.status.Status.TheVariants.{Done, Words, Script, ReadFault, WriteFault, NoMemory, Undetected, TooLong, Locked}
+use Rattle.rio_cli.specs.declared.status.Status.TheVariants.{Done, Words, Script, ReadFault, WriteFault, NoMemory, Undetected, TooLong, Locked, Unlawful}
 use Rattle.rio_cli.specs.Inputs.{most_input}
-use Rattle.rio_cli.specs.Outputs.{IsAccepted, IsRefused, Completes, Exposes, RunsOut, Declines, Gave, OfInput, refusal_text}
-use Rattle.rio_cli.specs.Answers.{Answers, SaysOfBytes, SaysOfInput, Refuses, RefusesInput, RefusesBytes}
+use Rattle.rio_cli.specs.Outputs.{IsAccepted, IsRefused, IsUnlawful, IsHit, Completes, Exposes, RunsOut, Declines, Gave, OfInput, verdict_text}
+use Rattle.rio_cli.specs.Checking.{HasTrace, IsSpelled, lawful_text}
+use Rattle.trace_check.specs.Inputs.{IsRefused as IsRefusedInput, Hit, NoTrace, set_up_bytes}
+use Rattle.rio_cli.specs.Messages.{Explains}
+use Rattle.rio_cli.specs.Answers.{Answers, SaysOfBytes, SaysOfInput, IsOther, IsToldOf, TellsRefusal, Refuses, RefusesInput, RefusesBytes}
 
 -- a source that told its bytes gave just these
 gave_all : (bytes given : List ℕ) (left after : Option (List ℕ)) → left ≡ Some bytes
@@ -57,40 +60,47 @@ module _ (command : Command) (l l2 : Option (List ℕ)) (r r' : ℕ) (w : Option
   -- an input that is not to be refused
   pub accepts : (answer : Status) → SaysOfInput command answer l l2 r r' w f w' f2
       → (bytes : List ℕ) → l ≡ Some bytes → length bytes ≤ most_input
-      → (Declines command bytes w w' → ⊥)
-      → ¬ Rose r r' → ¬ Rose f f2 → (answer ≡ Done) ⊎ ((answer ≡ Undetected) ⊎ (answer ≡ NoMemory))
+      → (Declines Script command bytes w w' → ⊥) → ¬ Rose r r' → ¬ Rose f f2
+      → (answer ≡ Done) ⊎ ((answer ≡ Undetected) ⊎ ((answer ≡ Unlawful) ⊎ (answer ≡ NoMemory)))
   accepts Done h bytes e fits never calm calm2 = inl refl
   accepts Words h bytes e fits never calm calm2 = absurd h
   accepts Script h bytes e fits never calm calm2 =
       absurd
-      (never (subst (λ b. Declines command b w w') (gave_all bytes h.bytes l l2 e h.gave) h.holds))
+      (never
+      (subst (λ b. Declines Script command b w w') (gave_all bytes h.bytes l l2 e h.gave) h.holds))
   accepts ReadFault h bytes e fits never calm calm2 = absurd (calm h.0)
   accepts WriteFault h bytes e fits never calm calm2 = absurd (calm2 h.0)
-  accepts NoMemory h bytes e fits never calm calm2 = inr (inr refl)
+  accepts NoMemory h bytes e fits never calm calm2 = inr (inr (inr refl))
   accepts Undetected h bytes e fits never calm calm2 = inr (inl refl)
   accepts TooLong h bytes e fits never calm calm2 =
       let more = took_more bytes l l2 e h.0 in absurd (omega arith)
   accepts Locked h bytes e fits never calm calm2 = absurd h
+  accepts Unlawful h bytes e fits never calm calm2 = inr (inr (inl refl))
 
   -- an input that is not to be carried out
   pub refuses : (answer : Status) → SaysOfInput command answer l l2 r r' w f w' f2
       → (bytes : List ℕ) → l ≡ Some bytes → length bytes ≤ most_input
       → (Completes command bytes w w' → ⊥) → (Exposes command bytes w w' → ⊥)
+      → (Declines Unlawful command bytes w w' → ⊥)
       → ¬ Rose r r' → ¬ Rose f f2 → (answer ≡ Script) ⊎ (answer ≡ NoMemory)
-  refuses Done h bytes e fits never either calm calm2 =
+  refuses Done h bytes e fits never either lawful calm calm2 =
       absurd
       (never (subst (λ b. Completes command b w w') (gave_all bytes h.bytes l l2 e h.gave) h.holds))
-  refuses Words h bytes e fits never either calm calm2 = absurd h
-  refuses Script h bytes e fits never either calm calm2 = inl refl
-  refuses ReadFault h bytes e fits never either calm calm2 = absurd (calm h.0)
-  refuses WriteFault h bytes e fits never either calm calm2 = absurd (calm2 h.0)
-  refuses NoMemory h bytes e fits never either calm calm2 = inr refl
-  refuses Undetected h bytes e fits never either calm calm2 =
+  refuses Words h bytes e fits never either lawful calm calm2 = absurd h
+  refuses Script h bytes e fits never either lawful calm calm2 = inl refl
+  refuses ReadFault h bytes e fits never either lawful calm calm2 = absurd (calm h.0)
+  refuses WriteFault h bytes e fits never either lawful calm calm2 = absurd (calm2 h.0)
+  refuses NoMemory h bytes e fits never either lawful calm calm2 = inr refl
+  refuses Undetected h bytes e fits never either lawful calm calm2 =
       absurd
       (either (subst (λ b. Exposes command b w w') (gave_all bytes h.bytes l l2 e h.gave) h.holds))
-  refuses TooLong h bytes e fits never either calm calm2 =
+  refuses TooLong h bytes e fits never either lawful calm calm2 =
       let more = took_more bytes l l2 e h.0 in absurd (omega arith)
-  refuses Locked h bytes e fits never either calm calm2 = absurd h
+  refuses Locked h bytes e fits never either lawful calm calm2 = absurd h
+  refuses Unlawful h bytes e fits never either lawful calm calm2 =
+      absurd
+      (lawful
+      (subst (λ b. Declines Unlawful command b w w') (gave_all bytes h.bytes l l2 e h.gave) h.holds))
 
   is_too_long : (bytes given : List ℕ) → l ≡ Some bytes → most_input < length bytes
       → Gave l l2 given → ⊥
@@ -110,65 +120,7 @@ module _ (command : Command) (l l2 : Option (List ℕ)) (r r' : ℕ) (w : Option
   lengthy Undetected h bytes e long calm calm2 = absurd (is_too_long bytes h.bytes e long h.gave)
   lengthy TooLong h bytes e long calm calm2 = inl refl
   lengthy Locked h bytes e long calm calm2 = absurd h
-
--- ---- the commands
-
--- what is carried out is not refused: a row for each command
-pub not_refused_too : (command : Command) (bytes : List ℕ) (line reason : ℕ)
-    → IsAccepted command bytes → IsRefused command bytes line reason → ⊥
-not_refused_too Replay bytes line reason is refused =
-    not_refused of_script bytes is.0 is.1 line reason is.2 refused
-not_refused_too Decode bytes line reason is refused = no_bad_word bytes is.0 line is.1 refused.0
-
--- a refused input has one line and one reason: a row for each command
-pub refused_once_too : (command : Command) (bytes : List ℕ) (line reason line2 reason2 : ℕ)
-    → IsRefused command bytes line reason → IsRefused command bytes line2 reason2
-    → (line ≡ line2) × (reason ≡ reason2)
-refused_once_too Replay bytes line reason line2 reason2 h k =
-    refused_once of_script bytes line reason line2 reason2 h k
-refused_once_too Decode bytes line reason line2 reason2 h k =
-    (bad_word_once bytes line line2 h.0 k.0, h.1 ∙ sym k.1)
-
--- what an input is of which the whole output was written
-completed : (command : Command) (bytes : List ℕ) (w w' : Option (List ℕ))
-    → Completes command bytes w w' → IsAccepted command bytes
-completed Replay bytes w w' h = (h.names, h.script, h.spells)
-completed Decode bytes w w' h = (h.decoded.chars, h.decoded.spells)
-
--- what an input is of which all was written up to an event that was not sent
-exposed : (command : Command) (bytes : List ℕ) (w w' : Option (List ℕ))
-    → Exposes command bytes w w' → IsAccepted command bytes
-exposed Replay bytes w w' h = (h.names, h.script, h.spells)
-exposed Decode bytes w w' h = absurd h
-
-pub accepted_stays : (command : Command) (bytes : List ℕ) (w w' : Option (List ℕ))
-    → IsAccepted command bytes → Declines command bytes w w' → ⊥
-accepted_stays command bytes w w' is h = not_refused_too command bytes h.line h.reason is h.refused
-
-pub refused_stays : (command : Command) (bytes : List ℕ) (line reason : ℕ) (w w' : Option (List ℕ))
-    → IsRefused command bytes line reason → Completes command bytes w w' → ⊥
-refused_stays command bytes line reason w w' is h =
-    not_refused_too command bytes line reason (completed command bytes w w' h) is
-
-pub refused_is_not_exposed : (command : Command) (bytes : List ℕ) (line reason : ℕ) (w w' : Option (List ℕ))
-    → IsRefused command bytes line reason → Exposes command bytes w w' → ⊥
-refused_is_not_exposed command bytes line reason w w' is h =
-    not_refused_too command bytes line reason (exposed command bytes w w' h) is
-
--- no words ask for two commands
-apart : (words : List (List ℕ)) → Asks Replay words → Asks Decode words → ⊥
-apart words h k =
-    let first = ap (λ (ws : List (List ℕ)). get_or (get_or ws 0 []) 0 0) (sym h ∙ k) in omega arith
-
-pub same_command : (a b : Command) (words : List (List ℕ)) → Asks a words → Asks b words → a ≡ b
-same_command Replay Replay words h k = refl
-same_command Replay Decode words h k = absurd (apart words h k)
-same_command Decode Replay words h k = absurd (apart words k h)
-same_command Decode Decode words h k = refl
-
-pub unknown : (words : List (List ℕ)) → ¬ Asks Replay words → ¬ Asks Decode words → AreUnknown words
-unknown words replay decode Replay is = replay is
-unknown words replay decode Decode is = decode is
+  lengthy Unlawful h bytes e long calm calm2 = absurd (is_too_long bytes h.bytes e long h.gave)
 
 -- memory ran out before anything was written, or while the input was carried out
 pub ran_out : (command : Command) (words : List (List ℕ)) (l l2 w w' : Option (List ℕ)) → Asks command words
@@ -187,10 +139,8 @@ pub Refuses-input : (command : Command) (words : List (List ℕ)) (status : Stat
 Refuses-input command words status None l l2 w w' known h = h
 Refuses-input command words status (Some r) l l2 w w' known h =
     let Of : Command → Type 0 =
-    λ k. Asks k words × OfInput l l2 (λ bytes. IsRefused k bytes r.line r.reason
-    × Appends w w' (refusal_text r.line r.reason)) in
-    let here = subst Of (sym h.1) (known, h.2) in
-    (h.0, here.0, here.1)
+    λ k. Asks k words × OfInput l l2 (λ bytes. IsToldOf status k bytes r w w') in
+    subst Of (sym h.0) (known, h.1)
 
 -- what is refused of the bytes is refused of the input
 pub RefusesInput-of : (command : Command) (status : Status) (refusal : Option Refusal)
@@ -200,55 +150,128 @@ pub RefusesInput-of : (command : Command) (status : Status) (refusal : Option Re
 RefusesInput-of command status None bytes l l2 w w' gave h = h
 RefusesInput-of command status (Some r) bytes l l2 w w' gave h = (
   h.0,
-  h.1,
   record {
     bytes = bytes;
     gave = gave;
-    holds = (h.2, h.3);
+    holds = h.1;
   },
 )
 
 -- the line of a refusal was written
-pub RefusesBytes-line : (command : Command) (bytes : List ℕ) (status : Status)
+pub RefusesBytes-line : (kind : Status) (command : Command) (bytes : List ℕ) (status : Status)
     (refusal : Option Refusal) (line reason : ℕ) (w w' : Option (List ℕ))
-    → IsRefused command bytes line reason
-    → MatchOption refusal (status ≢ Script) (λ r. (status ≡ Script)
-    × (r ≡ record { command = command; line = line; reason = reason })
-    × Appends w w' (refusal_text line reason))
+    → IsHit kind command bytes line reason
+    → TellsRefusal kind command bytes line reason (record { status = status; refusal = refusal })
+    w w'
     → RefusesBytes command (record { status = status; refusal = refusal }) bytes w w'
-RefusesBytes-line command bytes status None line reason w w' is h = h
-RefusesBytes-line command bytes status (Some r) line reason w w' is h =
-    let Of : Refusal → Type 0 =
-    λ s. (s.command ≡ command) × IsRefused command bytes s.line s.reason
-    × Appends w w' (refusal_text s.line s.reason) in
-    let here = subst Of (sym h.1) (refl, is, h.2) in
-    (h.0, here.0, here.1, here.2)
+RefusesBytes-line kind command bytes status None line reason w w' is h = h
+RefusesBytes-line kind command bytes status (Some r) line reason w w' is h =
+    let Told : Status → ℕ → ℕ → Type 0 =
+    λ k n m. IsHit k command bytes n m × Appends w w' (verdict_text k n m)
+    × Explains command bytes n m r.message.items in
+    let here =
+    subst (λ k. Told k r.line r.reason) (sym h.0)
+    (subst (λ n. Told kind n r.reason) (sym h.2)
+    (subst (λ m. Told kind line m) (sym h.3) (is, h.4, h.5))) in
+    (h.1, record { hit = here.0; told = here.1; explains = here.2 })
 
--- and its status says so
-pub says_line : (command : Command) (bytes : List ℕ) (status : Status) (line reason : ℕ)
-    (w : Option (List ℕ)) (f : ℕ) (w' : Option (List ℕ)) (f2 : ℕ)
-    → IsRefused command bytes line reason
-    → Answers status Script (refusal_text line reason) w f w' f2
-    ⊎ ((status ≡ NoMemory) × Keeps w w') → SaysOfBytes command status bytes w f w' f2
-says_line command bytes status line reason w f w' f2 is (inl (inl told)) =
-    subst (λ s. SaysOfBytes command s bytes w f w' f2) (sym told.0) (record {
-      line = line;
-      reason = reason;
-      refused = is;
-      told = told.1;
-    })
-says_line command bytes status line reason w f w' f2 is (inl (inr failed)) =
-    subst (λ s. SaysOfBytes command s bytes w f w' f2) (sym failed.0) (
-      failed.1,
-      inr (record {
+-- so it is if the line could be written, which cites this refusal
+pub tells_refusal : (kind : Status) (command : Command) (bytes : List ℕ) (line reason : ℕ)
+    (status : Status) (refusal : Option Refusal) (told : Refusal) (text : List ℕ)
+    (w w' : Option (List ℕ)) → told.command ≡ command → told.line ≡ line → told.reason ≡ reason
+    → Explains command bytes line reason told.message.items → text ≡ verdict_text kind line reason
+    → MatchOption refusal (status ≡ WriteFault)
+    (λ r. (status ≡ kind) × (r ≡ told) × Appends w w' text)
+    → TellsRefusal kind command bytes line reason (record { status = status; refusal = refusal })
+    w w'
+tells_refusal kind command bytes line reason status None told text w w' a b c why is h =
+    ((λ e. let clash = sym h ∙ e in cc), (λ e. let clash = sym h ∙ e in cc))
+tells_refusal kind command bytes line reason status (Some r) told text w w' a b c why is h =
+    let Of : Refusal → Type 0 =
+    λ s. (s.command ≡ command) × (s.line ≡ line) × (s.reason ≡ reason)
+    × Explains command bytes line reason s.message.items in
+    let here = subst Of (sym h.1) (a, b, c, why) in
+    (h.0, here.0, here.1, here.2, subst (Appends w w') is h.2, here.3)
+
+-- no line is told
+pub RefusesBytes-none : (command : Command) (bytes : List ℕ) (status : Status)
+    (refusal : Option Refusal) (w w' : Option (List ℕ)) → refusal ≡ None → IsOther status
+    → RefusesBytes command (record { status = status; refusal = refusal }) bytes w w'
+RefusesBytes-none command bytes status None w w' none other = other
+RefusesBytes-none command bytes status (Some r) w w' none other = absurd (let e = none in cc)
+
+-- a status that was told, or not for want of memory
+module _ (command : Command) (bytes : List ℕ) (status : Status) (line reason : ℕ)
+    (w : Option (List ℕ)) (f : ℕ) (w' : Option (List ℕ)) (f2 : ℕ) where
+  -- the line of a refusal
+  told_line : (kind : Status) → IsHit kind command bytes line reason
+      → (Declines kind command bytes w w' → SaysOfBytes command kind bytes w f w' f2)
+      → Answers status kind (verdict_text kind line reason) w f w' f2
+      ⊎ ((status ≡ NoMemory) × Keeps w w') → SaysOfBytes command status bytes w f w' f2
+  told_line kind is says (inl (inl told)) =
+      subst (λ s. SaysOfBytes command s bytes w f w' f2) (sym told.0) (says (record {
         line = line;
         reason = reason;
-        refused = is;
+        hit = is;
+        told = told.1;
+      }))
+  told_line kind is says (inl (inr failed)) =
+      subst (λ s. SaysOfBytes command s bytes w f w' f2) (sym failed.0) (
+        failed.1,
+        inr (record {
+          status = kind;
+          line = line;
+          reason = reason;
+          hit = is;
+          told = failed.2;
+        }),
+      )
+  told_line kind is says (inr none) =
+      subst (λ s. SaysOfBytes command s bytes w f w' f2) (sym none.0) (inl none.1)
+
+  pub says_line : IsRefused command bytes line reason
+      → Answers status Script (verdict_text Script line reason) w f w' f2
+      ⊎ ((status ≡ NoMemory) × Keeps w w') → SaysOfBytes command status bytes w f w' f2
+  says_line is h = told_line Script is (λ d. d) h
+
+  pub says_condemned : IsUnlawful command bytes line reason
+      → Answers status Unlawful (verdict_text Unlawful line reason) w f w' f2
+      ⊎ ((status ≡ NoMemory) × Keeps w w') → SaysOfBytes command status bytes w f w' f2
+  says_condemned is h = told_line Unlawful is (λ d. d) h
+
+-- the steps of a trace were told
+pub says_lawful : (bytes : List ℕ) (status : Status) (steps : ℕ)
+    (w : Option (List ℕ)) (f : ℕ) (w' : Option (List ℕ)) (f2 : ℕ) → IsSpelled bytes steps
+    → Answers status Done (lawful_text steps) w f w' f2
+    ⊎ ((status ≡ NoMemory) × Keeps w w') → SaysOfBytes Check status bytes w f w' f2
+says_lawful bytes status steps w f w' f2 is (inl (inl told)) =
+    subst (λ s. SaysOfBytes Check s bytes w f w' f2) (sym told.0) (record {
+      steps = steps;
+      spelled = is;
+      told = told.1;
+    })
+says_lawful bytes status steps w f w' f2 is (inl (inr failed)) =
+    subst (λ s. SaysOfBytes Check s bytes w f w' f2) (sym failed.0) (
+      failed.1,
+      inl (record {
+        steps = steps;
+        spelled = is;
         told = failed.2;
       }),
     )
-says_line command bytes status line reason w f w' f2 is (inr none) =
-    subst (λ s. SaysOfBytes command s bytes w f w' f2) (sym none.0) (inl none.1)
+says_lawful bytes status steps w f w' f2 is (inr none) =
+    subst (λ s. SaysOfBytes Check s bytes w f w' f2) (sym none.0) (inl none.1)
+
+-- neither is a line that was told
+pub lawful_is_other : (status : Status) (steps : ℕ) (w : Option (List ℕ)) (f : ℕ)
+    (w' : Option (List ℕ)) (f2 : ℕ) → Answers status Done (lawful_text steps) w f w' f2
+    ⊎ ((status ≡ NoMemory) × Keeps w w') → IsOther status
+lawful_is_other status steps w f w' f2 (inl (inl told)) =
+    ((λ e. let clash = sym told.0 ∙ e in cc), (λ e. let clash = sym told.0 ∙ e in cc))
+lawful_is_other status steps w f w' f2 (inl (inr failed)) =
+    ((λ e. let clash = sym failed.0 ∙ e in cc), (λ e. let clash = sym failed.0 ∙ e in cc))
+lawful_is_other status steps w f w' f2 (inr none) =
+    ((λ e. let clash = sym none.0 ∙ e in cc), (λ e. let clash = sym none.0 ∙ e in cc))
 
 -- ---- a refusal answers its own status or WriteFault
 

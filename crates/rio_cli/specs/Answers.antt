@@ -5,12 +5,23 @@ use Rattle.rio_chars.specs.Faults.{Rose}
 use Rattle.rio_chars.specs.Fronts.{AppendsFront}
 use Rattle.rio_chars.specs.Takings.{ConsumesJust, ConsumesUpTo}
 use Rattle.rio_cli.specs.declared.answer.Answer.{Answer}
+use Rattle.rio_cli.specs.declared.refusal.Refusal.{Refusal}
 use Rattle.rio_cli.specs.declared.command.Command.{Command}
 use Rattle.rio_cli.specs.declared.status.Status.{Status}
-use Rattle.rio_cli.specs.declared.status.Status.TheVariants.{Done, Words, Script, ReadFault, WriteFault, NoMemory, Undetected, TooLong, Locked}
+use Rattle.rio_cli.specs.declared.status.Status.TheVariants.{Done, Words, Script, ReadFault, WriteFault, NoMemory, Undetected, TooLong, Locked, Unlawful}
 use Rattle.rio_cli.specs.Inputs.{most_input, Offers, IsFaultless}
-use Rattle.rio_cli.specs.Outputs.{IsAccepted, IsRefused, Completes, Exposes, RunsOut, Declines, Breaks, OfInput, refused_words, refused_length, refusal_text}
-use Rattle.rio_cli.specs.Words.{Asks, AreUnknown}
+use Rattle.rio_cli.specs.Outputs.{IsAccepted, IsRefused, Completes, Exposes, RunsOut, IsHit, Declines, Breaks, OfInput, refused_words, refused_length, verdict_text}
+use Rattle.rio_cli.specs.Messages.{Explains}
+use Rattle.rio_cli.specs.Soaking.{Soaks, SoaksInto, SoaksFront}
+use Rattle.rio_cli.specs.Words.{Asks, AsksSoak, AreUnknown}
+
+-- The words ask for the soak of a number. Nothing was read, and of the number this holds.
+pub record OfSoak {S : Type 0} (asked : List (List ℕ)) (source source_after : S) (Holds : ℕ → Type 0)
+    : Type 0 where
+  pub seed : ℕ
+  pub asks : AsksSoak seed asked
+  pub unread : source_after ≡ source
+  pub holds : Holds seed
 
 -- What a call of the program says that ends with this status: of the words after the program's
 -- name, of what the source tells of the bytes that are left and of its faults, and of what the sink
@@ -25,16 +36,24 @@ pub record Ended {S : Type 0} {K : Type 0} (asked : List (List ℕ)) (status : S
       × ((status ≡ Words) ⊎ ((status ≡ WriteFault)
       × AppendsFront (written sink) (written sink_after) refused_words))
   -- The input was read to its end and carried out, and all was written: to the end, or to the first event that a port
-  -- acted on and that was not sent. Or it is refused, and a line says so.
-  pub done : status ≡ Done → (command : Command) × Asks command asked
+  -- acted on and that was not sent. Or it is refused or not lawful, and a line says so. A soak reads
+  -- nothing.
+  pub done : status ≡ Done → ((command : Command) × Asks command asked
       × OfInput (left source) (left source_after)
-      (λ bytes. Completes command bytes (written sink) (written sink_after))
-  pub undetected : status ≡ Undetected → (command : Command) × Asks command asked
+      (λ bytes. Completes command bytes (written sink) (written sink_after)))
+      ⊎ OfSoak asked source source_after
+      (λ seed. Soaks seed (written sink) (written sink_after))
+  pub undetected : status ≡ Undetected → ((command : Command) × Asks command asked
       × OfInput (left source) (left source_after)
-      (λ bytes. Exposes command bytes (written sink) (written sink_after))
+      (λ bytes. Exposes command bytes (written sink) (written sink_after)))
+      ⊎ OfSoak asked source source_after
+      (λ seed. SoaksInto seed (written sink) (written sink_after))
   pub script : status ≡ Script → (command : Command) × Asks command asked
       × OfInput (left source) (left source_after)
-      (λ bytes. Declines command bytes (written sink) (written sink_after))
+      (λ bytes. Declines Script command bytes (written sink) (written sink_after))
+  pub unlawful : status ≡ Unlawful → (command : Command) × Asks command asked
+      × OfInput (left source) (left source_after)
+      (λ bytes. Declines Unlawful command bytes (written sink) (written sink_after))
   pub too_long : status ≡ TooLong → (command : Command) × Asks command asked
       × ConsumesJust (left source) (left source_after) (most_input + 1)
       × Appends (written sink) (written sink_after) refused_length
@@ -47,11 +66,13 @@ pub record Ended {S : Type 0} {K : Type 0} (asked : List (List ℕ)) (status : S
       × Keeps (written sink) (written sink_after)
   pub write_fault : status ≡ WriteFault → Rose (write_faults sink) (write_faults sink_after)
       × ((AreUnknown asked × AppendsFront (written sink) (written sink_after) refused_words)
-      ⊎ ((command : Command) × Asks command asked
+      ⊎ (((command : Command) × Asks command asked
       × ((ConsumesJust (left source) (left source_after) (most_input + 1)
       × AppendsFront (written sink) (written sink_after) refused_length)
       ⊎ OfInput (left source) (left source_after)
-      (λ bytes. Breaks command bytes (written sink) (written sink_after)))))
+      (λ bytes. Breaks command bytes (written sink) (written sink_after))))
+      ⊎ OfSoak asked source source_after
+      (λ seed. SoaksFront seed (written sink) (written sink_after))))
   pub reads_counted : status ≢ ReadFault → read_faults source_after ≡ read_faults source
   pub writes_counted : status ≢ WriteFault → write_faults sink_after ≡ write_faults sink
   pub never_falls : (read_faults source ≤ read_faults source_after)
@@ -66,7 +87,7 @@ pub record Ended {S : Type 0} {K : Type 0} (asked : List (List ℕ)) (status : S
       → Offers (left source) bytes → IsAccepted command bytes
       → IsFaultless (read_faults source) (read_faults source_after) (write_faults sink)
       (write_faults sink_after)
-      → (status ≡ Done) ⊎ ((status ≡ Undetected) ⊎ (status ≡ NoMemory))
+      → (status ≡ Done) ⊎ ((status ≡ Undetected) ⊎ ((status ≡ Unlawful) ⊎ (status ≡ NoMemory)))
   pub refused : (command : Command) (bytes : List ℕ) (line reason : ℕ) → Asks command asked
       → Offers (left source) bytes → IsRefused command bytes line reason
       → IsFaultless (read_faults source) (read_faults source_after) (write_faults sink)
@@ -75,16 +96,32 @@ pub record Ended {S : Type 0} {K : Type 0} (asked : List (List ℕ)) (status : S
       → most_input < length bytes
       → IsFaultless (read_faults source) (read_faults source_after) (write_faults sink)
       (write_faults sink_after) → (status ≡ TooLong) ⊎ (status ≡ NoMemory)
+  -- A soak leaves the source as it was, and is carried out, if no write fails and memory is there.
+  pub unread : (seed : ℕ) → AsksSoak seed asked → source_after ≡ source
+  pub soaked : (seed : ℕ) → AsksSoak seed asked
+      → ¬ Rose (write_faults sink) (write_faults sink_after)
+      → (status ≡ Done) ⊎ ((status ≡ Undetected) ⊎ (status ≡ NoMemory))
 
--- A refusal is answered exactly with the status Script, and it is that of the command's input: its
--- line and its reason are those that were written.
+-- The refusal is that of the input: its line and its reason were written, and its message says so
+-- in words.
+pub record IsToldOf (status : Status) (command : Command) (bytes : List ℕ) (refusal : Refusal)
+    (written written_after : Option (List ℕ)) : Type 0 where
+  pub hit : IsHit status command bytes refusal.line refusal.reason
+  pub told : Appends written written_after (verdict_text status refusal.line refusal.reason)
+  pub explains : Explains command bytes refusal.line refusal.reason refusal.message.items
+
+-- no line of the input is told
+abbrev pub IsOther : Status → Type 0
+IsOther status = (status ≢ Script) × (status ≢ Unlawful)
+
+-- a refusal is answered exactly with the statuses Script and Unlawful, and it is that of the
+-- command's input
 abbrev pub Refuses : List (List ℕ) → Answer → Option (List ℕ) → Option (List ℕ) → Option (List ℕ)
     → Option (List ℕ) → Type 0
 Refuses asked answer left left_after written written_after = MatchOption answer.refusal
-    (answer.status ≢ Script)
-    (λ refusal. (answer.status ≡ Script) × Asks refusal.command asked
-    × OfInput left left_after (λ bytes. IsRefused refusal.command bytes refusal.line refusal.reason
-    × Appends written written_after (refusal_text refusal.line refusal.reason)))
+    (IsOther answer.status)
+    (λ refusal. Asks refusal.command asked × OfInput left left_after
+    (λ bytes. IsToldOf answer.status refusal.command bytes refusal written written_after))
 
 -- ---- the parts of a call
 
@@ -102,7 +139,7 @@ SaysOfBytes command Done bytes written faults written_after faults_after =
     Completes command bytes written written_after
 SaysOfBytes command Words bytes written faults written_after faults_after = ⊥
 SaysOfBytes command Script bytes written faults written_after faults_after =
-    Declines command bytes written written_after
+    Declines Script command bytes written written_after
 SaysOfBytes command ReadFault bytes written faults written_after faults_after = ⊥
 SaysOfBytes command WriteFault bytes written faults written_after faults_after =
     Rose faults faults_after × Breaks command bytes written written_after
@@ -112,14 +149,24 @@ SaysOfBytes command Undetected bytes written faults written_after faults_after =
     Exposes command bytes written written_after
 SaysOfBytes command TooLong bytes written faults written_after faults_after = ⊥
 SaysOfBytes command Locked bytes written faults written_after faults_after = ⊥
+SaysOfBytes command Unlawful bytes written faults written_after faults_after =
+    Declines Unlawful command bytes written written_after
 
--- a refusal of the bytes is answered exactly with the status Script
+-- a refusal of this line for this reason is answered exactly with this status
+abbrev pub TellsRefusal : Status → Command → List ℕ → ℕ → ℕ → Answer → Option (List ℕ)
+    → Option (List ℕ) → Type 0
+TellsRefusal status command bytes line reason answer written written_after =
+    MatchOption answer.refusal (IsOther answer.status)
+    (λ refusal. (answer.status ≡ status) × (refusal.command ≡ command) × (refusal.line ≡ line)
+    × (refusal.reason ≡ reason) × Appends written written_after (verdict_text status line reason)
+    × Explains command bytes line reason refusal.message.items)
+
+-- a refusal of the bytes is answered exactly with the statuses Script and Unlawful
 abbrev pub RefusesBytes : Command → Answer → List ℕ → Option (List ℕ) → Option (List ℕ) → Type 0
 RefusesBytes command answer bytes written written_after = MatchOption answer.refusal
-    (answer.status ≢ Script)
-    (λ refusal. (answer.status ≡ Script) × (refusal.command ≡ command)
-    × IsRefused command bytes refusal.line refusal.reason
-    × Appends written written_after (refusal_text refusal.line refusal.reason))
+    (IsOther answer.status)
+    (λ refusal. (refusal.command ≡ command)
+    × IsToldOf answer.status command bytes refusal written written_after)
 
 -- of a source
 abbrev pub SaysOfInput : Command → Status → Option (List ℕ) → Option (List ℕ) → ℕ → ℕ
@@ -131,7 +178,7 @@ SaysOfInput command Words left left_after read read_after written faults written
     ⊥
 SaysOfInput command Script left left_after read read_after written faults written_after faults_after
     =
-    OfInput left left_after (λ bytes. Declines command bytes written written_after)
+    OfInput left left_after (λ bytes. Declines Script command bytes written written_after)
 SaysOfInput command ReadFault left left_after read read_after written faults written_after
     faults_after = Rose read read_after × Keeps written written_after
 SaysOfInput command WriteFault left left_after read read_after written faults written_after
@@ -150,12 +197,14 @@ SaysOfInput command TooLong left left_after read read_after written faults writt
 SaysOfInput command Locked left left_after read read_after written faults written_after faults_after
     =
     ⊥
+SaysOfInput command Unlawful left left_after read read_after written faults written_after
+    faults_after =
+    OfInput left left_after (λ bytes. Declines Unlawful command bytes written written_after)
 
--- a refusal of what the source gave is answered exactly with the status Script
+-- a refusal of what the source gave is answered exactly with the statuses Script and Unlawful
 abbrev pub RefusesInput : Command → Answer → Option (List ℕ) → Option (List ℕ) → Option (List ℕ)
     → Option (List ℕ) → Type 0
 RefusesInput command answer left left_after written written_after = MatchOption answer.refusal
-    (answer.status ≢ Script)
-    (λ refusal. (answer.status ≡ Script) × (refusal.command ≡ command)
-    × OfInput left left_after (λ bytes. IsRefused command bytes refusal.line refusal.reason
-    × Appends written written_after (refusal_text refusal.line refusal.reason)))
+    (IsOther answer.status)
+    (λ refusal. (refusal.command ≡ command) × OfInput left left_after
+    (λ bytes. IsToldOf answer.status command bytes refusal written written_after))

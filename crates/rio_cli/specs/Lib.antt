@@ -2,7 +2,10 @@ pub mod Words
 pub mod Inputs
 pub mod Outputs
 pub mod Statuses
+pub mod Soaking
 pub mod Answers
+pub mod Texts
 pub mod Messages
 pub mod Program
 pub mod Decoding
+pub mod Checking

@@ -1,55 +1,62 @@
 -- What the program says of an answer in words: one line of standard error, or nothing.
-use Rattle.std.specs.Prelude.{ℕ, Option, Some, None, List, [], ◌∷◌, ◌++◌, codes, slice_index_or}
+use Rattle.std.specs.Prelude.{◌≡◌, ℕ, ◌-◌, ◌&&◌, leb, ltb, Option, Some, None, List, [], ◌∷◌, ◌++◌, codes, length, map, take, slice_index_or, if◌then◌else◌}
 use Rattle.std.specs.Fmt.{decimal}
+use Rattle.rio_chars.specs.Lines.{lines_of}
+use Rattle.fabric_script.specs.Advice.{IsTrueOf}
+use Rattle.fabric_script.specs.declared.advice.Advice.{Advice}
 use Rattle.rio_cli.specs.declared.answer.Answer.{Answer}
-use Rattle.rio_cli.specs.declared.answer.Refusal.{Refusal}
+use Rattle.rio_cli.specs.declared.refusal.Refusal.{Refusal}
 use Rattle.rio_cli.specs.declared.command.Command.{Command}
-use Rattle.rio_cli.specs.declared.command.Command.TheVariants.{Replay, Decode}
 use Rattle.rio_cli.specs.declared.status.Status.{Status}
-use Rattle.rio_cli.specs.declared.status.Status.TheVariants.{Done, Words, Script, ReadFault, WriteFault, NoMemory, Undetected, TooLong, Locked}
+use Rattle.rio_cli.specs.declared.status.Status.TheVariants.{Done, Words, Script, ReadFault, WriteFault, NoMemory, Undetected, TooLong, Locked, Unlawful}
+use Rattle.rio_cli.specs.Texts.{advice_text, reason_text}
 
--- why a line of a script is refused, by the number of the reason, from 0 on; there is no reason 0
-abbrev pub script_reasons : List (List ℕ)
-script_reasons =
-    codes "this line is refused"
-    ∷ codes "no kind of line has this form"
-    ∷ codes "a number is misspelled or out of range"
-    ∷ codes "a name is misspelled"
-    ∷ codes "a node of an earlier line has this name"
-    ∷ codes "no node of an earlier line has this name"
-    ∷ codes "the node has no port of this number"
-    ∷ codes "the port is linked already"
-    ∷ codes "an endpoint of an earlier line has this device ID"
-    ∷ codes "bytes or a character are misspelled"
-    ∷ codes "the packet has a length that is not allowed"
-    ∷ codes "the node is of the wrong kind for this line"
-    ∷ codes "this line may not stand here"
-    ∷ codes "the port has no link"
-    ∷ codes "the script asks for too much work"
-    ∷ []
+-- the text of a line of an input, counted from 1, and nothing for a line that is not there
+abbrev pub line_text : List ℕ → ℕ → List ℕ
+line_text bytes line = slice_index_or (lines_of bytes) (line - 1) []
 
--- why a line of an input is refused: a row for each command
-abbrev pub reason_text : Command → ℕ → List ℕ
-reason_text Replay reason = slice_index_or script_reasons reason (codes "this line is refused")
-reason_text Decode reason = codes "a word of this line is not a character"
+-- a byte that a terminal prints, or a question mark
+abbrev pub shown_byte : ℕ → ℕ
+shown_byte byte = if leb 32 byte && leb byte 126 then byte else 63
 
--- what is said where no line is refused
+-- what is shown of a line, behind a colon: its first 80 bytes
+abbrev pub excerpt_of : List ℕ → List ℕ
+excerpt_of [] = []
+excerpt_of (byte ∷ bytes) = codes ": " ++ map shown_byte (take 80 (byte ∷ bytes))
+    ++ (if ltb 80 (length (byte ∷ bytes)) then codes " ..." else [])
+
+-- What is said of a text that is refused for this reason: what in it is to blame, or the reason.
+pub record IsWhy (command : Command) (text : List ℕ) (reason : ℕ) (why : List ℕ) : Type 0 where
+  pub advice : Advice
+  pub so : IsTrueOf text advice
+  pub says : why ≡ advice_text (reason_text command reason) advice
+
+-- The line of text that is said of a refusal cites the line that is refused.
+pub record Explains (command : Command) (bytes : List ℕ) (line reason : ℕ) (message : List ℕ) :
+    Type 0 where
+  pub why : List ℕ
+  pub is_why : IsWhy command (line_text bytes line) reason why
+  pub says : message ≡ codes "rio: line " ++ decimal line ++ codes ": " ++ why
+      ++ excerpt_of (line_text bytes line) ++ codes "\n"
+
+-- what is said if no line is refused
 abbrev pub status_text : Status → List ℕ
 status_text Done = []
 status_text Words = codes
-    "rio: usage: rio replay, or rio decode; input is read from standard input\n"
+    "rio: usage: rio replay < SCRIPT, rio decode < CHARACTERS, rio check < TRACE, or rio soak NUMBER\n"
 status_text Script = codes "rio: the input is refused\n"
+status_text Unlawful = codes "rio: the trace is not lawful\n"
 status_text ReadFault = codes "rio: standard input cannot be read\n"
 status_text WriteFault = codes "rio: standard output cannot be written\n"
 status_text NoMemory = codes "rio: there is not enough memory\n"
-status_text Undetected = codes "rio: a corrupted character was not detected\n"
+status_text Undetected = codes
+    "rio: a port acted on what its peer had not sent: the last line names it\n"
 status_text TooLong = codes "rio: the input is longer than 4194304 bytes\n"
 status_text Locked = codes "rio: a device is locked by another host\n"
 
 abbrev pub message_text : Status → Option Refusal → List ℕ
 message_text status None = status_text status
-message_text status (Some refusal) = codes "rio: line " ++ decimal refusal.line ++ codes ": "
-    ++ reason_text refusal.command refusal.reason ++ codes "\n"
+message_text status (Some refusal) = refusal.message.items
 
 -- the line that is said of an answer
 abbrev pub message_of : Answer → List ℕ

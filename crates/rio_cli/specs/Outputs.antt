@@ -9,15 +9,23 @@ use Rattle.fabric_script.specs.declared.ports.PortRef.{PortRef}
 use Rattle.fabric_script.specs.Scripts.{IsScript, RefusedAt}
 use Rattle.fabric_replay.specs.Replaying.{ReplayedWhole, ReplayedUnsent, ReplayedFront}
 use Rattle.rio_chars.specs.declared.chars.Char.{Char}
+use Rattle.trace_check.specs.Inputs.{IsRefused as IsRefusedInput}
+use Rattle.rio_cli.specs.Checking.{HasTrace, StopsAt, Checks, ChecksFront}
 use Rattle.rio_cli.specs.Decoding.{SpellsChars, BadWordAt, Decodes, DecodesFront}
+use Rattle.rio_cli.specs.declared.status.Status.{Status}
+use Rattle.rio_cli.specs.declared.status.Status.TheVariants.{Script, Unlawful}
 use Rattle.rio_cli.specs.Inputs.{most_input}
 use Rattle.rio_cli.specs.declared.command.Command.{Command}
-use Rattle.rio_cli.specs.declared.command.Command.TheVariants.{Replay, Decode}
+use Rattle.rio_cli.specs.declared.command.Command.TheVariants.{Replay, Decode, Check}
 
--- the line that refuses a script, or characters
-abbrev pub refusal_text : ℕ → ℕ → List ℕ
-refusal_text line reason =
-    codes "refused " ++ decimal line ++ codes " " ++ decimal reason ++ codes "\n"
+-- the line that refuses an input, or says that it is not lawful
+abbrev pub verdict_word : Status → List ℕ
+verdict_word Unlawful = codes "unlawful "
+verdict_word _ = codes "refused "
+
+abbrev pub verdict_text : Status → ℕ → ℕ → List ℕ
+verdict_text status line reason =
+    verdict_word status ++ (decimal line ++ (codes " " ++ (decimal reason ++ codes "\n")))
 
 -- the lines that refuse words, and an input that is too long
 abbrev pub refused_words : List ℕ
@@ -63,50 +71,66 @@ SpellsScript bytes =
 abbrev pub IsAccepted : Command → List ℕ → Type 0
 IsAccepted Replay = SpellsScript
 IsAccepted Decode = λ bytes. (chars : List Char) × SpellsChars bytes chars
+IsAccepted Check = HasTrace
 
 -- the input is refused, at this line and for this reason
 abbrev pub IsRefused : Command → List ℕ → ℕ → ℕ → Type 0
 IsRefused Replay = RefusedAt
 IsRefused Decode = λ bytes line reason. BadWordAt bytes line × (reason ≡ 1)
+IsRefused Check = IsRefusedInput
+
+-- the input is carried out, and is not lawful, at this line and for this reason
+abbrev pub IsUnlawful : Command → List ℕ → ℕ → ℕ → Type 0
+IsUnlawful Check = StopsAt
+IsUnlawful _ = λ bytes line reason. ⊥
+
+-- a line of the input is told with this status, and this reason
+abbrev pub IsHit : Status → Command → List ℕ → ℕ → ℕ → Type 0
+IsHit Script = IsRefused
+IsHit Unlawful = IsUnlawful
+IsHit _ = λ command bytes line reason. ⊥
 
 -- the input is carried out, and all was written that the command writes of it
 abbrev pub Completes : Command → List ℕ → Option (List ℕ) → Option (List ℕ) → Type 0
 Completes Replay = Traces
 Completes Decode = Decodes
+Completes Check = Checks
 
 -- the input is carried out, and a front of that was written
 abbrev pub CompletesFront : Command → List ℕ → Option (List ℕ) → Option (List ℕ) → Type 0
 CompletesFront Replay = TracesFront
 CompletesFront Decode = DecodesFront
+CompletesFront Check = ChecksFront
 
 -- the input is carried out up to an event that a port acted on and that was not sent, and all was written that the
 -- command writes then
 abbrev pub Exposes : Command → List ℕ → Option (List ℕ) → Option (List ℕ) → Type 0
 Exposes Replay = TracesUnsent
-Exposes Decode = λ bytes written written_after. ⊥
+Exposes _ = λ bytes written written_after. ⊥
 
 -- memory ran out while the input was carried out, and so much was written
 abbrev pub RunsOut : Command → List ℕ → Option (List ℕ) → Option (List ℕ) → Type 0
 RunsOut Replay = TracesFront
-RunsOut Decode = λ bytes written written_after. Keeps written written_after
+RunsOut _ = λ bytes written written_after. Keeps written written_after
 
 -- ---- what is the same for all commands
 
--- The input is refused, and the line that says so was written.
-pub record Declines (command : Command) (bytes : List ℕ) (written written_after : Option (List ℕ)) :
-    Type 0 where
-  pub line : ℕ
-  pub reason : ℕ
-  pub refused : IsRefused command bytes line reason
-  pub told : Appends written written_after (refusal_text line reason)
-
--- The input is refused, and a front of the line that says so was written.
-pub record DeclinesFront (command : Command) (bytes : List ℕ)
+-- The input is refused or not lawful, and the line that says so was written.
+pub record Declines (status : Status) (command : Command) (bytes : List ℕ)
     (written written_after : Option (List ℕ)) : Type 0 where
   pub line : ℕ
   pub reason : ℕ
-  pub refused : IsRefused command bytes line reason
-  pub told : AppendsFront written written_after (refusal_text line reason)
+  pub hit : IsHit status command bytes line reason
+  pub told : Appends written written_after (verdict_text status line reason)
+
+-- The same, and a front of that line was written.
+pub record DeclinesFront (command : Command) (bytes : List ℕ)
+    (written written_after : Option (List ℕ)) : Type 0 where
+  pub status : Status
+  pub line : ℕ
+  pub reason : ℕ
+  pub hit : IsHit status command bytes line reason
+  pub told : AppendsFront written written_after (verdict_text status line reason)
 
 -- what was written if a write failed, of an input that was read whole
 abbrev pub Breaks : Command → List ℕ → Option (List ℕ) → Option (List ℕ) → Type 0

@@ -1,20 +1,38 @@
 -- The words after the program's name, each as the bytes of its text.
-use Rattle.std.specs.Prelude.{◌≡◌, ℕ, List, [], ◌∷◌, codes}
+use Rattle.std.specs.Prelude.{◌≡◌, ◌<◌, ◌^◌, ℕ, List, [], ◌∷◌, codes}
+use Rattle.std.specs.Fmt.{decimal}
+use Rattle.rio_cli.specs.declared.command.Asked.{Asked}
+use Rattle.rio_cli.specs.declared.command.Asked.TheVariants.{Input, Soak}
 use Rattle.rio_cli.specs.declared.command.Command.{Command}
-use Rattle.rio_cli.specs.declared.command.Command.TheVariants.{Replay, Decode}
+use Rattle.rio_cli.specs.declared.command.Command.TheVariants.{Replay, Decode, Check}
 
 -- the words that ask for a command: a row for each
 abbrev pub words_for : Command → List (List ℕ)
 words_for Replay = codes "replay" ∷ []
 words_for Decode = codes "decode" ∷ []
+words_for Check = codes "check" ∷ []
 
--- the words ask for this
+-- the words ask for this to be done with the input
 abbrev pub Asks : Command → List (List ℕ) → Type 0
 Asks command words = words ≡ words_for command
 
--- the words ask for none
+-- the words that ask for the soak of a number
+abbrev pub soak_words : ℕ → List (List ℕ)
+soak_words seed = codes "soak" ∷ decimal seed ∷ []
+
+-- the words ask for the soak of this number, which has room in 32 bits
+abbrev pub AsksSoak : ℕ → List (List ℕ) → Type 0
+AsksSoak seed words = (seed < 2 ^ 32) × (words ≡ soak_words seed)
+
+-- the words ask for this
+abbrev pub AsksFor : Asked → List (List ℕ) → Type 0
+AsksFor (Input command) words = Asks command words
+AsksFor (Soak seed) words = AsksSoak seed words
+
+-- the words ask for nothing
 abbrev pub AreUnknown : List (List ℕ) → Type 0
-AreUnknown words = (command : Command) → ¬ Asks command words
+AreUnknown words = ((command : Command) → ¬ Asks command words)
+    × ((seed : ℕ) → ¬ AsksSoak seed words)
 
 -- the words that follow the program's name
 abbrev pub after_name : List (List ℕ) → List (List ℕ)

@@ -1,26 +1,78 @@
 //! What the words after the program's name ask for.
-ghost use Rattle.std.specs.Prelude.{◌≡◌, ◌↔◌, ◌∷◌, [], IsTrue, MatchOption, map};
+ghost use Rattle.std.specs.Prelude.{◌≡◌, ◌↔◌, ◌∷◌, [], ℕ, IsTrue, MatchOption, map};
 ghost use Rattle.std.specs.String.{string_bytes};
-ghost use Rattle.rio_cli.specs.Words.{AreUnknown, Asks};
+ghost use Rattle.rio_cli.specs.Words.{AreUnknown, Asks, AsksFor, AsksSoak};
+ghost use Rattle.rio_cli.specs.declared.command.Command.{Command as ACommand};
 
-/// What the program is asked for.
+use fabric_script::read_number;
+
+/// What is done with the input.
 #[derive(Clone, Copy, Debug, PartialEq, Eq)]
 pub enum Command {
     /// A script is carried out.
     Replay,
     /// Characters are read.
     Decode,
+    /// A trace is checked.
+    Check,
+}
+
+/// What the program is asked for.
+#[derive(Clone, Copy, Debug, PartialEq, Eq)]
+pub(crate) enum Asked {
+    /// The input is read, and this is done with it.
+    Input(Command),
+    /// The script that this number stands for is carried out. Nothing is read.
+    Soak(u32),
 }
 
 /// What the words ask for, if the program knows them.
-pub(crate) fn command_of(words: &[String]) -> Option<Command>
+pub(crate) fn asked_by(words: &[String]) -> Option<Asked>
     ensures { MatchOption result (AreUnknown (map string_bytes words.now))
+        (λ asked. AsksFor asked (map string_bytes words.now)) }
+{
+    if let Some(command) = command_of(words) {
+        return Some(Asked::Input(command));
+    }
+    let seed = seed_of(words)?;
+    Some(Asked::Soak(seed))
+}
+
+/// What the words ask to be done with the input, if they ask for that.
+fn command_of(words: &[String]) -> Option<Command>
+    ensures { MatchOption result
+        ((command : ACommand) → ¬ Asks command (map string_bytes words.now))
         (λ command. Asks command (map string_bytes words.now)) }
 {
     if is_one(words, "replay") {
         Some(Command::Replay)
     } else if is_one(words, "decode") {
         Some(Command::Decode)
+    } else if is_one(words, "check") {
+        Some(Command::Check)
+    } else {
+        None
+    }
+}
+
+/// The number of which the words ask for the soak, if they ask for that.
+fn seed_of(words: &[String]) -> Option<u32>
+    ensures { MatchOption result ((seed : ℕ) → ¬ AsksSoak seed (map string_bytes words.now))
+        (λ seed. AsksSoak seed (map string_bytes words.now)) }
+{
+    match words {
+        [word, number] => seed_in(word.as_str(), number.as_str()),
+        _ => None,
+    }
+}
+
+/// The number of a soak, if these are its two words.
+fn seed_in(word: &str, number: &str) -> Option<u32>
+    ensures { MatchOption result ((seed : ℕ) → ¬ AsksSoak seed (word.now ∷ number.now ∷ []))
+        (λ seed. AsksSoak seed (word.now ∷ number.now ∷ [])) }
+{
+    if word == "soak" {
+        read_number(number.as_bytes())
     } else {
         None
     }

@@ -1,7 +1,9 @@
 //! `rio`: a simulated RapidIO fabric. `rio replay` reads a script from standard input and writes
-//! its trace to standard output; `rio decode` reads the characters of a link and writes the lines
-//! of their reading. The exit status is the number of what `answer` answers, and a line on standard
-//! error says in words what is to be said of it.
+//! its trace to standard output. `rio decode` reads the characters of a link and writes the lines
+//! of their reading. `rio check` reads set-up lines and a trace, and says whether it is lawful. `rio
+//! soak N` carries out the script that a number stands for, and counts what became of its packets.
+//! The exit status is the number of what `answer` answers, and a line on standard error says in
+//! words what is to be said of it.
 //!
 //! - `run`: the whole program, over any source, sink and sink of messages; `main` gives it the
 //!   arguments and the standard streams, and does nothing more.
@@ -19,16 +21,20 @@ mod laws;
 mod lines;
 mod messages;
 mod program;
+mod refusal;
+mod soaking;
 mod status;
 #[cfg(test)]
 mod tests;
+mod texts;
 mod top;
 mod words;
 
-pub use answer::{Answer, Refusal};
+pub use answer::Answer;
 pub use command::Command;
 pub use laws::inputs_are_judged_once;
 pub use program::run;
+pub use refusal::Refusal;
 use rio_chars::{StdSink, StdSource};
 pub use status::{Status, status_number};
 use std::process::ExitCode;

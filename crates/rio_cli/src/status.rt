@@ -9,7 +9,7 @@ pub enum Status {
     Done,
     /// The words are of no known form.
     Words,
-    /// The script is refused, or a word is no character.
+    /// The script or the set-up lines are refused, or a word is no character.
     Script,
     /// The source failed.
     ReadFault,
@@ -23,6 +23,8 @@ pub enum Status {
     TooLong,
     /// A device is locked by another host. It never comes yet.
     Locked,
+    /// The trace is not lawful.
+    Unlawful,
 }
 
 /// The exit status of the program.
@@ -39,5 +41,6 @@ pub fn status_number(status: Status) -> u8
         Status::Undetected => 7,
         Status::TooLong => 8,
         Status::Locked => 9,
+        Status::Unlawful => 10,
     }
 }

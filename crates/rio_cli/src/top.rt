@@ -1,22 +1,27 @@
 //! The top call.
-ghost use Rattle.std.specs.Prelude.{◌≡◌, ◌≢◌, ◌≤◌, ◌⊎◌, ◌+◌, length, map, MatchOption};
+ghost use Rattle.std.specs.Prelude.{◌≡◌, ◌≢◌, ◌≤◌, ◌⊎◌, ◌+◌, length, map, None, MatchOption};
 ghost use Rattle.std.specs.String.{string_bytes};
 ghost use Rattle.std.specs.Io.KnownBytes.{Appends, Keeps};
 ghost use Rattle.rio_chars.specs.Takings.{ConsumesUpTo};
 ghost use Rattle.rio_cli.specs.Inputs.{most_input};
-ghost use Rattle.rio_cli.specs.declared.command.Command.TheVariants.{Replay, Decode};
-ghost use Rattle.rio_cli.specs.Outputs.{refusal_text};
-ghost use Rattle.rio_cli.specs.Answers.{Ended, Refuses, Answers, SaysOfBytes, SaysOfInput, RefusesBytes, RefusesInput};
+ghost use Rattle.rio_cli.specs.declared.command.Command.TheVariants.{Replay, Decode, Check};
+ghost use Rattle.rio_cli.specs.declared.status.Status.TheVariants.{Script, Unlawful};
+ghost use Rattle.rio_cli.specs.Checking.{lawful_text};
+ghost use Rattle.rio_cli.specs.Outputs.{verdict_text};
+ghost use Rattle.rio_cli.specs.Answers.{Ended, Refuses, Answers, SaysOfBytes, SaysOfInput, TellsRefusal, RefusesBytes, RefusesInput};
 
-use crate::answer::{Answer, Refusal};
-use crate::command::{Command, command_of};
+use crate::answer::Answer;
+use crate::command::{Asked, Command, asked_by};
 use crate::decode::{DecodeEnd, decode_chars};
+use crate::refusal::Refusal;
+use crate::soaking::soak;
 use crate::status::Status;
 use crate::words::{CharsEnd, read_chars};
 use fabric_replay::{ReplayEnd, replay};
 use fabric_script::{ScriptEnd, parse};
 use rio_chars::{ReadEnd, Sink, Source, read_all, write_all};
 use std::alloc::Global;
+use trace_check::{CheckEnd, check_trace};
 
 /// The most bytes of input.
 const MOST_INPUT: usize = 4_194_304;
@@ -26,11 +31,15 @@ const MOST_INPUT: usize = 4_194_304;
 /// `replay` reads a script from the source and writes its trace to the sink. `decode` reads the
 /// characters of a link, as words that spaces and line feeds part, and writes the lines of their
 /// reading, each event at the place of the character that completes it, and then `end`, or `end
-/// cut` if a symbol or a packet is in progress. Other words are answered Words, and nothing is
-/// read. A refusal is one line, and the whole output: `refused words`, `refused length` for more
-/// than 4,194,304 bytes of input, `refused LINE REASON` for a script or what is none, and `refused
-/// LINE 1` for the first line that has a word which is no character. The tests come in this order,
-/// and ReadFault between the first two.
+/// cut` if a symbol or a packet is in progress. `check` reads set-up lines, a line `---` and a
+/// trace, and writes `lawful STEPS`, or `unlawful LINE REASON` and answers Unlawful. `soak N` reads
+/// nothing, and writes what became of the packets of the script that the number stands for. Other
+/// words are answered Words, and nothing is read.
+///
+/// A refusal is one line, and the whole output: `refused words`, `refused length` for more than
+/// 4,194,304 bytes of input, `refused LINE REASON` for a script or set-up lines, and `refused LINE
+/// 1` for the first line that has a word which is no character. The tests come in this order, and
+/// ReadFault between the first two.
 pub fn rio<S: Source, K: Sink>(
     alloc: Global,
     words: &[String],
@@ -43,7 +52,8 @@ pub fn rio<S: Source, K: Sink>(
     answer(alloc, words, source, sink).status
 }
 
-/// Does the same, and answers also which line of the input is refused, and why.
+/// Does the same, and answers also which line of the input is refused and why, with a line of text
+/// that says so.
 pub fn answer<S: Source, K: Sink>(
     alloc: Global,
     words: &[String],
@@ -55,9 +65,10 @@ pub fn answer<S: Source, K: Sink>(
     ensures refuses { Refuses (map string_bytes words.now) result
         (S.left source.old) (S.left source.new) (K.written sink.old) (K.written sink.new) }
 {
-    match command_of(words) {
-        Some(command) => run_input(alloc, command, source, sink),
-        None => Answer::ended(refuse(sink, b"refused words\n", Status::Words)),
+    match asked_by(words) {
+        Some(Asked::Input(command)) => run_input(alloc, command, source, sink),
+        Some(Asked::Soak(seed)) => Answer::ended(soak(alloc, seed, sink)),
+        None => Answer::ended(write_answer(sink, b"refused words\n", Status::Words)),
     }
 }
 
@@ -83,7 +94,7 @@ fn run_input<S: Source, K: Sink>(
         Ok(bytes) => run_bytes(alloc, command, bytes.as_slice(), sink),
         Err(ReadEnd::Fault) => Answer::ended(Status::ReadFault),
         Err(ReadEnd::TooLong) => {
-            Answer::ended(refuse(sink, b"refused length\n", Status::TooLong))
+            Answer::ended(write_answer(sink, b"refused length\n", Status::TooLong))
         }
         Err(ReadEnd::NoMemory) => Answer::ended(Status::NoMemory),
     }
@@ -102,6 +113,7 @@ fn run_bytes<K: Sink>(alloc: Global, command: Command, bytes: &[u8], sink: &mut 
     match command {
         Command::Replay => replay_bytes(alloc, bytes, sink),
         Command::Decode => decode_bytes(alloc, bytes, sink),
+        Command::Check => check_bytes(alloc, bytes, sink),
     }
 }
 
@@ -118,12 +130,8 @@ fn replay_bytes<K: Sink>(alloc: Global, bytes: &[u8], sink: &mut K) -> Answer
     let script = match parse(alloc, bytes) {
         Ok(script) => script,
         Err(ScriptEnd::Refused(refusal)) => {
-            let refusal = Refusal {
-                command: Command::Replay,
-                line: refusal.line,
-                reason: refusal.reason,
-            };
-            return refuse_line(alloc, refusal, sink);
+            let command = Command::Replay;
+            return refuse_line(alloc, command, bytes, refusal.line, refusal.reason, sink);
         }
         Err(ScriptEnd::NoMemory) => return Answer::ended(Status::NoMemory),
     };
@@ -152,47 +160,123 @@ fn decode_bytes<K: Sink>(alloc: Global, bytes: &[u8], sink: &mut K) -> Answer
             Err(DecodeEnd::NoMemory) => Answer::ended(Status::NoMemory),
         },
         Err(CharsEnd::BadWord(line)) => {
-            let command = Command::Decode;
-            refuse_line(
-                alloc,
-                Refusal {
-                    command,
-                    line,
-                    reason: 1,
-                },
-                sink,
-            )
+            refuse_line(alloc, Command::Decode, bytes, line, 1, sink)
         }
         Err(CharsEnd::NoMemory) => Answer::ended(Status::NoMemory),
     }
 }
 
-/// Writes the line of a refusal and answers it.
-fn refuse_line<K: Sink>(alloc: Global, refusal: Refusal, sink: &mut K) -> Answer
-    ensures refused { Answers result.status Status.Script (refusal_text refusal.line refusal.reason)
+/// Checks the trace that the bytes are, behind its set-up lines.
+fn check_bytes<K: Sink>(alloc: Global, bytes: &[u8], sink: &mut K) -> Answer
+    requires { length bytes.now ≤ most_input }
+    ensures says { SaysOfBytes Check result.status bytes.now
+        (K.written sink.old) (K.faults sink.old) (K.written sink.new) (K.faults sink.new) }
+    ensures refuses { RefusesBytes Check result bytes.now
+        (K.written sink.old) (K.written sink.new) }
+    ensures sink { K.faults sink.old ≤ K.faults sink.new }
+    ensures writes { result.status ≢ Status.WriteFault → K.faults sink.new ≡ K.faults sink.old }
+{
+    let command = Command::Check;
+    match check_trace(alloc, bytes) {
+        Ok(steps) => tell_lawful(alloc, steps, sink),
+        Err(CheckEnd::Refused(refusal)) => {
+            refuse_line(alloc, command, bytes, refusal.line, refusal.reason, sink)
+        }
+        Err(CheckEnd::Unlawful(unlawful)) => {
+            condemn_line(alloc, command, bytes, unlawful.line, unlawful.reason, sink)
+        }
+        Err(CheckEnd::NoMemory) => Answer::ended(Status::NoMemory),
+    }
+}
+
+/// Writes how many steps a lawful trace has.
+fn tell_lawful<K: Sink>(alloc: Global, steps: u32, sink: &mut K) -> Answer
+    ensures lawful { Answers result.status Status.Done (lawful_text steps)
         (K.written sink.old) (K.faults sink.old) (K.written sink.new) (K.faults sink.new)
         ⊎ ((result.status ≡ Status.NoMemory) × Keeps (K.written sink.old) (K.written sink.new)) }
     ensures sink { K.faults sink.old ≤ K.faults sink.new }
     ensures writes { result.status ≢ Status.WriteFault → K.faults sink.new ≡ K.faults sink.old }
-    ensures refusal { MatchOption result.refusal (result.status ≢ Status.Script)
-        (λ told. (result.status ≡ Status.Script) × (told ≡ refusal)
-        × Appends (K.written sink.old) (K.written sink.new)
-        (refusal_text refusal.line refusal.reason)) }
+    ensures no_refusal { result.refusal ≡ None }
 {
-    let Ok(text) = format!(in alloc; "refused {} {}\n", refusal.line, refusal.reason) else {
+    let Ok(text) = format!(in alloc; "lawful {steps}\n") else {
         return Answer::ended(Status::NoMemory);
     };
-    match write_all(sink, text.as_bytes()) {
+    Answer::ended(write_answer(sink, text.as_bytes(), Status::Done))
+}
+
+/// Writes the line of a trace that is not lawful and answers it.
+fn condemn_line<K: Sink>(
+    alloc: Global,
+    command: Command,
+    bytes: &[u8],
+    line: u32,
+    reason: u8,
+    sink: &mut K,
+) -> Answer
+    ensures unlawful { Answers result.status Status.Unlawful (verdict_text Unlawful line reason)
+        (K.written sink.old) (K.faults sink.old) (K.written sink.new) (K.faults sink.new)
+        ⊎ ((result.status ≡ Status.NoMemory) × Keeps (K.written sink.old) (K.written sink.new)) }
+    ensures sink { K.faults sink.old ≤ K.faults sink.new }
+    ensures writes { result.status ≢ Status.WriteFault → K.faults sink.new ≡ K.faults sink.old }
+    ensures refusal { TellsRefusal Unlawful command bytes.now line reason result
+        (K.written sink.old) (K.written sink.new) }
+{
+    let Ok(refusal) = Refusal::new(alloc, command, bytes, line, reason) else {
+        return Answer::ended(Status::NoMemory);
+    };
+    let Ok(text) = format!(in alloc; "unlawful {line} {reason}\n") else {
+        return Answer::ended(Status::NoMemory);
+    };
+    tell_refusal(refusal, Status::Unlawful, text.as_bytes(), sink)
+}
+
+/// Writes the line of a refusal and answers it.
+fn refuse_line<K: Sink>(
+    alloc: Global,
+    command: Command,
+    bytes: &[u8],
+    line: u32,
+    reason: u8,
+    sink: &mut K,
+) -> Answer
+    ensures refused { Answers result.status Status.Script (verdict_text Script line reason)
+        (K.written sink.old) (K.faults sink.old) (K.written sink.new) (K.faults sink.new)
+        ⊎ ((result.status ≡ Status.NoMemory) × Keeps (K.written sink.old) (K.written sink.new)) }
+    ensures sink { K.faults sink.old ≤ K.faults sink.new }
+    ensures writes { result.status ≢ Status.WriteFault → K.faults sink.new ≡ K.faults sink.old }
+    ensures refusal { TellsRefusal Script command bytes.now line reason result
+        (K.written sink.old) (K.written sink.new) }
+{
+    let Ok(refusal) = Refusal::new(alloc, command, bytes, line, reason) else {
+        return Answer::ended(Status::NoMemory);
+    };
+    let Ok(text) = format!(in alloc; "refused {line} {reason}\n") else {
+        return Answer::ended(Status::NoMemory);
+    };
+    tell_refusal(refusal, Status::Script, text.as_bytes(), sink)
+}
+
+/// Writes the line of a refusal and answers it with this status.
+fn tell_refusal<K: Sink>(refusal: Refusal, status: Status, text: &[u8], sink: &mut K) -> Answer
+    ensures answers { Answers result.status status text.now
+        (K.written sink.old) (K.faults sink.old) (K.written sink.new) (K.faults sink.new) }
+    ensures sink { K.faults sink.old ≤ K.faults sink.new }
+    ensures writes { result.status ≢ Status.WriteFault → K.faults sink.new ≡ K.faults sink.old }
+    ensures told { MatchOption result.refusal (result.status ≡ Status.WriteFault)
+        (λ told. (result.status ≡ status) × (told ≡ refusal)
+        × Appends (K.written sink.old) (K.written sink.new) text.now) }
+{
+    match write_all(sink, text) {
         Ok(()) => Answer {
-            status: Status::Script,
+            status,
             refusal: Some(refusal),
         },
         Err(_) => Answer::ended(Status::WriteFault),
     }
 }
 
-/// Writes the line of a refusal and answers its status, or WriteFault if it cannot be written.
-fn refuse<K: Sink>(sink: &mut K, text: &[u8], status: Status) -> Status
+/// Writes the text of an answer and answers its status, or WriteFault if it cannot be written.
+pub(crate) fn write_answer<K: Sink>(sink: &mut K, text: &[u8], status: Status) -> Status
     ensures answers { Answers result status text.now
         (K.written sink.old) (K.faults sink.old) (K.written sink.new) (K.faults sink.new) }
     ensures sink { K.faults sink.old ≤ K.faults sink.new }

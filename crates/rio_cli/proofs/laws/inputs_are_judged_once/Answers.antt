@@ -1,5 +1,5 @@
 use Rattle.rio_cli.specs.Decoding.{words_of}
-use Rattle.rio_cli.proofs.AnswerLaws.{not_refused_too, refused_once_too}
+use Rattle.rio_cli.proofs.CommandLaws.{not_refused_too, refused_once_too}
 use Rattle.rio_cli.proofs.WordLaws.{AreTexts-once}
 use Rattle.rio_cli.proofs.laws.inputs_are_judged_once.Goals as goal
 

@@ -1,0 +1,132 @@
+//! The line of an input that is refused or not lawful, and what is said of it.
+ghost use Rattle.std.specs.Prelude.{◌≡◌, ◌++◌, ℕ, List, IfOk, OnOk, map, take};
+ghost use Rattle.rio_cli.specs.Messages.{line_text, excerpt_of, shown_byte as shown_byte_of, IsWhy, Explains};
+
+use crate::command::Command;
+use crate::texts::{push_advice, push_number, reason_text};
+use fabric_script::{Advice, advise};
+use std::alloc::{AllocError, Global};
+
+/// How many bytes of a line are shown.
+const MOST_SHOWN: usize = 80;
+
+/// The line of an input that is refused or not lawful, counted from 1, and the number of the reason,
+/// by what was asked for; and what is said of it in words: one line of text.
+#[derive(Debug, Drop)]
+pub struct Refusal {
+    pub command: Command,
+    pub line: u32,
+    pub reason: u8,
+    pub message: Vec<u8>,
+}
+
+impl Refusal {
+    /// The refusal of this line of the input. Its message cites the line.
+    pub(crate) fn new(
+        alloc: Global,
+        command: Command,
+        bytes: &[u8],
+        line: u32,
+        reason: u8,
+    ) -> Result<Refusal, AllocError>
+        ensures command { IfOk result (λ refusal. refusal.command ≡ command) }
+        ensures line { IfOk result (λ refusal. refusal.line ≡ line) }
+        ensures reason { IfOk result (λ refusal. refusal.reason ≡ reason) }
+        ensures message { IfOk result (λ refusal.
+            Explains command bytes.now line reason refusal.message.items) }
+    {
+        let text = line_at(bytes, line);
+        let mut message = Vec::new(alloc);
+        message.extend_from_slice(b"rio: line ")?;
+        push_number(&mut message, line)?;
+        message.extend_from_slice(b": ")?;
+        push_why(alloc, &mut message, command, text, reason)?;
+        push_excerpt(&mut message, text)?;
+        message.extend_from_slice(b"\n")?;
+        Ok(Refusal {
+            command,
+            line,
+            reason,
+            message,
+        })
+    }
+}
+
+/// Adds why a line is refused: what in it is to blame, if its text alone shows that.
+fn push_why(
+    alloc: Global,
+    message: &mut Vec<u8>,
+    command: Command,
+    text: &[u8],
+    reason: u8,
+) -> Result<(), AllocError>
+    ensures { OnOk result ((why : List ℕ) × IsWhy command text.now reason why
+        × (message.new.items ≡ message.old.items ++ why)) }
+{
+    let advice = match command {
+        Command::Replay | Command::Check => advise(alloc, text, reason),
+        Command::Decode => Advice::Nothing,
+    };
+    push_advice(message, advice, reason_text(command, reason))
+}
+
+/// The text of a line of the input, and nothing for a line behind the last.
+fn line_at(bytes: &[u8], line: u32) -> &[u8]
+    ensures { result.now ≡ line_text bytes.now line }
+{
+    let mut left = line;
+    for text in bytes.split(|byte| *byte == b'\n') {
+        if left <= 1 {
+            return text;
+        }
+        left -= 1;
+    }
+    b""
+}
+
+/// Adds what is shown of a line, behind a colon: its first bytes.
+fn push_excerpt(message: &mut Vec<u8>, text: &[u8]) -> Result<(), AllocError>
+    ensures { OnOk result (message.new.items ≡ message.old.items ++ excerpt_of text.now) }
+{
+    if text.is_empty() {
+        return Ok(());
+    }
+    message.extend_from_slice(b": ")?;
+    push_shown(message, front_of(text))?;
+    if text.len() > MOST_SHOWN {
+        message.extend_from_slice(b" ...")?;
+    }
+    Ok(())
+}
+
+/// The bytes of a line that are shown.
+fn front_of(text: &[u8]) -> &[u8]
+    ensures { result.now ≡ take 80 text.now }
+{
+    if text.len() <= MOST_SHOWN {
+        return text;
+    }
+    &text[..MOST_SHOWN]
+}
+
+/// Adds bytes as they are shown.
+fn push_shown(message: &mut Vec<u8>, bytes: &[u8]) -> Result<(), AllocError>
+    ensures { OnOk result
+        (message.new.items ≡ message.old.items ++ map shown_byte_of bytes.now) }
+{
+    for byte in bytes {
+        message.push(shown_byte(*byte))?;
+    }
+    Ok(())
+}
+
+/// A byte as it is shown: a question mark for one that a terminal would not print.
+fn shown_byte(byte: u8) -> u8
+    ensures { result ≡ shown_byte_of byte }
+{
+    if b' ' <= byte && byte <= b'~' {
+        byte
+    } else {
+        b'?'
+    }
+}
