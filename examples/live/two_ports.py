@@ -16,12 +16,11 @@ PRIORITIES = 4
 
 
 class Port:
-    """A port of `rio_port`, as a process."""
+    """A program that answers line by line, as a process: `rio_port` with so many buffers, or `rio_live`."""
 
-    def __init__(self, program, buffers):
-        self.process = subprocess.Popen(
-            [program, str(buffers)], stdin=subprocess.PIPE, stdout=subprocess.PIPE
-        )
+    def __init__(self, program, *words):
+        command = [program] + [str(word) for word in words]
+        self.process = subprocess.Popen(command, stdin=subprocess.PIPE, stdout=subprocess.PIPE)
 
     def ask(self, line):
         """Writes a line, and answers the lines of its answer, without `ok`."""
@@ -38,9 +37,8 @@ class Port:
 
     def end(self):
         """Ends the input, and answers the exit status."""
-        self.process.stdin.close()
-        self.process.stdout.close()
-        return self.process.wait()
+        self.process.communicate()
+        return self.process.returncode
 
 
 def characters(answer):

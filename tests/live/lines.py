@@ -3,25 +3,15 @@
 usage: lines.py PROGRAM    The status is 0 if all is as wanted. The characters and packets are those of the worked rows
 of the trace of one packet, which the standard's CRCs give.
 """
-import pathlib
-import selectors
-import subprocess
 import sys
 
-sys.path.insert(0, str(pathlib.Path(__file__).parents[2] / "examples" / "live"))
-from two_ports import Port  # noqa: E402
+from streams import MOST_LINE, byte_by_byte, ended, equal, gone, started
+from two_ports import Port
 
 PACKET = "000f0201cafe0001a9bb0000"
 BURST = "k7c d80 df8 d1f d00 d0f d02 d01 dca dfe d00 d01 da9 dbb d00 d00 k7c d80 dfa d18"
 ACCEPTED = "k1c d00 dff d16"
 AT_REST = ["output ok", "input ok", "outstanding 0", "waiting no"]
-SECONDS = 20
-
-
-def equal(what, found, wanted):
-    """Says what differs."""
-    if found != wanted:
-        sys.exit("%s: %r, wanted %r" % (what, found, wanted))
 
 
 def one_packet(program):
@@ -83,59 +73,29 @@ def refused(program):
     port.end()
 
 
-def started(program, *words):
-    """The program, with pipes for all its streams."""
-    pipe = subprocess.PIPE
-    return subprocess.Popen([program, *words], stdin=pipe, stdout=pipe, stderr=pipe)
-
-
 def ends(program):
     """How it ends, and what stands behind the last line feed is not answered."""
-    for text, wanted, status in [(b"", b"", 0), (b"take", b"", 0), (b"take\ntake", b"empty\nok\n", 0)]:
-        process = started(program)
-        equal("end", process.communicate(text)[:2], (wanted, b""))
-        equal("status", process.returncode, status)
+    for text, wanted in [(b"", b""), (b"take", b""), (b"take\ntake", b"empty\nok\n")]:
+        ended(program, text, wanted, 0)
     for words in [["3"], ["31"], ["x"], ["8", "8"], [""], ["08"]]:
-        process = started(program, *words)
-        equal("words", process.communicate(b"take\n")[0], b"")
-        equal("status", process.returncode, 2)
+        ended(program, b"take\n", b"", 2, *words)
 
 
 def long_lines(program):
-    """A line of 4,194,304 bytes is answered, and one more ends it."""
+    """A line of the most bytes is answered, and one more ends it."""
     text = b"got" + b" d00" * 1048575 + b"\n"
-    equal("long", len(text), 4194304)
+    equal("long", len(text), MOST_LINE)
     process = started(program)
-    answer = process.communicate(text + b"take\n" + b"x" * 4194305 + b"\n")[0]
-    equal("long line", answer[-12:], b"ok\nempty\nok\n")
+    written = process.communicate(text + b"take\n" + b"x" * (MOST_LINE + 1) + b"\n")[0]
+    equal("long line", written[-12:], b"ok\nempty\nok\n")
     equal("status", process.returncode, 8)
 
 
-def byte_by_byte(program):
-    """A line that comes byte by byte is answered once, when its line feed has come, and not before."""
-    process = started(program)
-    ready = selectors.DefaultSelector()
-    ready.register(process.stdout, selectors.EVENT_READ)
-    for byte in b"take":
-        process.stdin.write(bytes([byte]))
-        process.stdin.flush()
-        equal("too early", ready.select(0.01), [])
-    process.stdin.write(b"\n")
-    process.stdin.flush()
-    equal("in time", len(ready.select(SECONDS)), 1)
-    equal("answer", process.communicate()[0], b"empty\nok\n")
-
-
-def gone(program):
-    """A reader that has gone away ends it."""
-    process = started(program)
-    process.stdout.close()
-    process.stdin.write(b"take\n" * 10)
-    process.stdin.close()
-    equal("write fault", process.wait(SECONDS), 5)
-    process.stderr.close()
+def bytes_and_readers(program):
+    byte_by_byte(program, b"take", b"empty\nok\n")
+    gone(program, b"take\n")
 
 
 if __name__ == "__main__":
-    for case in (one_packet, room, time_out, refused, ends, long_lines, byte_by_byte, gone):
+    for case in (one_packet, room, time_out, refused, ends, long_lines, bytes_and_readers):
         case(sys.argv[1])

@@ -1,4 +1,3 @@
 pub mod AnsweringLaws
-pub mod InputLaws
 pub mod RequestLaws
 pub mod ServingLaws

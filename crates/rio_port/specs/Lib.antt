@@ -1,4 +1,3 @@
-pub mod Statuses
 pub mod Requests
 pub mod Texts
 pub mod Answers

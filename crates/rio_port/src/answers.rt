@@ -56,21 +56,28 @@ fn take_chars<K: Sink>(port: &mut Port, chars: &[Char], outbox: &mut Outbox<K>)
     ensures text { Writes K.written K.faults outbox.old outbox.new
         (answers_chars port.old chars.now).text }
 {
+    let mut freed = ArrayVec::new();
     let mut left = chars;
     while let [first, rest @ ..] = left {
-        take_char(port, *first, outbox);
+        take_char(port, *first, &mut freed, outbox);
         left = rest;
     }
 }
 
 /// Takes a character, and tells the packet that is held, those that are freed, and the reply.
-fn take_char<K: Sink>(port: &mut Port, c: Char, outbox: &mut Outbox<K>)
+/// `freed` is room for the packets that are freed.
+fn take_char<K: Sink>(
+    port: &mut Port,
+    c: Char,
+    freed: &mut ArrayVec<Packet, 31>,
+    outbox: &mut Outbox<K>,
+)
     ensures port { port.new ≡ (takes port.old c).port }
     ensures text { Writes K.written K.faults outbox.old outbox.new
         (acted_text (takes port.old c)) }
 {
-    let mut freed = ArrayVec::new();
-    let taken = port.take(c, &mut freed);
+    freed.clear();
+    let taken = port.take(c, freed);
     if let Some(packet) = &taken.held {
         write_packet(outbox, b"hold ", packet);
     }

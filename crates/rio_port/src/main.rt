@@ -7,18 +7,16 @@
 //!
 //! - `run`: the whole program, over any source, sink and sink of messages; `main` gives it the
 //!   arguments and the standard streams, and does nothing more.
-//! - `serve`: the same of a port with so many buffers; [`Status`]: how it ended.
+//! - `serve`: the same of a port with so many buffers, and how it ended.
 //! - [`Request`] and [`Reason`]: what a line asks for, and why one is refused; `read_request`.
 //!
 //! If the system does not give the arguments, the status is 1 and nothing is written.
 #![tactic(auto)]
 
 mod answers;
-mod input;
 mod program;
 mod requests;
 mod serving;
-mod status;
 #[cfg(test)]
 mod tests;
 mod texts;
@@ -28,7 +26,6 @@ pub use program::run;
 pub use requests::{Reason, Request, read_request};
 use rio_chars::{StdSink, StdSource};
 pub use serving::serve;
-pub use status::{Status, status_number};
 use std::process::ExitCode;
 use std::{env, io};
 

@@ -5,13 +5,16 @@ ghost use Rattle.std.specs.String.{string_bytes};
 ghost use Rattle.rio_port.specs.Program.{Ran, Did, AskBuffers};
 
 use crate::serving::serve;
-use crate::status::{Status, status_message, status_number};
 use fabric_script::read_number;
-use rio_chars::{Sink, Source, write_unless};
+use live_lines::{Status, say, status_number};
+use rio_chars::{Sink, Source};
 use std::alloc::Global;
 
 /// The buffers of a port for which no number is said.
 const BUFFERS: u8 = 8;
+
+/// How the program is used.
+const USAGE: &[u8] = b"usage: rio_port [BUFFERS], with 4 to 30 buffers\n";
 
 /// Serves a port with as many buffers as the word behind the program's name says, and answers the
 /// exit status. What there is to say of the end is said in one line to `messages`. A line that
@@ -29,7 +32,7 @@ pub fn run<S: Source, K: Sink, M: Sink>(
         M.written M.faults messages.old messages.new }
 {
     let status = serve_words(alloc, arguments, source, sink);
-    write_unless(false, messages, status_message(status));
+    say(messages, b"rio_port: ", USAGE, status);
     status_number(status)
 }
 

@@ -4,28 +4,14 @@ ghost use Rattle.rio_chars.specs.Written.{Writes};
 ghost use Rattle.link_port.specs.Ports.{new_port};
 ghost use Rattle.rio_port.specs.Lines.{AnswersLine};
 ghost use Rattle.rio_port.specs.Answers.{Answer as AnAnswer};
-ghost use Rattle.rio_port.specs.Program.{ServesFrom, status_of};
+ghost use Rattle.rio_port.specs.Program.{ServesFrom};
 
 use crate::answers::answer;
-use crate::input::{Input, LineEnd};
 use crate::requests::read_request;
-use crate::status::Status;
 use link_port::Port;
+use live_lines::{Input, Status};
 use rio_chars::{Outbox, Sink, Source, TextBuffer};
 use std::alloc::{AllocError, Global};
-
-impl From<LineEnd> for Status {
-    ghost from_gives = { λ end status. status ≡ status_of end };
-
-    fn from(end: LineEnd) -> Self {
-        match end {
-            LineEnd::End => Status::Done,
-            LineEnd::Fault => Status::ReadFault,
-            LineEnd::TooLong => Status::TooLong,
-            LineEnd::NoMemory => Status::NoMemory,
-        }
-    }
-}
 
 /// Reads lines, and answers each before the next is asked for, with a port of 4 to 30 buffers.
 pub fn serve<S: Source, K: Sink>(alloc: Global, buffers: u8, source: &mut S, sink: &mut K) -> Status

@@ -2,7 +2,8 @@
 //! failing.
 ghost use Rattle.std.specs.Prelude.{◌≤◌};
 
-use crate::{Status, run, serve};
+use crate::{run, serve};
+use live_lines::Status;
 use rio_chars::{MemSink, MemSource};
 use std::alloc::Global;
 use std::process::Abort;

@@ -5,6 +5,6 @@ returns g c = record {
   status = c.serve_words-status.result;
   did = c.serve_words-status.ensures;
   number_is = c.status_number.ensures;
-  failed = c.write_unless.result;
-  says = rw c.status_message.ensures at c.write_unless.ensures;
+  failed = c.say.result;
+  says = c.say.ensures;
 }

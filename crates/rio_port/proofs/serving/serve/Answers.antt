@@ -1,12 +1,29 @@
+use Rattle.std.proofs.Common.{[], ◌-◌, ◌^◌, refl}
 use Rattle.link_port.specs.Ports.{new_port}
-use Rattle.rio_port.proofs.ServingLaws.{served_none}
+use Rattle.live_lines.proofs.ServingLaws.{served_none}
+use Rattle.rio_port.specs.Answers.{saying}
 use Rattle.rio_port.proofs.serving.serve.Goals as goal
 
 pub returns-in_default : goal.returns-in_default
-returns-in_default g c = served_none (new_port c.args.buffers) _ _ _ _
+returns-in_default g c = record {
+  lines = [];
+  answer = saying (new_port c.args.buffers) [];
+  answers = refl;
+  serves = served_none (2 ^ 64 - 1) _ _ _ _;
+}
 
 pub returns-in_default-new : goal.returns-in_default-new
-returns-in_default-new g c = served_none (new_port c.args.buffers) _ _ _ _
+returns-in_default-new g c = record {
+  lines = [];
+  answer = saying (new_port c.args.buffers) [];
+  answers = refl;
+  serves = served_none (2 ^ 64 - 1) _ _ _ _;
+}
 
 pub returns-in_default-new-2 : goal.returns-in_default-new-2
-returns-in_default-new-2 g c = served_none (new_port c.args.buffers) _ _ _ _
+returns-in_default-new-2 g c = record {
+  lines = [];
+  answer = saying (new_port c.args.buffers) [];
+  answers = refl;
+  serves = served_none (2 ^ 64 - 1) _ _ _ _;
+}

@@ -1,12 +1,14 @@
 use Rattle.std.proofs.Common.{◌≡◌, ◌-◌, ◌^◌, ◌++◌, refl, sym, ◌∙◌, subst, arith}
-use Rattle.rio_port.specs.Lines.{AnswersLine, with_feed}
-use Rattle.rio_port.proofs.ServingLaws.{Going-begin, Going-line, Going-read, Going-stops, Going-done, Going-no_memory, Going-fault}
+use Rattle.live_lines.specs.Lines.{with_feed}
+use Rattle.live_lines.proofs.ServingLaws.{Going-stops, Going-done, Going-no_memory, Going-fault}
+use Rattle.rio_port.specs.Lines.{AnswersLine}
+use Rattle.rio_port.proofs.ServingLaws.{Served-begin, Served-line, Served-read}
 use Rattle.rio_port.proofs.serving.serve_lines.Goals as goal
 
 pub loop-count-init : goal.loop-count-init
 loop-count-init g c = record {
-  going =
-      Going-begin g.K.Sink.written g.K.Sink.faults c.args.outbox.now c.args.port.now
+  served =
+      Served-begin g.K.Sink.written g.K.Sink.faults c.args.outbox.now c.args.port.now
       (g.S.Source.left c.args.source.now) (g.S.Source.faults c.args.source.now) c.args.input.now
       c.requires.input;
   same = refl;
@@ -18,27 +20,39 @@ pub returns-in-Err-clause-serves : goal.returns-in-Err-clause-serves
 returns-in-Err-clause-serves g c =
     let h = c.loop-count.invariant in
     let stop = c.in-Err.ensures.stops in
-    rw c.from.ensures (Going-stops g.K.Sink.written g.K.Sink.faults c.args.outbox.now
-    c.args.port.now (g.S.Source.left c.args.source.now) (g.S.Source.faults c.args.source.now)
-    c.loop-count.input stop.0 (g.S.Source.faults c.loop-count.source)
-    (g.S.Source.faults c.read_line.new.source) c.in-Err.end h.going c.requires.empty h.fine h.empty
-    stop.1 stop.2)
+    rw c.from.ensures record {
+      lines = h.served.lines;
+      answer = h.served.answer;
+      answers = h.served.answers;
+      serves =
+          Going-stops g.K.Sink.written g.K.Sink.faults c.args.outbox.now
+          (g.S.Source.left c.args.source.now) (g.S.Source.faults c.args.source.now) (2 ^ 64 - 1)
+          c.loop-count.input stop.0 (g.S.Source.faults c.loop-count.source)
+          (g.S.Source.faults c.read_line.new.source) c.in-Err.end h.served.lines
+          h.served.answer.text h.served.going c.requires.empty h.fine h.empty stop.1 stop.2;
+    }
 
 pub returns-in_default-answer_line-clause-serves : goal.returns-in_default-answer_line-clause-serves
 returns-in_default-answer_line-clause-serves g c =
     let h = c.loop-count.invariant in
     let read = c.in_default.ensures.read in
     let now =
-    Going-read g.K.Sink.written g.K.Sink.faults c.args.outbox.now c.args.port.now
+    Served-read g.K.Sink.written g.K.Sink.faults c.args.outbox.now c.args.port.now
     (g.S.Source.left c.args.source.now) (g.S.Source.faults c.args.source.now) c.loop-count.input
     read.0 (with_feed c.read_line.new.line.items ++ c.read_line.new.self)
     (g.S.Source.faults c.loop-count.source) (g.S.Source.faults c.read_line.new.source)
-    h.going read.1 read.2 c.in_default.ensures.counts in
-    rw c.in_default-answer_line.ensures.outbox (Going-no_memory g.K.Sink.written g.K.Sink.faults
-    c.args.outbox.now c.args.port.now (g.S.Source.left c.args.source.now)
-    (g.S.Source.faults c.args.source.now)
-    (with_feed c.read_line.new.line.items ++ c.read_line.new.self)
-    (g.S.Source.faults c.read_line.new.source) now c.requires.empty h.fine h.empty)
+    h.served read.1 read.2 c.in_default.ensures.counts in
+    rw c.in_default-answer_line.ensures.outbox record {
+      lines = now.lines;
+      answer = now.answer;
+      answers = now.answers;
+      serves =
+          Going-no_memory g.K.Sink.written g.K.Sink.faults c.args.outbox.now
+          (g.S.Source.left c.args.source.now) (g.S.Source.faults c.args.source.now) (2 ^ 64 - 1)
+          (with_feed c.read_line.new.line.items ++ c.read_line.new.self)
+          (g.S.Source.faults c.read_line.new.source) now.lines now.answer.text now.going
+          c.requires.empty h.fine h.empty;
+    }
 
 pub returns-then-failed-clause-serves : goal.returns-then-failed-clause-serves
 returns-then-failed-clause-serves g c =
@@ -47,17 +61,24 @@ returns-then-failed-clause-serves g c =
     let line = c.read_line.new.line.items in
     let given = c.in-Ok.ensures.answer in
     let now =
-    Going-line g.K.Sink.written g.K.Sink.faults c.args.outbox.now c.args.port.now
+    Served-line g.K.Sink.written g.K.Sink.faults c.args.outbox.now c.args.port.now
     (g.S.Source.left c.args.source.now) (g.S.Source.faults c.args.source.now) c.loop-count.input
     c.read_line.new.self line read.0 (g.S.Source.faults c.loop-count.source)
-    (g.S.Source.faults c.read_line.new.source) given.0 h.going read.1 read.2
+    (g.S.Source.faults c.read_line.new.source) given.0 h.served read.1 read.2
     c.in_default.ensures.line
     (subst (λ text. AnswersLine c.loop-count.port text given.0) c.as_slice.ensures.value given.1)
     given.2 given.3 c.in_default.ensures.counts in
-    Going-fault g.K.Sink.written g.K.Sink.faults c.args.outbox.now c.args.port.now
-    (g.S.Source.left c.args.source.now) (g.S.Source.faults c.args.source.now)
-    c.read_line.new.self (g.S.Source.faults c.read_line.new.source) now c.requires.empty
-    c.requires.fine (sym c.failed.ensures ∙ c.if-failed.true)
+    record {
+      lines = now.lines;
+      answer = now.answer;
+      answers = now.answers;
+      serves =
+          Going-fault g.K.Sink.written g.K.Sink.faults c.args.outbox.now
+          (g.S.Source.left c.args.source.now) (g.S.Source.faults c.args.source.now) (2 ^ 64 - 1)
+          c.read_line.new.self (g.S.Source.faults c.read_line.new.source) now.lines
+          now.answer.text now.going c.requires.empty c.requires.fine
+          (sym c.failed.ensures ∙ c.if-failed.true);
+    }
 
 pub loop-count-preserved : goal.loop-count-preserved
 loop-count-preserved g c =
@@ -66,12 +87,12 @@ loop-count-preserved g c =
     let line = c.read_line.new.line.items in
     let given = c.in-Ok.ensures.answer in
     record {
-      going =
-          Going-line g.K.Sink.written g.K.Sink.faults c.args.outbox.now c.args.port.now
+      served =
+          Served-line g.K.Sink.written g.K.Sink.faults c.args.outbox.now c.args.port.now
           (g.S.Source.left c.args.source.now) (g.S.Source.faults c.args.source.now)
           c.loop-count.input c.read_line.new.self line read.0
           (g.S.Source.faults c.loop-count.source) (g.S.Source.faults c.read_line.new.source)
-          given.0 h.going read.1 read.2 c.in_default.ensures.line
+          given.0 h.served read.1 read.2 c.in_default.ensures.line
           (subst (λ text. AnswersLine c.loop-count.port text given.0) c.as_slice.ensures.value
           given.1)
           given.2 given.3 c.in_default.ensures.counts;
@@ -84,6 +105,13 @@ pub returns-clause-serves : goal.returns-clause-serves
 returns-clause-serves g c =
     let h = c.loop-count.invariant in
     let all : c.loop-count.count ≡ 2 ^ 64 - 1 = omega arith in
-    Going-done g.K.Sink.written g.K.Sink.faults c.args.outbox.now c.args.port.now
-    (g.S.Source.left c.args.source.now) (g.S.Source.faults c.args.source.now) c.loop-count.input
-    (g.S.Source.faults c.loop-count.source) h.going c.requires.empty h.fine h.empty all
+    record {
+      lines = h.served.lines;
+      answer = h.served.answer;
+      answers = h.served.answers;
+      serves =
+          Going-done g.K.Sink.written g.K.Sink.faults c.args.outbox.now
+          (g.S.Source.left c.args.source.now) (g.S.Source.faults c.args.source.now) (2 ^ 64 - 1)
+          c.loop-count.input (g.S.Source.faults c.loop-count.source) h.served.lines
+          h.served.answer.text h.served.going c.requires.empty h.fine h.empty all;
+    }

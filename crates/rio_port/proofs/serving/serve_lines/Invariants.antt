@@ -1,10 +1,10 @@
 use Rattle.std.proofs.Common.{◌≡◌, ◌-◌, false, []}
-use Rattle.rio_port.proofs.ServingLaws.{Going}
+use Rattle.rio_port.proofs.ServingLaws.{Served}
 use Rattle.rio_port.proofs.serving.serve_lines.Given as goal
 
 abbrev pub invariant-loop-count : goal.invariant-loop-count
 invariant-loop-count g l = record {
-  going : Going g.K.Sink.written g.K.Sink.faults l.initial.outbox l.outbox l.initial.port l.port
+  served : Served g.K.Sink.written g.K.Sink.faults l.initial.outbox l.outbox l.initial.port l.port
       (g.S.Source.left l.initial.source) (g.S.Source.left l.source) l.input l.count
       (g.S.Source.faults l.initial.source) (g.S.Source.faults l.source);
   same : l.outbox.sink.ghost_name ≡ l.initial.outbox.sink.ghost_name;

@@ -2,22 +2,22 @@
 ghost use Rattle.std.specs.Prelude.{◌≡◌, ◌≤◌, ◌++◌, ◌∷◌, ℕ, List, [], length, IfOk, OnOk, OnErr, IfErr, IfSome, IfNone, MatchOption};
 ghost use Rattle.std.specs.Io.KnownBytes.{Consumes, Keeps, IsAtEnd};
 ghost use Rattle.rio_chars.specs.Faults.{Rose};
-ghost use Rattle.rio_port.specs.Lines.{IsLine, Stops, with_feed};
-ghost use Rattle.rio_port.specs.declared.input.LineEnd.TheVariants.{Fault};
+ghost use Rattle.live_lines.specs.Lines.{IsLine, Stops, with_feed};
+ghost use Rattle.live_lines.specs.declared.input.LineEnd.TheVariants.{Fault};
 
 use rio_chars::{Failed, Source};
 use std::alloc::{AllocError, Global};
 use std::marker::Model;
 
 /// The most bytes of a line, without its line feed.
-pub(crate) const MOST_LINE: usize = 4_194_304;
+pub const MOST_LINE: usize = 4_194_304;
 
 /// The most bytes that one read gives.
 const PIECE: usize = 65536;
 
 /// Why there is no further line.
 #[derive(Clone, Copy, Debug, PartialEq, Eq)]
-pub(crate) enum LineEnd {
+pub enum LineEnd {
     /// The source has no further line feed.
     End,
     /// A read failed.
@@ -38,7 +38,7 @@ impl From<Failed> for LineEnd {
 
 /// Bytes that were read from a source, and that no line has yet.
 #[derive(Drop)]
-pub(crate) struct Input {
+pub struct Input {
     bytes: Vec<u8>,
     begin: usize,
     end: usize,
@@ -57,7 +57,7 @@ impl Model for Input {
 
 impl Input {
     /// No bytes, and room for those of one read.
-    pub(crate) fn new(alloc: Global) -> Result<Input, AllocError>
+    pub fn new(alloc: Global) -> Result<Input, AllocError>
         ensures { IfOk result (λ input. input ≡ []) }
     {
         Ok(Input {
@@ -68,7 +68,7 @@ impl Input {
     }
 
     /// Reads a line, up to its line feed, which is taken and not part of it.
-    pub(crate) fn read_line<S: Source>(
+    pub fn read_line<S: Source>(
         &mut self,
         source: &mut S,
         line: &mut Vec<u8>,

@@ -3,7 +3,7 @@ use Rattle.std.proofs.Common.{◌≡◌, ℕ, ◌<◌, Option, List, [], ◌∷�
 use Rattle.std.specs.Io.KnownBytes.{Consumes}
 use Rattle.std.proofs.KnownBytes.{Consumes-trans}
 use Rattle.std.proofs.lemmas.List.{take-append-le, take_all}
-use Rattle.rio_port.specs.Lines.{HasNoFeed}
+use Rattle.live_lines.specs.Lines.{HasNoFeed}
 
 -- a byte more
 pub taken_more : (a b c : Option (List ℕ)) (pending line mid last : List ℕ) (byte : ℕ)

@@ -1,0 +1,17 @@
+//! What programs share that answer line by line: how they read a line, and how they end.
+//!
+//! Promised: a line that is read is the bytes up to its line feed, however they come, and nothing
+//! behind it is lost. Each end has a number and a message. What a program says that reads lines and
+//! writes answers is one record, `ServesLines` in `specs/Serving.antt`.
+//!
+//! Left out: what a line asks for, and what is answered.
+//!
+//! - [`Input`] and [`LineEnd`]: the lines of a source, and why there is no further one
+//! - [`Status`], `status_number` and `say`: how a program ended
+#![tactic(auto)]
+
+mod input;
+mod status;
+
+pub use input::{Input, LineEnd, MOST_LINE};
+pub use status::{Status, say, status_number};

@@ -1,0 +1,235 @@
+-- What an event did, and what answers a line.
+use Rattle.std.proofs.Common.{◌≡◌, ◌⊎◌, inl, inr, ℕ, List, [], ◌∷◌, ◌++◌, Option, Some, Result, Ok, Err, IfOk, OnErr, codes, refl, sym, ap, ◌∙◌, subst, append-nil, append_assoc}
+use Rattle.std.proofs.lemmas.List.Concat.{flat_map-append}
+use Rattle.std.specs.Fmt.{decimal}
+use Rattle.rio_chars.specs.Written.{Writes}
+use Rattle.rio_chars.specs.declared.outbox.Outbox.{Outbox}
+use Rattle.rio_chars.proofs.WrittenLaws.{Writes-nil, Writes-then}
+use Rattle.link_model.specs.declared.event.Event.{Event as LinkEvent}
+use Rattle.fabric_script.specs.declared.lines.Line.{Line}
+use Rattle.fabric_script.specs.declared.ports.PortRef.{PortRef}
+use Rattle.fabric_script.specs.Known.{Known}
+use Rattle.fabric_script.specs.Reading.{Spells}
+use Rattle.fabric_script.specs.SetUps.{SetUpLines, for_event}
+use Rattle.fabric_trace.specs.Blocks.{IsBlock}
+use Rattle.fabric_trace.specs.Lines.{TraceLine, Begun, Undetected}
+use Rattle.fabric_trace.specs.Runs.{start}
+use Rattle.fabric_trace.specs.Text.{trace_line_text, trace_text}
+use Rattle.fabric_ports.specs.Events.{Evented, Exposed, CutShort}
+use Rattle.fabric_ports.specs.Standing.{Stands}
+use Rattle.fabric_ports.specs.declared.answers.Happened.{Happened as Did}
+use Rattle.fabric_ports.specs.declared.fabric.Fabric.{Fabric}
+use Rattle.rio_live.specs.declared.live.Asked.TheVariants.{Quiet, Event, Refused}
+use Rattle.rio_live.specs.declared.live.Live.{Live}
+use Rattle.rio_live.specs.declared.answers.Going.{Going as Whether}
+use Rattle.rio_live.specs.declared.answers.Going.TheVariants as Goings
+use Rattle.rio_live.specs.Lines.{Taken, seen_so_far, Outcome, Passed, SetUp, Happened, Refused as IsRefusedAs, after, found_text, answer_text, IsCutOf}
+use Rattle.rio_live.specs.Holding.{StandsBy, Holds}
+use Rattle.rio_live.specs.Answers.{IsQuiet, Takes, Happens, FallsShort, Answered, BreaksOff}
+use Rattle.rio_live.proofs.EventLaws.{is_one}
+use Rattle.rio_live.proofs.TakenLaws.{reads_happened, trace_more}
+
+-- ---- what an event did
+
+module _ {K : Type 0} (written : K → Option (List ℕ)) (faults : K → ℕ) (taken : Taken)
+    (line : List ℕ) (event : Line) where
+  -- it was carried out
+  pub happens_on : (out next : Outbox K) (number : ℕ) (live now : Live) (fabric last : Fabric)
+      (did : Did) → Holds live taken → Spells (for_event taken.known) line event
+      → Stands (start taken.set_up) taken.trace fabric
+      → now.text.items ≡ live.text.items → now.set_up ≡ live.set_up → now.fabric ≡ Some last
+      → Evented event taken.known.names written faults out next (start taken.set_up) taken.trace
+      last did
+      → Happens written faults taken number line event out next now Goings.On
+  happens_on out next number live now fabric last did holds spells stands text set_up put
+      done =
+      let names = taken.known.names in
+      let block_text = trace_text names (Begun event ∷ done.block) in
+      record {
+        block = done.block;
+        is = done.is;
+        told =
+            subst (λ found. Writes written faults out next
+            (block_text ++ found_text names number found)) (sym done.stands.sent)
+            (subst (Writes written faults out next) (sym (append-nil block_text)) done.prints);
+        goes = record {
+          text = text ∙ holds.text;
+          few = holds.few;
+          spelled = holds.spelled;
+          known = ap (λ (s : SetUpLines). s.known) set_up ∙ holds.known;
+          trace =
+              trace_more taken number line event done.block fabric holds.trace
+              (is_one taken.known line event spells) stands done.is;
+          stands =
+              subst (λ f. StandsBy f (after taken number line (Happened event done.block)))
+              (sym put) (refl, done.stands);
+        };
+      }
+
+  -- a port acted on an event that was not sent
+  pub happens_unsent : (out mid next : Outbox K) (number : ℕ) (live now : Live) (fabric : Fabric)
+      (port : PortRef) (found : LinkEvent) → Holds live taken
+      → Spells (for_event taken.known) line event
+      → Stands (start taken.set_up) taken.trace fabric
+      → Exposed event taken.known.names written faults out mid (start taken.set_up) taken.trace
+      port found
+      → Writes written faults mid next
+      (trace_line_text taken.known.names (Undetected number port found) ++ codes "\n")
+      → Happens written faults taken number line event out next now Goings.Undetected
+  happens_unsent out mid next number live now fabric port found holds spells stands exposed
+      last =
+      let names = taken.known.names in
+      let block_text = trace_text names (Begun event ∷ exposed.block) in
+      record {
+        block = exposed.block;
+        is = exposed.is;
+        told =
+            subst (λ f. Writes written faults out next
+            (block_text ++ found_text names number f)) (sym exposed.found)
+            (Writes-then _ _ exposed.prints last);
+        goes = (
+          trace_more taken number line event exposed.block fabric holds.trace
+              (is_one taken.known line event spells) stands exposed.is,
+          (record { port = port; event = found }, exposed.found),
+        );
+      }
+
+  -- memory ran out in it, or before it
+  pub falls_short : (out next : Outbox K)
+      → CutShort event taken.known.names written faults out next (start taken.set_up) taken.trace
+      → FallsShort written faults taken event out next
+  falls_short out next short = record {
+    front = short.front;
+    is = inr (short.block, short.rest, short.is, short.whole);
+    told = short.prints;
+  }
+
+  pub falls_at_once : (out : Outbox K) → FallsShort written faults taken event out out
+  falls_at_once out =
+      record { front = []; is = inl refl; told = Writes-nil written faults out }
+
+-- what is said of an error, of any answer
+pub on_err : {T E : Type 0} {P : Type 0} (result : Result T E) → P → OnErr result P
+on_err (Ok x) p = tt
+on_err (Err e) p = p
+
+-- what is said of each answer that is no error, by what was said of it
+pub on_each : {T E : Type 0} (P Q : T → Type 0) (result : Result T E) → ((x : T) → P x → Q x)
+    → IfOk result P → IfOk result Q
+on_each P Q (Ok x) f p = f x p
+on_each P Q (Err e) f p = tt
+
+-- the names that are held are those of the lines that were taken
+pub names_held : (live now : Live) (read : SetUpLines) (names : List (List ℕ)) (taken : Taken)
+    → Holds live taken → names ≡ read.known.names → read ≡ now.set_up
+    → now.set_up ≡ live.set_up → names ≡ taken.known.names
+names_held live now read names taken holds named set_up same =
+    named ∙ ap (λ (s : SetUpLines). s.known.names) (set_up ∙ same)
+    ∙ ap (λ (k : Known). k.names) holds.known
+
+-- the same lines are held once the fabric is put back
+pub put_text : (live mid now : Live) (fabric : Fabric)
+    → now ≡ record mid { fabric = Some fabric } → mid.text ≡ live.text
+    → now.text.items ≡ live.text.items
+put_text live mid now fabric put text = ap (λ (l : Live). l.text.items) put ∙ rw text refl
+
+pub put_set_up : (live mid now : Live) (fabric : Fabric)
+    → now ≡ record mid { fabric = Some fabric } → mid.set_up ≡ live.set_up
+    → now.set_up ≡ live.set_up
+put_set_up live mid now fabric put set_up = ap (λ (l : Live). l.set_up) put ∙ set_up
+
+-- ---- the answer of a line
+
+quiet_text : (taken : Taken) (number : ℕ) (line : List ℕ) (outcome : Outcome) → IsQuiet outcome
+    → answer_text taken number line outcome ≡ codes "ok\n"
+quiet_text taken number line Passed quiet = refl
+quiet_text taken number line (SetUp lines known) quiet = refl
+quiet_text taken number line (Happened event block) quiet = absurd quiet
+quiet_text taken number line (IsRefusedAs reason) quiet = absurd quiet
+
+module _ {K : Type 0} (written : K → Option (List ℕ)) (faults : K → ℕ) (taken : Taken)
+    (number : ℕ) (line : List ℕ) where
+  pub answered_quiet : (out next : Outbox K) (live : Live) → Takes taken line Quiet live
+      → Writes written faults out next (codes "ok\n")
+      → Answered written faults taken number line out next live Goings.On
+  answered_quiet out next live takes told = record {
+    outcome = takes.0;
+    reads = takes.2;
+    told =
+        subst (Writes written faults out next) (sym (quiet_text taken number line takes.0 takes.1))
+        told;
+    goes = takes.3 number;
+  }
+
+  pub answered_refused : (out mid next : Outbox K) (live : Live) (reason : ℕ)
+      → Takes taken line (Refused reason) live
+      → Writes written faults out mid (codes "refused " ++ decimal reason ++ codes "\n")
+      → Writes written faults mid next (codes "ok\n")
+      → Answered written faults taken number line out next live Goings.On
+  answered_refused out mid next live reason takes told ok = record {
+    outcome = IsRefusedAs reason;
+    reads = takes.1;
+    told = Writes-then _ _ told ok;
+    goes = takes.0;
+  }
+
+  pub answered_event : (out mid next : Outbox K) (live now : Live) (event : Line)
+      (going : Whether) → Takes taken line (Event event) live
+      → Happens written faults taken number line event out mid now going
+      → Writes written faults mid next (codes "ok\n")
+      → Answered written faults taken number line out next now going
+  answered_event out mid next live now event going takes happens ok = record {
+    outcome = Happened event happens.block;
+    reads = reads_happened taken line event happens.block takes.1 takes.2 happens.is;
+    told = Writes-then _ _ happens.told ok;
+    goes = happens.goes;
+  }
+
+  pub breaks_event : (out next : Outbox K) (live : Live) (event : Line)
+      → Takes taken line (Event event) live → FallsShort written faults taken event out next
+      → BreaksOff written faults taken number line out next
+  breaks_event out next live event takes short =
+      record { text = trace_text names short.front; is = by_front short.is; told = short.told }
+    where
+      names : List (List ℕ)
+      names = taken.known.names
+
+      -- the text of the lines of a block, cut
+      cut : (block rest : List TraceLine) (front : List TraceLine) (found : List ℕ)
+          → Begun event ∷ block ≡ front ++ rest
+          → (trace_text taken.known.names (Begun event ∷ block) ++ found) ++ codes "ok\n"
+          ≡ trace_text taken.known.names front
+          ++ ((trace_text taken.known.names rest ++ found) ++ codes "ok\n")
+      cut block rest front found whole =
+          let told = trace_text taken.known.names in
+          ap (λ l. (told l ++ found) ++ codes "ok\n") whole
+          ∙ ap (λ l. (l ++ found) ++ codes "ok\n")
+          (flat_map-append (λ l. trace_line_text taken.known.names l ++ 10 ∷ []) front rest)
+          ∙ ap (λ l. l ++ codes "ok\n") (append_assoc (told front) (told rest) found)
+          ∙ append_assoc (told front) (told rest ++ found) (codes "ok\n")
+
+      by_front : (short.front ≡ []) ⊎ ((block : List TraceLine) × (rest : List TraceLine)
+          × IsBlock (seen_so_far taken) event block × (Begun event ∷ block ≡ short.front ++ rest))
+          → IsCutOf taken number line (trace_text taken.known.names short.front)
+      by_front (inl none) = inl (ap (trace_text taken.known.names) none)
+      by_front (inr some) =
+          let found = found_text taken.known.names number
+          (seen_so_far (after taken number line (Happened event some.0))).unfaithful in
+          inr (
+            Happened event some.0,
+            (trace_text taken.known.names some.1 ++ found) ++ codes "ok\n",
+            reads_happened taken line event some.0 takes.1 takes.2 some.2,
+            cut some.0 some.1 short.front found some.3,
+          )
+
+  -- and what waited was written
+  pub answered_whole : (out mid next : Outbox K) (live : Live) (going : Whether)
+      → Answered written faults taken number line out mid live going
+      → Writes written faults mid next []
+      → Answered written faults taken number line out next live going
+  answered_whole out mid next live going a flushed = record {
+    outcome = a.outcome;
+    reads = a.reads;
+    told = subst (Writes written faults out next) (append-nil _) (Writes-then _ [] a.told flushed);
+    goes = a.goes;
+  }

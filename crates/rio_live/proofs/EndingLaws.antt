@@ -1,0 +1,211 @@
+-- Lines that a fabric is given end.
+use Rattle.std.proofs.Common.{◌≡◌, ℕ, ◌+◌, ◌-◌, ◌^◌, Option, Bool, true, false, if◌then◌else◌, List, [], ◌++◌, length, codes, inl, inr, refl, sym, ap, ◌∙◌, subst}
+use Rattle.std.specs.Io.KnownBytes.{Consumes}
+use Rattle.rio_chars.specs.Written.{Writes}
+use Rattle.rio_chars.specs.declared.outbox.Outbox.{Outbox}
+use Rattle.live_lines.specs.declared.input.LineEnd.{LineEnd}
+use Rattle.live_lines.specs.declared.input.LineEnd.TheVariants as stops_at
+use Rattle.live_lines.specs.declared.status.Status.{Status}
+use Rattle.live_lines.specs.declared.status.Status.TheVariants as ends_with
+use Rattle.live_lines.specs.Lines.{Stops}
+use Rattle.live_lines.specs.Serving.{ServesLines, status_of}
+use Rattle.live_lines.proofs.ServingLaws.{Going-read, Going-told, Going-stops, Going-done, Going-fault}
+use Rattle.rio_live.specs.declared.live.Live.{Live}
+use Rattle.rio_live.specs.Lines.{Taken, nothing_taken, AnswersLines}
+use Rattle.rio_live.specs.Holding.{Holds}
+use Rattle.rio_live.specs.Answers.{Stopped}
+use Rattle.rio_live.specs.Program.{Closes, Serves}
+use Rattle.rio_live.proofs.TakenLaws.{is_sent}
+use Rattle.rio_live.proofs.ServingLaws.{Course, with_nothing}
+
+module _ {K : Type 0} (written : K → Option (List ℕ)) (faults : K → ℕ) (begun : Outbox K)
+    (left : Option (List ℕ)) (read_faults : ℕ) where
+  -- there is no further line, and not since the input ended
+  pub Course-stops : {out : Outbox K} {live : Live} {left_now left_last : Option (List ℕ)}
+      (pending taken : List ℕ) {count : ℕ} (read_faults_now read_faults_last : ℕ) (end : LineEnd)
+      → (end ≡ stops_at.End → ⊥)
+      → Course written faults begun out live left left_now pending count read_faults
+      read_faults_now
+      → begun.buffer.now ≡ [] → out.failed ≡ false → out.buffer.now ≡ []
+      → Consumes left_now left_last taken
+      → Stops end left_last read_faults_now read_faults_last (pending ++ taken)
+      → Serves (status_of end) left left_last read_faults read_faults_last
+      (written begun.sink.now) (written out.sink.now) (faults begun.sink.now)
+      (faults out.sink.now)
+  Course-stops {out} {live} {left_now} {left_last} pending taken {count} read_faults_now
+      read_faults_last end other h clear fine empty more stops = record {
+        lines = h.lines;
+        text = h.text;
+        taken = h.taken;
+        last = [];
+        answers = h.answers;
+        trace = h.holds.trace;
+        closes = by_end end other;
+        serves =
+            with_nothing written faults begun left read_faults out (status_of end) h.lines h.text
+            (Going-stops written faults begun left read_faults (2 ^ 32 - 1) pending taken
+            read_faults_now read_faults_last end h.lines h.text h.going clear fine empty more
+            stops);
+      }
+    where
+      by_end : (e : LineEnd) → (e ≡ stops_at.End → ⊥)
+          → Closes (status_of e) h.taken (length h.lines + 1) []
+      by_end stops_at.End other = absurd (other refl)
+      by_end stops_at.Fault other = (is_sent live h.taken h.holds, refl)
+      by_end stops_at.TooLong other = (is_sent live h.taken h.holds, refl)
+      by_end stops_at.NoMemory other = (is_sent live h.taken h.holds, ([], inl refl))
+
+  -- the last line of the trace was told
+  closes_trace : {left_last : Option (List ℕ)} {read_faults_last : ℕ} (next : Outbox K)
+      (live : Live) (status : Status) (lines : List (List ℕ)) (text : List ℕ) (taken : Taken)
+      → AnswersLines nothing_taken 1 lines text taken → Holds live taken
+      → (next.failed ≡ true
+      → ServesLines (2 ^ 32 - 1) ends_with.WriteFault left left_last read_faults read_faults_last
+      (written begun.sink.now) (written next.sink.now) (faults begun.sink.now)
+      (faults next.sink.now) lines (text ++ codes "end\n"))
+      → (next.failed ≡ false
+      → ServesLines (2 ^ 32 - 1) ends_with.Done left left_last read_faults read_faults_last
+      (written begun.sink.now) (written next.sink.now) (faults begun.sink.now)
+      (faults next.sink.now) lines (text ++ codes "end\n"))
+      → status ≡ (if next.failed then ends_with.WriteFault else ends_with.Done)
+      → Serves status left left_last read_faults read_faults_last
+      (written begun.sink.now) (written next.sink.now) (faults begun.sink.now)
+      (faults next.sink.now)
+  closes_trace {left_last} {read_faults_last} next live status lines text taken answers holds
+      fault done is = by_failed next.failed refl
+    where
+      as_serves : (s : Status) → Closes s taken (length lines + 1) (codes "end\n")
+          → ServesLines (2 ^ 32 - 1) s left left_last read_faults read_faults_last
+          (written begun.sink.now) (written next.sink.now) (faults begun.sink.now)
+          (faults next.sink.now) lines (text ++ codes "end\n")
+          → Serves s left left_last read_faults read_faults_last
+          (written begun.sink.now) (written next.sink.now) (faults begun.sink.now)
+          (faults next.sink.now)
+      as_serves s closes serves = record {
+        lines = lines;
+        text = text;
+        taken = taken;
+        last = codes "end\n";
+        answers = answers;
+        trace = holds.trace;
+        closes = closes;
+        serves = serves;
+      }
+
+      by_failed : (b : Bool) → next.failed ≡ b
+          → Serves status left left_last read_faults read_faults_last (written begun.sink.now)
+          (written next.sink.now) (faults begun.sink.now) (faults next.sink.now)
+      by_failed true failed =
+          subst (λ s. Serves s left left_last read_faults read_faults_last
+          (written begun.sink.now) (written next.sink.now) (faults begun.sink.now)
+          (faults next.sink.now))
+          (sym (is ∙ ap (λ f. if f then ends_with.WriteFault else ends_with.Done) failed))
+          (as_serves ends_with.WriteFault (inr (inl refl)) (fault failed))
+      by_failed false fine =
+          subst (λ s. Serves s left left_last read_faults read_faults_last
+          (written begun.sink.now) (written next.sink.now) (faults begun.sink.now)
+          (faults next.sink.now))
+          (sym (is ∙ ap (λ f. if f then ends_with.WriteFault else ends_with.Done) fine))
+          (as_serves ends_with.Done (is_sent live taken holds, refl) (done fine))
+
+  -- the input ended
+  pub Course-ends : {out next : Outbox K} {live : Live} {left_now left_last : Option (List ℕ)}
+      (pending taken : List ℕ) {count : ℕ} (read_faults_now read_faults_last : ℕ)
+      (status : Status)
+      → Course written faults begun out live left left_now pending count read_faults
+      read_faults_now
+      → begun.buffer.now ≡ [] → begun.failed ≡ false → next.buffer.now ≡ []
+      → Consumes left_now left_last taken
+      → Stops stops_at.End left_last read_faults_now read_faults_last (pending ++ taken)
+      → Writes written faults out next (codes "end\n")
+      → status ≡ (if next.failed then ends_with.WriteFault else ends_with.Done)
+      → Serves status left left_last read_faults read_faults_last
+      (written begun.sink.now) (written next.sink.now) (faults begun.sink.now)
+      (faults next.sink.now)
+  Course-ends {out} {next} {live} pending taken read_faults_now read_faults_last status h clear
+      fresh empty more stops told is =
+      let ended =
+      Going-told written faults begun left read_faults pending read_faults_now h.lines h.text
+      (codes "end\n") h.going told in
+      closes_trace next live status h.lines h.text h.taken h.answers h.holds
+      (λ failed. Going-fault written faults begun left read_faults (2 ^ 32 - 1)
+      (pending ++ taken) read_faults_last h.lines (h.text ++ codes "end\n")
+      (Going-read written faults begun left read_faults pending taken (pending ++ taken)
+      read_faults_now read_faults_last h.lines (h.text ++ codes "end\n") ended more refl
+      stops.2)
+      clear fresh failed)
+      (λ fine. Going-stops written faults begun left read_faults (2 ^ 32 - 1) pending taken
+      read_faults_now read_faults_last stops_at.End h.lines (h.text ++ codes "end\n") ended clear
+      fine empty more stops)
+      is
+
+  -- there is no further line
+  pub Course-closed : (next : Outbox K) {out : Outbox K} {live : Live}
+      {left_now left_last : Option (List ℕ)}
+      (pending taken : List ℕ) {count : ℕ} (read_faults_now read_faults_last : ℕ)
+      (end : LineEnd) (status : Status)
+      → Course written faults begun out live left left_now pending count read_faults
+      read_faults_now
+      → begun.buffer.now ≡ [] → begun.failed ≡ false → out.failed ≡ false
+      → out.buffer.now ≡ [] → Consumes left_now left_last taken
+      → Stops end left_last read_faults_now read_faults_last (pending ++ taken)
+      → Stopped end written faults out next status
+      → Serves status left left_last read_faults read_faults_last
+      (written begun.sink.now) (written next.sink.now) (faults begun.sink.now)
+      (faults next.sink.now)
+  Course-closed next {out} {live} {left_now} {left_last} pending taken {count}
+      read_faults_now read_faults_last end status h clear fresh fine empty more = by_end end
+    where
+      other : (e : LineEnd) → (e ≡ stops_at.End → ⊥)
+          → Stops e left_last read_faults_now read_faults_last (pending ++ taken)
+          → (status ≡ status_of e) × (next ≡ out)
+          → Serves status left left_last read_faults read_faults_last
+          (written begun.sink.now) (written next.sink.now) (faults begun.sink.now)
+          (faults next.sink.now)
+      other e no_end stops is =
+          subst (λ s. Serves s left left_last read_faults read_faults_last
+          (written begun.sink.now) (written next.sink.now) (faults begun.sink.now)
+          (faults next.sink.now)) (sym is.0)
+          (subst (λ (o : Outbox K). Serves (status_of e) left left_last read_faults
+          read_faults_last (written begun.sink.now) (written o.sink.now)
+          (faults begun.sink.now) (faults o.sink.now)) (sym is.1)
+          (Course-stops pending taken read_faults_now read_faults_last e no_end h clear fine
+          empty more stops))
+
+      by_end : (e : LineEnd)
+          → Stops e left_last read_faults_now read_faults_last (pending ++ taken)
+          → Stopped e written faults out next status
+          → Serves status left left_last read_faults read_faults_last
+          (written begun.sink.now) (written next.sink.now) (faults begun.sink.now)
+          (faults next.sink.now)
+      by_end stops_at.End stops stopped =
+          Course-ends pending taken read_faults_now read_faults_last status h clear fresh
+          stopped.1 more stops stopped.0 stopped.2
+      by_end stops_at.Fault stops stopped =
+          other stops_at.Fault (λ is. absurd cc) stops (stopped.0, stopped.1)
+      by_end stops_at.TooLong stops stopped =
+          other stops_at.TooLong (λ is. absurd cc) stops (stopped.0, stopped.1)
+      by_end stops_at.NoMemory stops stopped =
+          other stops_at.NoMemory (λ is. absurd cc) stops (stopped.0, stopped.1)
+
+  -- the most lines were served
+  pub Course-done : {out next : Outbox K} {live : Live} {left_now : Option (List ℕ)}
+      (pending : List ℕ) {count : ℕ} (read_faults_now : ℕ) (status : Status)
+      → Course written faults begun out live left left_now pending count read_faults
+      read_faults_now
+      → begun.buffer.now ≡ [] → begun.failed ≡ false → next.buffer.now ≡ []
+      → count ≡ 2 ^ 32 - 1 → Writes written faults out next (codes "end\n")
+      → status ≡ (if next.failed then ends_with.WriteFault else ends_with.Done)
+      → Serves status left left_now read_faults read_faults_now
+      (written begun.sink.now) (written next.sink.now) (faults begun.sink.now)
+      (faults next.sink.now)
+  Course-done {out} {next} {live} pending read_faults_now status h clear fresh empty all told is =
+      let ended =
+      Going-told written faults begun left read_faults pending read_faults_now h.lines h.text
+      (codes "end\n") h.going told in
+      closes_trace next live status h.lines h.text h.taken h.answers h.holds
+      (λ failed. Going-fault written faults begun left read_faults (2 ^ 32 - 1) pending
+      read_faults_now h.lines (h.text ++ codes "end\n") ended clear fresh failed)
+      (λ fine. Going-done written faults begun left read_faults (2 ^ 32 - 1) pending
+      read_faults_now h.lines (h.text ++ codes "end\n") ended clear fine empty all)
+      is

@@ -1,0 +1,23 @@
+use Rattle.rio_live.specs.Answers.{Answered}
+use Rattle.rio_live.specs.Holding.{Holds}
+use Rattle.rio_live.specs.Lines.{Taken}
+use Rattle.rio_live.proofs.AnsweringLaws.{on_each, answered_whole}
+use Rattle.rio_live.proofs.serving.answer_line.Goals as goal
+
+pub returns-clause-answered : goal.returns-clause-answered
+returns-clause-answered g c =
+    let written = g.K.Sink.written in
+    let faults = g.K.Sink.faults in
+    let out = c.args.outbox.now in
+    let mid = c.answer-answered.new.outbox in
+    let next = c.flush.new.self in
+    let live = c.answer-answered.new.live in
+    on_each
+    (λ going. (taken : Taken) → Holds c.args.live.now taken
+    → Answered written faults taken c.args.number c.args.line.now out mid live going)
+    (λ going. (taken : Taken) → Holds c.args.live.now taken
+    → Answered written faults taken c.args.number c.args.line.now out next live going)
+    c.answer-answered.result
+    (λ going was taken holds. answered_whole written faults taken c.args.number
+    c.args.line.now out mid next live going (was taken holds) c.flush.ensures.written)
+    c.answer-answered.ensures.answered

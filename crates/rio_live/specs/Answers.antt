@@ -1,0 +1,142 @@
+-- What the calls that answer a line say.
+use Rattle.std.specs.Prelude.{◌≡◌, ◌≤◌, ◌<◌, ◌⊎◌, ℕ, false, List, [], ◌∷◌, ◌++◌, length, Option, Some, MatchBool, codes, if◌then◌else◌}
+use Rattle.rio_chars.specs.Written.{Writes}
+use Rattle.rio_chars.specs.declared.outbox.Outbox.{Outbox}
+use Rattle.fabric_script.specs.declared.lines.Line.{Line}
+use Rattle.fabric_script.specs.declared.lines.Numbered.{Numbered}
+use Rattle.fabric_script.specs.Known.{Known, nothing_in, of_set_up}
+use Rattle.fabric_script.specs.Reading.{Spells}
+use Rattle.fabric_script.specs.Scripts.{pieces_of, is_skipped, SpellsFrom, RefusedIn, Passes}
+use Rattle.fabric_script.specs.SetUps.{for_event, IsRefused, NoEvents}
+use Rattle.fabric_trace.specs.Blocks.{IsBlock}
+use Rattle.fabric_trace.specs.Known.{Found}
+use Rattle.fabric_trace.specs.Lines.{TraceLine, Begun}
+use Rattle.fabric_trace.specs.Text.{trace_text}
+use Rattle.live_lines.specs.Lines.{with_feed}
+use Rattle.live_lines.specs.declared.input.LineEnd.{LineEnd}
+use Rattle.live_lines.specs.declared.input.LineEnd.TheVariants.{End, Fault, TooLong, NoMemory}
+use Rattle.live_lines.specs.declared.status.Status.{Status}
+use Rattle.live_lines.specs.declared.status.Status.TheVariants as ends_with
+use Rattle.rio_live.specs.declared.live.Asked.{Asked}
+use Rattle.rio_live.specs.declared.live.Asked.TheVariants.{Quiet, Event, Refused}
+use Rattle.rio_live.specs.declared.live.Live.{Live}
+use Rattle.rio_live.specs.declared.answers.Going.{Going}
+use Rattle.rio_live.specs.declared.answers.Going.TheVariants.{On, Undetected}
+use Rattle.rio_live.specs.Lines.{Taken, Outcome, Passed, SetUp, Happened, Refused as IsRefusedAs, ReadsAs, RefusesSetUp, IsCutOf, after, answer_text, found_text, seen_so_far, most_set_up}
+use Rattle.rio_live.specs.Holding.{Holds, IsTrace}
+
+-- ---- reading
+
+-- what is read of a line that is to be an event
+abbrev pub ReadsBy : Known → List ℕ → Asked → Type 0
+ReadsBy known line Quiet = ⊥
+ReadsBy known line (Event event) = Spells known line event
+ReadsBy known line (Refused reason) = IsRefused known line reason
+
+-- the bytes are set-up lines, which are held
+pub record AreSetUp (bytes : List ℕ) (live : Live) : Type 0 where
+  pub lines : List Numbered
+  pub known : Known
+  pub spelled : SpellsFrom 1 (nothing_in of_set_up) (pieces_of bytes) lines known
+  pub passes : Passes known.names lines
+  pub no_events : NoEvents lines
+  pub is : live.set_up.known ≡ for_event known
+
+-- the bytes are none, for the reason of this number
+abbrev pub AreNoSetUp : List ℕ → ℕ → Type 0
+AreNoSetUp bytes reason = (place : ℕ) × RefusedIn of_set_up bytes place reason
+
+-- the same lines and the same fabric are held
+pub record IsSame (old new : Live) : Type 0 where
+  pub text : new.text.items ≡ old.text.items
+  pub set_up : new.set_up ≡ old.set_up
+  pub fabric : new.fabric ≡ old.fabric
+
+-- a line of set-up was taken
+pub record TakesSetUp (old : Live) (line : List ℕ) (new : Live) : Type 0 where
+  pub within : length (old.text.items ++ with_feed line) ≤ most_set_up
+  pub text : new.text.items ≡ old.text.items ++ with_feed line
+  pub are : AreSetUp (old.text.items ++ with_feed line) new
+  pub fabric : new.fabric ≡ old.fabric
+
+-- a line was not taken, since it is none of set-up
+pub record LeavesSetUp (old : Live) (line : List ℕ) (reason : ℕ) (new : Live) : Type 0 where
+  pub why : ((most_set_up < length (old.text.items ++ with_feed line)) × (reason ≡ 14))
+      ⊎ ((length (old.text.items ++ with_feed line) ≤ most_set_up)
+      × AreNoSetUp (old.text.items ++ with_feed line) reason)
+  pub same : IsSame old new
+
+-- a line may be an event: it is no line of set-up
+abbrev pub MayCome : Taken → List ℕ → Type 0
+MayCome taken line =
+    MatchBool taken.begun (is_skipped line ≡ false) (RefusesSetUp taken line 12)
+
+-- nothing is written of it
+abbrev pub IsQuiet : Outcome → Type 0
+IsQuiet Passed = Unit {0}
+IsQuiet (SetUp lines known) = Unit {0}
+IsQuiet (Happened event block) = ⊥
+IsQuiet (IsRefusedAs reason) = ⊥
+
+-- what was done with a line of which this was read
+abbrev pub Takes : Taken → List ℕ → Asked → Live → Type 0
+Takes taken line Quiet live = (outcome : Outcome) × IsQuiet outcome × ReadsAs taken line outcome
+    × ((number : ℕ) → Holds live (after taken number line outcome))
+Takes taken line (Event event) live =
+    Holds live taken × MayCome taken line × Spells (for_event taken.known) line event
+Takes taken line (Refused reason) live =
+    Holds live taken × ReadsAs taken line (IsRefusedAs reason)
+
+-- ---- answering
+
+-- these lines were taken, and there may be a further one, or the last event was not sent
+abbrev pub Goes : Going → Live → Taken → Type 0
+Goes On live taken = Holds live taken
+Goes Undetected live taken =
+    IsTrace taken × ((found : Found) × ((seen_so_far taken).unfaithful ≡ Some found))
+
+-- an event was carried out, and its block was written
+pub record Happens {K : Type 0} (written : K → Option (List ℕ)) (faults : K → ℕ) (taken : Taken)
+    (number : ℕ) (line : List ℕ) (event : Line) (old new : Outbox K) (live : Live) (going : Going)
+    : Type 0 where
+  pub block : List TraceLine
+  pub is : IsBlock (seen_so_far taken) event block
+  pub told : Writes written faults old new (trace_text taken.known.names (Begun event ∷ block)
+      ++ found_text taken.known.names number
+      (seen_so_far (after taken number line (Happened event block))).unfaithful)
+  pub goes : Goes going live (after taken number line (Happened event block))
+
+-- a front of the block was written, or nothing
+pub record FallsShort {K : Type 0} (written : K → Option (List ℕ)) (faults : K → ℕ)
+    (taken : Taken) (event : Line) (old new : Outbox K) : Type 0 where
+  pub front : List TraceLine
+  pub is : (front ≡ []) ⊎ ((block : List TraceLine) × (rest : List TraceLine)
+      × IsBlock (seen_so_far taken) event block × (Begun event ∷ block ≡ front ++ rest))
+  pub told : Writes written faults old new (trace_text taken.known.names front)
+
+-- a line was answered
+pub record Answered {K : Type 0} (written : K → Option (List ℕ)) (faults : K → ℕ) (taken : Taken)
+    (number : ℕ) (line : List ℕ) (old new : Outbox K) (live : Live) (going : Going) : Type 0 where
+  pub outcome : Outcome
+  pub reads : ReadsAs taken line outcome
+  pub told : Writes written faults old new (answer_text taken number line outcome)
+  pub goes : Goes going live (after taken number line outcome)
+
+-- memory ran out, and a front of the answer was written
+pub record BreaksOff {K : Type 0} (written : K → Option (List ℕ)) (faults : K → ℕ)
+    (taken : Taken) (number : ℕ) (line : List ℕ) (old new : Outbox K) : Type 0 where
+  pub text : List ℕ
+  pub is : IsCutOf taken number line text
+  pub told : Writes written faults old new text
+
+-- ---- ending
+
+-- there is no further line, and the last line of the trace was written if the input ended
+abbrev pub Stopped : LineEnd → {K : Type 0} → (K → Option (List ℕ)) → (K → ℕ) → Outbox K
+    → Outbox K → Status → Type 0
+Stopped End written faults old new status = Writes written faults old new (codes "end\n")
+    × (new.buffer.now ≡ [])
+    × (status ≡ (if new.failed then ends_with.WriteFault else ends_with.Done))
+Stopped Fault written faults old new status = (status ≡ ends_with.ReadFault) × (new ≡ old)
+Stopped TooLong written faults old new status = (status ≡ ends_with.TooLong) × (new ≡ old)
+Stopped NoMemory written faults old new status = (status ≡ ends_with.NoMemory) × (new ≡ old)

@@ -1,0 +1,4 @@
+pub mod Lines
+pub mod Holding
+pub mod Answers
+pub mod Program

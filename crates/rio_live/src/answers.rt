@@ -1,0 +1,96 @@
+//! The answer of a line.
+ghost use Rattle.std.specs.Prelude.{◌++◌, ℕ, List, IfOk, OnErr, codes};
+ghost use Rattle.std.specs.Fmt.{decimal};
+ghost use Rattle.rio_chars.specs.Written.{Writes};
+ghost use Rattle.fabric_script.specs.Reading.{Spells};
+ghost use Rattle.fabric_script.specs.SetUps.{for_event};
+ghost use Rattle.rio_live.specs.Lines.{Taken};
+ghost use Rattle.rio_live.specs.Holding.{Holds};
+ghost use Rattle.rio_live.specs.Answers.{Happens, FallsShort, Answered, BreaksOff};
+
+use crate::live::{Asked, Live};
+use fabric_ports::EventEnd;
+use fabric_script::Line;
+use rio_chars::{NoMemory, Outbox, Sink};
+use std::alloc::Global;
+use trace_lines::write_undetected;
+
+/// Whether there may be a further line.
+#[derive(Clone, Copy, Debug, PartialEq, Eq)]
+pub(crate) enum Going {
+    /// There may be one.
+    On,
+    /// A port acted on an event that was not sent: the fabric is of no use any more.
+    Undetected,
+}
+
+/// Reads the line of this number, does what it asks for, and writes its answer, whose last line is
+/// `ok`. If memory runs out, a front of the answer was written.
+pub(crate) fn answer<K: Sink>(
+    alloc: Global,
+    live: &mut Live,
+    number: u32,
+    line: &[u8],
+    outbox: &mut Outbox<K>,
+) -> Result<Going, NoMemory>
+    requires { (taken : Taken) × Holds live.old taken }
+    ensures answered { IfOk result (λ going. (taken : Taken) → Holds live.old taken
+        → Answered K.written K.faults taken number line.now outbox.old outbox.new live.new
+        going) }
+    ensures breaks { OnErr result ((taken : Taken) → Holds live.old taken
+        → BreaksOff K.written K.faults taken number line.now outbox.old outbox.new) }
+{
+    let going = match live.take(alloc, line)? {
+        Asked::Quiet => Going::On,
+        Asked::Refused(reason) => {
+            write_refused(outbox, reason);
+            Going::On
+        }
+        Asked::Event(event) => happen(alloc, live, number, &event, outbox)?,
+    };
+    outbox.write(b"ok\n");
+    Ok(going)
+}
+
+/// Carries out an event, and writes its block.
+fn happen<K: Sink>(
+    alloc: Global,
+    live: &mut Live,
+    number: u32,
+    event: &Line,
+    outbox: &mut Outbox<K>,
+) -> Result<Going, NoMemory>
+    requires { (taken : Taken) × Holds live.old taken
+        × ((line : List ℕ) × Spells (for_event taken.known) line event.now) }
+    ensures happens { IfOk result (λ going. (taken : Taken) (line : List ℕ) → Holds live.old taken
+        → Spells (for_event taken.known) line event.now
+        → Happens K.written K.faults taken number line event.now outbox.old outbox.new live.new
+        going) }
+    ensures short { OnErr result ((taken : Taken) (line : List ℕ) → Holds live.old taken
+        → Spells (for_event taken.known) line event.now
+        → FallsShort K.written K.faults taken event.now outbox.old outbox.new) }
+{
+    let mut fabric = live.take_fabric(alloc)?;
+    let names = live.set_up().names();
+    match fabric.event(alloc, names, event, outbox) {
+        Ok(_) => {
+            live.put_fabric(fabric);
+            Ok(Going::On)
+        }
+        Err(EventEnd::Undetected { port, event }) => {
+            write_undetected(outbox, names, number, port, &event);
+            Ok(Going::Undetected)
+        }
+        Err(EventEnd::NoMemory) => Err(NoMemory),
+    }
+}
+
+/// Tells the reason of a refusal.
+fn write_refused<K: Sink>(outbox: &mut Outbox<K>, reason: u8)
+    ensures { Writes K.written K.faults outbox.old outbox.new
+        (codes "refused " ++ decimal reason ++ codes "\n") }
+{
+    outbox.write(b"refused ");
+    outbox.write_decimal(u32::from(reason));
+    outbox.write(b"\n");
+}

@@ -1,0 +1,120 @@
+//! A fabric that answers line by line.
+ghost use Rattle.std.specs.Prelude.{◌≡◌, [], false, IfOk, OnErr, codes, if◌then◌else◌};
+ghost use Rattle.rio_chars.specs.Written.{Writes};
+ghost use Rattle.live_lines.specs.declared.status.Status.TheVariants as ends_with;
+ghost use Rattle.rio_live.specs.Lines.{Taken, nothing_taken};
+ghost use Rattle.rio_live.specs.Holding.{Holds};
+ghost use Rattle.rio_live.specs.Answers.{Answered, BreaksOff, Stopped};
+ghost use Rattle.rio_live.specs.Program.{Serves};
+
+use crate::answers::{Going, answer};
+use crate::live::Live;
+use live_lines::{Input, LineEnd, Status};
+use rio_chars::{NoMemory, Outbox, Sink, Source, TextBuffer};
+use std::alloc::Global;
+use trace_lines::write_end;
+
+/// Reads lines, and answers each before the next is asked for. At the end of input the last line of
+/// the trace is written.
+pub fn serve<S: Source, K: Sink>(alloc: Global, source: &mut S, sink: &mut K) -> Status
+    ensures { Serves result (S.left source.old) (S.left source.new) (S.faults source.old)
+        (S.faults source.new) (K.written sink.old) (K.written sink.new) (K.faults sink.old)
+        (K.faults sink.new) }
+{
+    let Ok(mut live) = Live::new(alloc) else {
+        return Status::NoMemory;
+    };
+    let Ok(mut input) = Input::new(alloc) else {
+        return Status::NoMemory;
+    };
+    let Ok(mut buffer) = TextBuffer::new(alloc) else {
+        return Status::NoMemory;
+    };
+    let mut outbox = Outbox::new(&mut buffer, sink);
+    serve_lines(alloc, &mut live, &mut input, source, &mut outbox)
+}
+
+/// Reads lines, and answers each before the next is asked for.
+fn serve_lines<S: Source, K: Sink>(
+    alloc: Global,
+    live: &mut Live,
+    input: &mut Input,
+    source: &mut S,
+    outbox: &mut Outbox<K>,
+) -> Status
+    requires holds { Holds live.old nothing_taken }
+    requires input { input.old ≡ [] }
+    requires fine { outbox.old.failed ≡ false }
+    requires empty { outbox.old.buffer.now ≡ [] }
+    ensures same { outbox.new.sink.ghost_name ≡ outbox.old.sink.ghost_name }
+    ensures serves { Serves result (S.left source.old) (S.left source.new) (S.faults source.old)
+        (S.faults source.new) (K.written outbox.old.sink.now) (K.written outbox.new.sink.now)
+        (K.faults outbox.old.sink.now) (K.faults outbox.new.sink.now) }
+{
+    let mut line = Vec::new(alloc);
+    let mut number = 0u32;
+    while number < u32::MAX {
+        if let Err(end) = input.read_line(source, &mut line) {
+            return end_lines(end, outbox);
+        }
+        number += 1;
+        let answered = answer_line(alloc, live, number, line.as_slice(), outbox);
+        if outbox.failed() {
+            return Status::WriteFault;
+        }
+        match answered {
+            Ok(Going::On) => {}
+            Ok(Going::Undetected) => return Status::Undetected,
+            Err(NoMemory) => return Status::NoMemory,
+        }
+    }
+    end_trace(outbox)
+}
+
+/// Answers a line, and writes what there is of the answer unless a write fails.
+fn answer_line<K: Sink>(
+    alloc: Global,
+    live: &mut Live,
+    number: u32,
+    line: &[u8],
+    outbox: &mut Outbox<K>,
+) -> Result<Going, NoMemory>
+    requires { (taken : Taken) × Holds live.old taken }
+    ensures answered { IfOk result (λ going. (taken : Taken) → Holds live.old taken
+        → Answered K.written K.faults taken number line.now outbox.old outbox.new live.new
+        going) }
+    ensures breaks { OnErr result ((taken : Taken) → Holds live.old taken
+        → BreaksOff K.written K.faults taken number line.now outbox.old outbox.new) }
+    ensures empty { outbox.new.buffer.now ≡ [] }
+    ensures same { outbox.new.sink.ghost_name ≡ outbox.old.sink.ghost_name }
+{
+    let answered = answer(alloc, live, number, line, outbox);
+    outbox.flush();
+    answered
+}
+
+/// Ends where there is no further line: the last line of the trace is written if the input ended.
+fn end_lines<K: Sink>(end: LineEnd, outbox: &mut Outbox<K>) -> Status
+    ensures stopped { Stopped end K.written K.faults outbox.old outbox.new result }
+    ensures same { outbox.new.sink.ghost_name ≡ outbox.old.sink.ghost_name }
+{
+    match end {
+        LineEnd::End => end_trace(outbox),
+        LineEnd::Fault | LineEnd::TooLong | LineEnd::NoMemory => Status::from(end),
+    }
+}
+
+/// Writes the last line of the trace, and answers how the program ends.
+fn end_trace<K: Sink>(outbox: &mut Outbox<K>) -> Status
+    ensures written { Writes K.written K.faults outbox.old outbox.new (codes "end\n") }
+    ensures empty { outbox.new.buffer.now ≡ [] }
+    ensures status { result ≡ (if outbox.new.failed then ends_with.WriteFault else ends_with.Done) }
+{
+    write_end(outbox);
+    outbox.flush();
+    if outbox.failed() {
+        Status::WriteFault
+    } else {
+        Status::Done
+    }
+}
