@@ -1,0 +1,107 @@
+//! What the words after the program's name ask for.
+
+use fabric_script::read_number;
+
+/// Which events of a trace a ladder shows, by their numbers, of which the first event has 1. What
+/// comes before the first event has 0.
+#[derive(Clone, Copy)]
+pub struct Range {
+    pub from: u32,
+    pub to: u32,
+}
+
+/// What the program is asked for.
+#[derive(Clone, Copy)]
+pub enum Command {
+    /// The trace with words behind each line, or one line for each transfer.
+    Words { flow: bool },
+    /// A table of what each port did.
+    Counts,
+    /// A picture of the links.
+    Ladder(Range),
+    /// The characters of each wire, one a unit of time.
+    Wave,
+    /// The packets.
+    Packets,
+    /// Which entries of the step tables the ports met.
+    Coverage,
+    /// How the program is used.
+    Help,
+}
+
+/// What the words ask for, if the program knows them.
+pub(crate) fn command_of(words: &[String]) -> Option<Command> {
+    match words {
+        [word] => single(word.as_str().as_bytes()),
+        [word, option] => with_option(word.as_str().as_bytes(), option.as_str().as_bytes()),
+        [word, options @ ..] if is_word(word, b"ladder") => ladder_of(options),
+        _ => None,
+    }
+}
+
+/// One word.
+fn single(word: &[u8]) -> Option<Command> {
+    match word {
+        b"words" => Some(Command::Words { flow: false }),
+        b"counts" => Some(Command::Counts),
+        b"ladder" => Some(Command::Ladder(everything())),
+        b"wave" => Some(Command::Wave),
+        b"packets" => Some(Command::Packets),
+        b"coverage" => Some(Command::Coverage),
+        b"--help" => Some(Command::Help),
+        _ => None,
+    }
+}
+
+/// A word and an option without a number.
+fn with_option(word: &[u8], option: &[u8]) -> Option<Command> {
+    if word == b"words".as_slice() && option == b"--flow".as_slice() {
+        Some(Command::Words { flow: true })
+    } else {
+        None
+    }
+}
+
+/// The options of a ladder: the first event, the last event, or both.
+fn ladder_of(options: &[String]) -> Option<Command> {
+    let all = everything();
+    match options {
+        [name, number] => Some(Command::Ladder(bounded(all, name, number)?)),
+        [name, number, other, last] if name.as_str() != other.as_str() => {
+            let range = bounded(all, name, number)?;
+            Some(Command::Ladder(bounded(range, other, last)?))
+        }
+        _ => None,
+    }
+}
+
+/// All events, and what comes before the first.
+fn everything() -> Range {
+    Range {
+        from: 0,
+        to: u32::MAX,
+    }
+}
+
+/// The range with one of its bounds set.
+fn bounded(range: Range, name: &String, number: &String) -> Option<Range> {
+    let bound = read_number(number.as_str().as_bytes())?;
+    if is_word(name, b"--from") {
+        Some(Range {
+            from: bound,
+            to: range.to,
+        })
+    } else if is_word(name, b"--to") {
+        Some(Range {
+            from: range.from,
+            to: bound,
+        })
+    } else {
+        None
+    }
+}
+
+/// Whether a word is this one.
+fn is_word(word: &String, wanted: &[u8]) -> bool {
+    word.as_str().as_bytes() == wanted
+}

@@ -1,0 +1,342 @@
+//! A trace as a ladder: a lifeline for each port of a link, and an arrow for each packet and symbol.
+
+use crate::cells::Cells;
+use crate::command::Range;
+use crate::drawing::{Draws, Takes};
+use crate::fabric::{Ports, links_of, peer_of, port_of, put_port};
+use crate::heard::{Ear, listen};
+use crate::packets::{Asked, put_packet};
+use crate::picture::{Arrow, ArrowKind, GAP, MARGIN, Mark, Picture, Row, WIDE};
+use crate::reading::ViewEnd;
+use crate::text::Text;
+use crate::view::{Seen, View};
+use crate::words::put_event;
+use fabric_script::{Line, PortRef, SetUp};
+use rio_chars::Char;
+use rio_packets::Packet;
+use std::alloc::{AllocError, Global};
+use trace_check::{Lack, Step, TraceLine};
+
+/// The lifeline of a port, and what stands on its wire.
+#[derive(Drop)]
+pub(crate) struct Lane {
+    pub(crate) wire: Cells,
+    /// The row of the packet that is being sent.
+    pub(crate) open: Option<usize>,
+    /// Whether it asked which packet is expected, and has no answer yet.
+    pub(crate) asks: bool,
+    /// Where the lifeline is, and whether it is the left one of its link.
+    pub(crate) life: Option<(u32, bool)>,
+}
+
+/// A change of what stands on the wire of a port.
+#[derive(Clone, Copy)]
+enum Edit {
+    Alter(u32),
+    Insert(u32),
+    Erase(u32, u32),
+}
+
+/// A ladder in the making.
+#[derive(Drop)]
+pub(crate) struct Ladder {
+    range: Range,
+    event: u32,
+    links: Vec<(PortRef, PortRef)>,
+    sending: Ports<Ear>,
+    taking: Ports<Ear>,
+    lanes: Ports<Lane>,
+    /// An edit that is made unless the next line says that the wire is too short.
+    pending: Option<(PortRef, Edit)>,
+    picture: Picture,
+    asked: Asked,
+    alloc: Global,
+}
+
+impl Ladder {
+    /// Nothing is drawn. Only these events will be.
+    pub(crate) fn new(alloc: Global, range: Range) -> Result<Ladder, AllocError> {
+        Ok(Ladder {
+            range,
+            event: 0,
+            links: Vec::new(alloc),
+            sending: Ports::new(alloc),
+            taking: Ports::new(alloc),
+            lanes: Ports::new(alloc),
+            pending: None,
+            picture: Picture::new(alloc),
+            asked: Asked::new(alloc)?,
+            alloc,
+        })
+    }
+}
+
+impl View for Ladder {
+    fn begin(&mut self, set_up: &SetUp, _: &mut Text) -> Result<(), ViewEnd> {
+        let nodes = set_up.names().len();
+        self.sending.fill(nodes)?;
+        self.taking.fill(nodes)?;
+        for _ in 0..nodes.saturating_mul(16) {
+            self.lanes.push(Lane {
+                wire: Cells::new(self.alloc),
+                open: None,
+                asks: false,
+                life: None,
+            })?;
+        }
+        self.links = links_of(self.alloc, set_up)?;
+        self.place_lives(set_up)?;
+        Ok(())
+    }
+
+    fn take(&mut self, seen: &Seen<'_>, _: &mut Text) -> Result<(), ViewEnd> {
+        self.make_edit(seen.line)?;
+        match seen.line {
+            TraceLine::Begun(line) => self.begin_event(seen, line)?,
+            TraceLine::Sent(port, chars) => self.draw_sent(*port, chars.as_slice())?,
+            TraceLine::Got(port, chars) => self.draw_got(*port, chars.as_slice())?,
+            TraceLine::Stepped(step) => self.draw_step(step)?,
+            TraceLine::Fired(port) => self.mark(*port, b"time-out", true, None)?,
+            TraceLine::Lacked(lack) => self.draw_lack(*lack),
+            TraceLine::Undetected(_, port, event) => {
+                let mut label = Text::new(self.alloc);
+                label.put(b"undetected: ");
+                put_event(&mut label, &mut self.asked, event);
+                self.mark(*port, label.as_slice(), true, None)?;
+            }
+            TraceLine::Ended => {}
+        }
+        Ok(())
+    }
+
+    fn end(&mut self, _: &SetUp, out: &mut Text) -> Result<(), ViewEnd> {
+        self.picture.draw(out);
+        Ok(())
+    }
+}
+
+impl Ladder {
+    /// Whether the event is drawn.
+    fn is_shown(&self) -> bool {
+        self.range.from <= self.event && self.event <= self.range.to
+    }
+
+    /// A lifeline for each port of each link.
+    fn place_lives(&mut self, set_up: &SetUp) -> Result<(), AllocError> {
+        let mut at = MARGIN;
+        for (a, b) in &self.links {
+            for (port, x, left) in [(*a, at, true), (*b, at.saturating_add(WIDE), false)] {
+                if let Some(lane) = self.lanes.get_mut(port) {
+                    lane.life = Some((x, left));
+                }
+                let mut name = Text::new(self.alloc);
+                put_port(&mut name, set_up, port);
+                self.picture.add_life(x, name)?;
+            }
+            at = at.saturating_add(WIDE + GAP);
+        }
+        Ok(())
+    }
+
+    /// An event begins: its band, and the edit that it makes.
+    fn begin_event(&mut self, seen: &Seen<'_>, line: &Line) -> Result<(), AllocError> {
+        self.event = self.event.saturating_add(1);
+        self.pending = match line {
+            Line::Alter { port, place, .. } => Some((*port, Edit::Alter(*place))),
+            Line::Insert { port, place, .. } => Some((*port, Edit::Insert(*place))),
+            Line::Erase { port, place, n } => Some((*port, Edit::Erase(*place, *n))),
+            _ => None,
+        };
+        if self.is_shown() {
+            let mut text = Text::new(self.alloc);
+            text.put_number(u64::from(self.event));
+            text.put(b"  ");
+            text.put(seen.text.get(2..).unwrap_or(seen.text));
+            self.picture.add(Row::Band(text, self.pending.is_some()))?;
+        }
+        Ok(())
+    }
+
+    /// Makes the edit of the line before, unless this line says that the wire is too short.
+    fn make_edit(&mut self, line: &TraceLine) -> Result<(), AllocError> {
+        let Some((port, edit)) = self.pending.take() else {
+            return Ok(());
+        };
+        if let TraceLine::Lacked(Lack::Short) = line {
+            return Ok(());
+        }
+        let Some(lane) = self.lanes.get_mut(port) else {
+            return Ok(());
+        };
+        match edit {
+            Edit::Alter(place) => {
+                let row = lane.wire.alter(place as usize);
+                self.picture.change(row);
+            }
+            Edit::Insert(place) => {
+                let row = lane.wire.insert(place as usize)?;
+                self.picture.change(row);
+            }
+            Edit::Erase(place, count) => {
+                for _ in 0..count {
+                    let row = lane.wire.erase(place as usize);
+                    self.picture.lose(row);
+                }
+            }
+        }
+        Ok(())
+    }
+
+    /// A port sends characters: an arrow for each packet and symbol.
+    fn draw_sent(&mut self, port: PortRef, chars: &[Char]) -> Result<(), AllocError> {
+        let shown = self.is_shown();
+        let to = self.life_of(peer_of(self.links.as_slice(), port));
+        let from = self.life_of(Some(port));
+        let (Some(ear), Some(lane)) = (self.sending.get_mut(port), self.lanes.get_mut(port)) else {
+            return Ok(());
+        };
+        let mut draws = Draws {
+            picture: &mut self.picture,
+            lane,
+            asked: &mut self.asked,
+            ends: (from, to),
+            shown,
+            alloc: self.alloc,
+        };
+        listen(ear, chars, &mut draws)
+    }
+
+    /// A port takes characters of its peer's wire: a mark for each fault and each recovery.
+    fn draw_got(&mut self, port: PortRef, chars: &[Char]) -> Result<(), AllocError> {
+        let mut notes = Vec::new(self.alloc);
+        self.take_chars(port, chars, &mut notes)?;
+        for (label, alarm) in &notes {
+            self.mark(port, label.as_slice(), *alarm, None)?;
+        }
+        Ok(())
+    }
+
+    /// Takes characters of a wire, and notes what is to be marked.
+    fn take_chars(
+        &mut self,
+        port: PortRef,
+        chars: &[Char],
+        notes: &mut Vec<(Text, bool)>,
+    ) -> Result<(), AllocError> {
+        let Some(peer) = peer_of(self.links.as_slice(), port) else {
+            return Ok(());
+        };
+        let mut asks = self.lanes.get(port).is_some_and(|lane| lane.asks);
+        let (Some(ear), Some(lane)) = (self.taking.get_mut(port), self.lanes.get_mut(peer)) else {
+            return Ok(());
+        };
+        let mut takes = Takes {
+            wire: &mut lane.wire,
+            asks: &mut asks,
+            asked: &mut self.asked,
+            notes,
+            alloc: self.alloc,
+        };
+        listen(ear, chars, &mut takes)?;
+        if let Some(lane) = self.lanes.get_mut(port) {
+            lane.asks = asks;
+        }
+        Ok(())
+    }
+
+    /// Where the lifeline of a port is, or 0 if it has none.
+    fn life_of(&self, port: Option<PortRef>) -> u32 {
+        match port {
+            Some(port) => match self.lanes.get(port) {
+                Some(lane) => lane.life.map_or(0, |life| life.0),
+                None => 0,
+            },
+            None => 0,
+        }
+    }
+
+    /// A step of a packet.
+    fn draw_step(&mut self, step: &Step) -> Result<(), AllocError> {
+        match step {
+            Step::Hold(port, packet) => self.mark(*port, b"hold", false, Some(packet)),
+            Step::Free(port, packet) => self.mark(*port, b"free", false, Some(packet)),
+            Step::Take(node, packet) => self.mark(port_of(*node), b"take", false, Some(packet)),
+            Step::Leave(node, packet) => self.mark(port_of(*node), b"leave", false, Some(packet)),
+            Step::Drop(port, packet) => self.mark(*port, b"drop", true, Some(packet)),
+            Step::Answer(port, request, response) => {
+                self.asked.note(request);
+                self.mark(*port, b"answer", false, Some(response))
+            }
+            Step::Move(from, to, packet) => self.draw_move(*from, *to, packet),
+        }
+    }
+
+    /// A packet moves inside a switch.
+    fn draw_move(&mut self, from: PortRef, to: PortRef, packet: &Packet) -> Result<(), AllocError> {
+        let ends = (self.life_of(Some(from)), self.life_of(Some(to)));
+        if !self.is_shown() {
+            return Ok(());
+        }
+        if ends.0 == 0 || ends.1 == 0 || ends.0 == ends.1 {
+            return self.mark(from, b"move", false, Some(packet));
+        }
+        let mut arrow = Arrow::new(self.alloc, ArrowKind::Inside, ends);
+        arrow.label.put(b"move");
+        self.put_tip(&mut arrow.tip, packet);
+        self.picture.add(Row::Arrow(arrow))?;
+        Ok(())
+    }
+
+    /// Nothing could be done.
+    fn draw_lack(&mut self, lack: Lack) {
+        if self.is_shown() {
+            self.picture.add_to_band(match lack {
+                Lack::Full => b": full",
+                Lack::Empty => b": empty",
+                Lack::Short => b": too short",
+                Lack::Early => b": too early",
+                Lack::NoStep => b": nothing to do",
+            });
+        }
+    }
+
+    /// A mark at a port, if it has a lifeline.
+    fn mark(
+        &mut self,
+        port: PortRef,
+        label: &[u8],
+        alarm: bool,
+        packet: Option<&Packet>,
+    ) -> Result<(), AllocError> {
+        if !self.is_shown() {
+            return Ok(());
+        }
+        let Some(lane) = self.lanes.get(port) else {
+            return Ok(());
+        };
+        let Some((at, left)) = lane.life else {
+            return Ok(());
+        };
+        let mut mark = Mark {
+            at,
+            left,
+            alarm,
+            label: Text::new(self.alloc),
+            tip: Text::new(self.alloc),
+        };
+        mark.label.put(label);
+        if let Some(packet) = packet {
+            self.put_tip(&mut mark.tip, packet);
+        }
+        self.picture.add(Row::Mark(mark))?;
+        Ok(())
+    }
+
+    /// The words and the bytes of a packet.
+    fn put_tip(&mut self, tip: &mut Text, packet: &Packet) {
+        tip.put(b" ");
+        put_packet(tip, &mut self.asked, packet);
+        tip.put(b" ");
+        tip.put_hex(packet.bytes());
+    }
+}

@@ -1,0 +1,76 @@
+//! `rio_view`: what a trace of RapidIO links shows. It reads set-up lines, a line `---` and a trace
+//! from standard input, and writes one view of it: words, counts, a ladder, a wave, packets, or
+//! what it covers of the step tables. `docs/pictures.md` shows each of them.
+//!
+//! Promised: each line of a trace is read by the reader of `trace_check`. Left out: whether a trace
+//! is lawful, which that crate tells.
+//!
+//! - `run`: the whole program, over any source, sink and sink of messages; `main` gives it the
+//!   arguments and the standard streams, and does nothing more.
+//! - [`Command`]: what the words ask for; [`Status`]: how it ended.
+//! - [`Tallies`]: what each port did, as [`Sums`] over the lines of a trace.
+//!
+//! If the system does not give the arguments, the status is 1 and nothing is written.
+#![tactic(auto)]
+
+mod capture;
+mod cells;
+mod command;
+mod counts;
+mod coverage;
+mod drawing;
+mod entries;
+mod fabric;
+mod heard;
+mod ladder;
+mod lines;
+mod messages;
+mod packets;
+mod pen;
+mod picture;
+mod probes;
+mod program;
+mod reading;
+mod registers;
+mod shadow;
+mod status;
+mod sums;
+mod symbols;
+mod tally;
+#[cfg(test)]
+mod tests;
+mod text;
+mod view;
+mod wave;
+mod words;
+
+pub use command::Command;
+pub use program::run;
+use rio_chars::{StdSink, StdSource};
+pub use status::{Status, status_number};
+use std::process::ExitCode;
+use std::{env, io};
+pub use sums::{LineCounts, LineKind, Sums, TooMany};
+pub use tally::{Tallies, Tally};
+
+fn main(rt: HostRuntime) -> ExitCode {
+    let Ok(arguments) = arguments(&rt) else {
+        return ExitCode::from(1);
+    };
+    let mut source = StdSource::new(rt.reader());
+    let mut sink = StdSink::new(io::writer(&rt));
+    let mut messages = StdSink::new(rt.stderr());
+    let status = run(
+        rt.alloc(),
+        arguments.as_slice(),
+        &mut source,
+        &mut sink,
+        &mut messages,
+    );
+    ExitCode::from(status)
+}
+
+/// The program's name and the words that follow it.
+fn arguments(rt: &HostRuntime) -> io::Result<Vec<String>> {
+    Ok(env::args(rt)?.collect(rt.alloc())?)
+}

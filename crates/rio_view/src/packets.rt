@@ -1,0 +1,187 @@
+//! Packets in words.
+
+use crate::registers::put_register;
+use crate::text::Text;
+use maint_packets::{Op, Request, Response, read_request, read_response};
+use rio_packets::Packet;
+use std::alloc::{AllocError, Global};
+
+/// How many bytes of data are put as they are.
+const MOST_DATA: usize = 16;
+
+/// How many bytes of longer data are put.
+const FRONT: usize = 8;
+
+/// How many bytes of a body stand before its first CRC.
+const FIRST_BYTES: usize = 80;
+
+/// The registers that requests asked for, by their source and transaction number: a response does
+/// not name its register.
+#[derive(Drop)]
+pub(crate) struct Asked {
+    offsets: Vec<Option<u32>>,
+}
+
+impl Asked {
+    /// No request was seen.
+    pub(crate) fn new(alloc: Global) -> Result<Asked, AllocError> {
+        Ok(Asked {
+            offsets: vec![in alloc; None; 65_536]?,
+        })
+    }
+
+    /// Notes the register of a request, if the packet is one.
+    pub(crate) fn note(&mut self, packet: &Packet) {
+        if let Some(request) = read_request(packet) {
+            if let Some(place) = self.offsets.get_mut(key(request.source, request.tid)) {
+                *place = Some(request.offset);
+            }
+        }
+    }
+
+    /// The register that is answered.
+    fn register_of(&self, response: &Response) -> Option<u32> {
+        *self.offsets.get(key(response.dest, response.tid))?
+    }
+}
+
+/// Where the register of a request is noted.
+fn key(source: u8, tid: u8) -> usize {
+    256 * usize::from(source) + usize::from(tid)
+}
+
+/// What a packet says, with its ackID in front if it has one.
+pub(crate) fn put_packet(out: &mut Text, asked: &mut Asked, packet: &Packet) {
+    asked.note(packet);
+    let (Some(source), Some(dest)) = (packet.source(), packet.dest()) else {
+        out.put(b"priority ");
+        out.put_number(u64::from(packet.prio()));
+        out.put(b", IDs of another width");
+        return;
+    };
+    out.put_number(u64::from(source));
+    out.put(b" to ");
+    out.put_number(u64::from(dest));
+    out.put(b", priority ");
+    out.put_number(u64::from(packet.prio()));
+    out.put(b", ");
+    if packet.hop().is_some() {
+        put_maintenance(out, asked, packet);
+    } else {
+        out.put(b"type ");
+        out.put_number(u64::from(packet.ftype()));
+        out.put(b", ");
+        put_data(out, packet.bytes());
+    }
+}
+
+/// What a packet says that came with an ackID.
+pub(crate) fn put_sent_packet(out: &mut Text, asked: &mut Asked, ack: u8, packet: &Packet) {
+    out.put(b"packet ");
+    out.put_number(u64::from(ack));
+    out.put(b": ");
+    put_packet(out, asked, packet);
+}
+
+/// What a maintenance packet says.
+fn put_maintenance(out: &mut Text, asked: &Asked, packet: &Packet) {
+    if let Some(request) = read_request(packet) {
+        put_request(out, &request);
+    } else if let Some(response) = read_response(packet) {
+        put_response(out, asked, &response);
+    } else {
+        put_other(out, packet.bytes());
+    }
+}
+
+/// What a request asks for.
+fn put_request(out: &mut Text, request: &Request) {
+    out.put(match request.op {
+        Op::Read | Op::BadRead => b"read ",
+        Op::Write { .. } | Op::BadWrite => b"write ",
+    });
+    out.put_number(u64::from(request.tid));
+    out.put(b" hop ");
+    out.put_number(u64::from(request.hop));
+    out.put(b", ");
+    put_register(out, request.offset);
+    match request.op {
+        Op::Read => {}
+        Op::Write { value } => put_value(out, value),
+        Op::BadRead | Op::BadWrite => out.put(b", not of four bytes"),
+    }
+}
+
+/// What a register is, or is to be.
+fn put_value(out: &mut Text, value: u32) {
+    out.put(b" = ");
+    out.put_hex(&value.to_be_bytes());
+}
+
+/// What a response says, with the register that was asked for if its request was seen.
+fn put_response(out: &mut Text, asked: &Asked, response: &Response) {
+    out.put(if response.write {
+        b"write-response "
+    } else {
+        b"read-response "
+    });
+    out.put_number(u64::from(response.tid));
+    out.put(b", ");
+    if response.status != 0 {
+        out.put(b"error ");
+        out.put_number(u64::from(response.status));
+        return;
+    }
+    match response.words {
+        None => out.put(b"done"),
+        Some(words) => put_words(out, asked.register_of(response), words),
+    }
+}
+
+/// The word of two that an offset names, or both if it is not known.
+fn put_words(out: &mut Text, offset: Option<u32>, words: (u32, u32)) {
+    match offset {
+        Some(offset) => {
+            put_register(out, offset);
+            put_value(out, if offset & 4 == 0 { words.0 } else { words.1 });
+        }
+        None => {
+            out.put_hex(&words.0.to_be_bytes());
+            out.put(b" ");
+            out.put_hex(&words.1.to_be_bytes());
+        }
+    }
+}
+
+/// What is neither a request nor a response of a known form.
+fn put_other(out: &mut Text, bytes: &[u8]) {
+    let ttype = bytes.get(4).copied().unwrap_or(0) >> 4;
+    match ttype {
+        2 => out.put(b"read-response of another form"),
+        3 => out.put(b"write-response of another form"),
+        4 => out.put(b"port-write"),
+        _ => {
+            out.put(b"reserved maintenance type ");
+            out.put_number(u64::from(ttype));
+        }
+    }
+}
+
+/// The data of a packet, without its CRCs and pad. Zeros at its end are taken for a pad.
+fn put_data(out: &mut Text, form: &[u8]) {
+    let back = if form.ends_with(&[0, 0]) { 4 } else { 2 };
+    let body = form.get(..form.len().saturating_sub(back)).unwrap_or(b"");
+    let first = body.get(4..body.len().min(FIRST_BYTES)).unwrap_or(b"");
+    let second = body.get(FIRST_BYTES + 2..).unwrap_or(b"");
+    let count = first.len() + second.len();
+    if count == 0 {
+        out.put(b"no data");
+    } else if count <= MOST_DATA {
+        out.put_hex(first);
+    } else {
+        out.put_number(count as u64);
+        out.put(b" bytes ");
+        out.put_hex(first.get(..FRONT).unwrap_or(first));
+        out.put(b"..");
+    }
+}

@@ -1,0 +1,70 @@
+//! The whole program, but for where its words and its streams come from.
+
+use crate::capture::Capture;
+use crate::command::{Command, command_of};
+use crate::counts::Counts;
+use crate::coverage::Coverage;
+use crate::ladder::Ladder;
+use crate::messages::{HELP, say};
+use crate::reading::{ViewEnd, show};
+use crate::status::{Status, status_number};
+use crate::wave::Wave;
+use crate::words::Words;
+use rio_chars::{Sink, Source, write_all};
+use std::alloc::Global;
+
+/// Writes the view that the words behind the program's name ask for, and answers the exit status.
+/// What there is to say of the end is said to `messages`. A message that cannot be said changes
+/// nothing.
+pub fn run<S: Source, K: Sink, M: Sink>(
+    alloc: Global,
+    arguments: &[String],
+    source: &mut S,
+    sink: &mut K,
+    messages: &mut M,
+) -> u8 {
+    let end = view_words(alloc, arguments, source, sink);
+    say(messages, &end);
+    match end {
+        Ok(()) => 0,
+        Err(end) => status_number(end.status()),
+    }
+}
+
+/// Writes the view that the arguments ask for.
+fn view_words<S: Source, K: Sink>(
+    alloc: Global,
+    arguments: &[String],
+    source: &mut S,
+    sink: &mut K,
+) -> Result<(), ViewEnd> {
+    let command = match arguments {
+        [_, words @ ..] => command_of(words),
+        [] => None,
+    };
+    match command {
+        Some(command) => view(alloc, command, source, sink),
+        None => Err(ViewEnd::Ended(Status::Words)),
+    }
+}
+
+/// Writes a view of what is read.
+fn view<S: Source, K: Sink>(
+    alloc: Global,
+    command: Command,
+    source: &mut S,
+    sink: &mut K,
+) -> Result<(), ViewEnd> {
+    match command {
+        Command::Words { flow } => show(alloc, Words::new(alloc, flow)?, source, sink),
+        Command::Counts => show(alloc, Counts::new(alloc), source, sink),
+        Command::Ladder(range) => show(alloc, Ladder::new(alloc, range)?, source, sink),
+        Command::Wave => show(alloc, Wave::new(alloc), source, sink),
+        Command::Packets => show(alloc, Capture::new(alloc), source, sink),
+        Command::Coverage => show(alloc, Coverage::new(alloc), source, sink),
+        Command::Help => match write_all(sink, HELP) {
+            Ok(()) => Ok(()),
+            Err(_) => Err(ViewEnd::Ended(Status::WriteFault)),
+        },
+    }
+}

@@ -1,0 +1,219 @@
+//! A trace is read line by line, and shown by a view.
+ghost use Rattle.std.specs.Prelude.{IfOk};
+ghost use Rattle.fabric_script.specs.SetUps.{IsReady};
+
+use crate::lines::{Lines, MOST_LINE};
+use crate::status::Status;
+use crate::text::Text;
+use crate::view::{Seen, View};
+use fabric_script::{ScriptEnd, SetUp, read_set_up};
+use rio_chars::{Failed, Sink, Source, write_all};
+use std::alloc::{AllocError, AllocFailed, Global};
+use trace_check::{LineEnd, TraceLine, read_trace_line};
+
+/// The line between the set-up lines and the trace.
+const BETWEEN: &[u8] = b"---";
+
+/// How many bytes of a view wait before they are written.
+const ROOM: usize = 65_536;
+
+/// Why a line is refused.
+#[derive(Clone, Copy)]
+pub(crate) enum Reason {
+    /// A set-up line is refused, for the reason of this number.
+    SetUp(u8),
+    /// No line `---` comes.
+    NoTrace,
+    /// It is no line of a trace.
+    NoForm,
+    /// It stands behind the last line of the trace.
+    Behind,
+    /// The last line of the trace does not come.
+    NoEnd,
+}
+
+/// The line that is refused, and why.
+#[derive(Clone, Copy)]
+pub(crate) struct Refusal {
+    pub(crate) line: u32,
+    pub(crate) reason: Reason,
+}
+
+/// Why there is no whole view.
+#[derive(Clone, Copy)]
+pub(crate) enum ViewEnd {
+    /// A line of the input is refused.
+    Refused(Refusal),
+    /// For another reason.
+    Ended(Status),
+}
+
+impl ViewEnd {
+    /// How the program ends.
+    pub(crate) fn status(self) -> Status {
+        match self {
+            ViewEnd::Refused(_) => Status::Refused,
+            ViewEnd::Ended(status) => status,
+        }
+    }
+}
+
+impl From<AllocError> for ViewEnd {
+    fn from(_: AllocError) -> Self {
+        ViewEnd::Ended(Status::NoMemory)
+    }
+}
+
+impl<T: Drop> From<AllocFailed<T>> for ViewEnd {
+    fn from(_: AllocFailed<T>) -> Self {
+        ViewEnd::Ended(Status::NoMemory)
+    }
+}
+
+impl From<Failed> for ViewEnd {
+    fn from(_: Failed) -> Self {
+        ViewEnd::Ended(Status::ReadFault)
+    }
+}
+
+/// A line is refused.
+fn refused<T>(line: u32, reason: Reason) -> Result<T, ViewEnd> {
+    Err(ViewEnd::Refused(Refusal { line, reason }))
+}
+
+/// Reads set-up lines, a line `---` and a trace, and writes a view of it, in pieces of kilobytes. If
+/// a line is refused, what waits to be written is dropped.
+pub(crate) fn show<S: Source, K: Sink, V: View + Drop>(
+    alloc: Global,
+    view: V,
+    source: &mut S,
+    sink: &mut K,
+) -> Result<(), ViewEnd> {
+    let mut view = view;
+    let mut lines = Lines::new(alloc)?;
+    let mut out = Text::new(alloc);
+    let (set_up, first) = read_front(alloc, &mut lines, source)?;
+    view.begin(&set_up, &mut out)?;
+    show_lines(
+        alloc, &set_up, first, &mut lines, source, &mut view, &mut out, sink,
+    )?;
+    view.end(&set_up, &mut out)?;
+    write_out(&mut out, sink)
+}
+
+/// Reads the set-up lines and the line `---`, and answers the number of the line that follows.
+fn read_front<S: Source>(
+    alloc: Global,
+    lines: &mut Lines,
+    source: &mut S,
+) -> Result<(SetUp, u32), ViewEnd>
+    ensures { IfOk result (λ front. IsReady front.0.known) }
+{
+    let mut script = Vec::new(alloc);
+    for number in 1..u32::MAX {
+        if !lines.read(source)? {
+            set_up_of(alloc, script.as_slice())?;
+            return refused(number, Reason::NoTrace);
+        }
+        if lines.line() == BETWEEN {
+            return Ok((set_up_of(alloc, script.as_slice())?, number + 1));
+        }
+        add_line(&mut script, lines.line())?;
+    }
+    Err(ViewEnd::Ended(Status::TooLong))
+}
+
+/// Adds a set-up line, unless those before it are too long.
+fn add_line(script: &mut Vec<u8>, text: &[u8]) -> Result<(), ViewEnd> {
+    if script.len() > MOST_LINE {
+        return Err(ViewEnd::Ended(Status::TooLong));
+    }
+    script.extend_from_slice(text)?;
+    script.push(b'\n')?;
+    Ok(())
+}
+
+/// What set-up lines say.
+fn set_up_of(alloc: Global, script: &[u8]) -> Result<SetUp, ViewEnd>
+    ensures { IfOk result (λ set_up. IsReady set_up.known) }
+{
+    if script.len() > MOST_LINE {
+        return Err(ViewEnd::Ended(Status::TooLong));
+    }
+    match read_set_up(alloc, script) {
+        Ok(set_up) => Ok(set_up),
+        Err(ScriptEnd::Refused(refusal)) => refused(refusal.line, Reason::SetUp(refusal.reason)),
+        Err(ScriptEnd::NoMemory) => Err(ViewEnd::Ended(Status::NoMemory)),
+    }
+}
+
+/// Shows the lines of a trace, of which the first has this number.
+fn show_lines<S: Source, K: Sink, V: View>(
+    alloc: Global,
+    set_up: &SetUp,
+    first: u32,
+    lines: &mut Lines,
+    source: &mut S,
+    view: &mut V,
+    out: &mut Text,
+    sink: &mut K,
+) -> Result<(), ViewEnd>
+    requires { IsReady set_up.now.known }
+{
+    let mut is_done = false;
+    for number in first..u32::MAX {
+        if !lines.read(source)? {
+            return if is_done {
+                Ok(())
+            } else {
+                refused(number, Reason::NoEnd)
+            };
+        }
+        if is_done {
+            return refused(number, Reason::Behind);
+        }
+        is_done = show_line(alloc, set_up, number, lines.line(), view, out)?;
+        if out.len() >= ROOM {
+            write_out(out, sink)?;
+        }
+    }
+    Err(ViewEnd::Ended(Status::TooLong))
+}
+
+/// Shows a line, and tells whether it is the last one.
+fn show_line<V: View>(
+    alloc: Global,
+    set_up: &SetUp,
+    number: u32,
+    text: &[u8],
+    view: &mut V,
+    out: &mut Text,
+) -> Result<bool, ViewEnd>
+    requires { IsReady set_up.now.known }
+{
+    let line = match read_trace_line(alloc, set_up, text) {
+        Ok(line) => line,
+        Err(LineEnd::NoForm) => return refused(number, Reason::NoForm),
+        Err(LineEnd::NoMemory) => return Err(ViewEnd::Ended(Status::NoMemory)),
+    };
+    let seen = Seen {
+        set_up,
+        number,
+        text,
+        line: &line,
+    };
+    view.take(&seen, out)?;
+    Ok(matches!(line, TraceLine::Ended | TraceLine::Undetected(..)))
+}
+
+/// Writes what waits.
+fn write_out<K: Sink>(out: &mut Text, sink: &mut K) -> Result<(), ViewEnd> {
+    if out.failed() {
+        return Err(ViewEnd::Ended(Status::NoMemory));
+    }
+    if write_all(sink, out.as_slice()).is_err() {
+        return Err(ViewEnd::Ended(Status::WriteFault));
+    }
+    out.clear();
+    Ok(())
+}

@@ -1,0 +1,90 @@
+//! Text in the making.
+
+use std::alloc::Global;
+
+/// The hexadecimal digits.
+const DIGITS: &[u8; 16] = b"0123456789abcdef";
+
+/// Bytes in the making. If memory is not given, what is put from then on is dropped: so a text can
+/// be put to its end without a branch at each word, and `failed` be asked then.
+#[derive(Drop)]
+pub(crate) struct Text {
+    bytes: Vec<u8>,
+    failed: bool,
+}
+
+impl Text {
+    /// No bytes. It takes no memory yet.
+    pub(crate) fn new(alloc: Global) -> Text {
+        Text {
+            bytes: Vec::new(alloc),
+            failed: false,
+        }
+    }
+
+    /// Whether memory was not given.
+    pub(crate) fn failed(&self) -> bool {
+        self.failed
+    }
+
+    /// The bytes so far.
+    pub(crate) fn as_slice(&self) -> &[u8] {
+        self.bytes.as_slice()
+    }
+
+    /// How many bytes there are.
+    pub(crate) fn len(&self) -> usize {
+        self.bytes.len()
+    }
+
+    /// The bytes go.
+    pub(crate) fn clear(&mut self) {
+        self.bytes.clear();
+    }
+
+    /// Puts bytes.
+    pub(crate) fn put(&mut self, bytes: &[u8]) {
+        if self.bytes.extend_from_slice(bytes).is_err() {
+            self.failed = true;
+        }
+    }
+
+    /// Puts two hexadecimal digits for each byte.
+    pub(crate) fn put_hex(&mut self, bytes: &[u8]) {
+        for byte in bytes {
+            let high = DIGITS[usize::from(*byte / 16)];
+            let low = DIGITS[usize::from(*byte % 16)];
+            self.put(&[high, low]);
+        }
+    }
+
+    /// Puts a number in decimal digits.
+    pub(crate) fn put_number(&mut self, number: u64) {
+        self.put_number_right(0, number);
+    }
+
+    /// Puts spaces and then a number in decimal digits, so that both have a width, if the number is
+    /// not longer.
+    pub(crate) fn put_number_right(&mut self, width: usize, number: u64) {
+        let mut digits = [b'0'; 20];
+        let mut rest = number;
+        for digit in digits.iter_mut().rev() {
+            *digit = b'0' + (rest % 10) as u8;
+            rest /= 10;
+        }
+        let begin = digits.iter().position(|digit| *digit != b'0').unwrap_or(19);
+        let digits = digits.get(begin..).unwrap_or(b"0");
+        for _ in digits.len()..width {
+            self.put(b" ");
+        }
+        self.put(digits);
+    }
+
+    /// Puts a text and then spaces, so that both have a width, if the text is not longer.
+    pub(crate) fn put_left(&mut self, width: usize, text: &[u8]) {
+        self.put(text);
+        for _ in text.len()..width {
+            self.put(b" ");
+        }
+    }
+}
