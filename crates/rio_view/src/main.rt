@@ -37,8 +37,6 @@ mod status;
 mod sums;
 mod symbols;
 mod tally;
-#[cfg(test)]
-mod tests;
 mod text;
 mod view;
 mod wave;
