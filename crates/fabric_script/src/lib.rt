@@ -27,8 +27,6 @@
 #![tactic(auto)]
 
 mod advice;
-#[cfg(test)]
-mod advice_tests;
 mod forms;
 mod hex;
 mod known;
@@ -44,10 +42,6 @@ mod refusals;
 mod scripts;
 mod set_ups;
 mod soak;
-#[cfg(test)]
-mod soak_tests;
-#[cfg(test)]
-mod tests;
 mod words;
 
 pub use advice::{Advice, WordKind, advise};

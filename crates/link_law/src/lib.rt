@@ -23,15 +23,7 @@ mod deliveries;
 mod draining;
 mod link;
 mod port_states;
-#[cfg(test)]
-mod run_tests;
-#[cfg(test)]
-mod settle_tests;
 mod settling;
-#[cfg(test)]
-mod tests;
-#[cfg(test)]
-mod trace_tests;
 
 pub use answers::{Fired, LinkEnd};
 pub use link::Link;

@@ -29,15 +29,7 @@ mod laws;
 mod output_half;
 mod plain;
 mod port;
-#[cfg(test)]
-mod run_tests;
-#[cfg(test)]
-mod scenario_tests;
 mod taken;
-#[cfg(test)]
-mod tests;
-#[cfg(test)]
-mod turn_tests;
 
 pub use acts::Done;
 pub use bursts::Burst;

@@ -37,8 +37,6 @@
 mod in_error_stopped;
 mod in_ok;
 mod in_retry_stopped;
-#[cfg(test)]
-mod tests;
 
 pub use in_error_stopped::InErrorStopped;
 pub use in_ok::{AfterPacket, InOk};

@@ -27,8 +27,6 @@ mod laws;
 mod moves;
 mod pumps;
 mod queue;
-#[cfg(test)]
-mod tests;
 mod wire;
 
 pub use deliveries::Delivery;

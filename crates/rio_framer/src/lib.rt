@@ -19,8 +19,6 @@ mod framer;
 mod runs;
 mod sending;
 mod steps;
-#[cfg(test)]
-mod tests;
 
 pub use events::{Events, Told};
 pub use framer::Framer;

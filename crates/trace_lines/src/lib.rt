@@ -12,10 +12,6 @@
 #![tactic(auto)]
 
 mod begun;
-#[cfg(test)]
-mod begun_tests;
-#[cfg(test)]
-mod tests;
 mod undetected;
 mod watching;
 mod words;

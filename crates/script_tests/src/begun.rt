@@ -1,0 +1,194 @@
+//! The lines with which events begin, and the line of an event that was not sent.
+use crate::lines::{FAR, NEAR, a_packet, two_names};
+use fabric_script::{Hex, Line, PortRef};
+use link_model::Event;
+use rio_chars::{Char, MemSink, Outbox, TextBuffer};
+use rio_symbols::Symbol;
+use std::test::Fail;
+use trace_lines::*;
+
+const SET_UPS: &[u8] = b"> endpoint A 255\n> switch B 16\n> link A.0 B.15\n> buffers A.0 4\n\
+> route B 255 0\n> default B 254\n> lock B 65535\n";
+
+const PACKETS: &[u8] = b"> send A 0 15 2 cafe0001\n> send B 3 9 255 -\n\
+> read A 1 2 255 7 00006c\n> write B 2 254 0 255 fffff8 0123abcd\n";
+
+const AT_PORTS: &[u8] = b"> pump A.0 31\n> deliver B.0 20\n> alter A.0 8 dcb\n> alter A.0 9 inv\n\
+> insert B.0 100000 k1c\n> erase B.0 0 4\n> timeout A.0\n> settle B.0\n";
+
+const AT_NODES: &[u8] = b"> move B\n> collect A\n> run 100000\n";
+
+const NOT_SENT: &[u8] = b"undetected 8 A.0 symbol 6 20 31 7 0\n\
+undetected 4294967295 B.0 packet 31 000f0201cafe0001a9bb0000\n";
+
+#[test]
+fn lines_of_set_up_are_their_words(rt: HostRuntime) -> Result<(), Fail> {
+    let alloc = rt.alloc();
+    let names = two_names(&rt, alloc)?;
+    let last = PortRef { node: 1, port: 15 };
+    let mut sink = MemSink::new(alloc, 512, 64, Vec::new(alloc))?;
+    let mut buffer = TextBuffer::new(alloc)?;
+    let mut outbox = Outbox::new(&mut buffer, &mut sink);
+    write_begun(&mut outbox, &names, &Line::Endpoint { name: 0, id: 255 });
+    write_begun(&mut outbox, &names, &Line::Switch { name: 1, ports: 16 });
+    write_begun(&mut outbox, &names, &Line::Link { a: NEAR, b: last });
+    write_begun(&mut outbox, &names, &Line::Buffers { port: NEAR, n: 4 });
+    write_begun(
+        &mut outbox,
+        &names,
+        &Line::Route {
+            node: 1,
+            id: 255,
+            p: 0,
+        },
+    );
+    write_begun(&mut outbox, &names, &Line::Default { node: 1, p: 254 });
+    write_begun(&mut outbox, &names, &Line::Lock { node: 1, id: 65535 });
+    outbox.flush();
+    assert_eq!(rt; sink.written(), SET_UPS);
+    Ok(())
+}
+
+#[test]
+fn lines_of_packets_are_their_words(rt: HostRuntime) -> Result<(), Fail> {
+    let alloc = rt.alloc();
+    let names = two_names(&rt, alloc)?;
+    let lines = (
+        Line::Send {
+            node: 0,
+            prio: 0,
+            ftype: 15,
+            dest: 2,
+            hex: Hex::new(vec![in alloc; 0xca, 0xfe, 0, 1]?),
+        },
+        Line::Send {
+            node: 1,
+            prio: 3,
+            ftype: 9,
+            dest: 255,
+            hex: Hex::new(Vec::new(alloc)),
+        },
+        Line::Read {
+            node: 0,
+            prio: 1,
+            dest: 2,
+            hop: 255,
+            tid: 7,
+            offset: 0x6c,
+        },
+        Line::Write {
+            node: 1,
+            prio: 2,
+            dest: 254,
+            hop: 0,
+            tid: 255,
+            offset: 0xfffff8,
+            value: 0x0123abcd,
+        },
+    );
+    let mut sink = MemSink::new(alloc, 512, 64, Vec::new(alloc))?;
+    let mut buffer = TextBuffer::new(alloc)?;
+    let mut outbox = Outbox::new(&mut buffer, &mut sink);
+    write_begun(&mut outbox, &names, &lines.0);
+    write_begun(&mut outbox, &names, &lines.1);
+    write_begun(&mut outbox, &names, &lines.2);
+    write_begun(&mut outbox, &names, &lines.3);
+    outbox.flush();
+    assert_eq!(rt; sink.written(), PACKETS);
+    Ok(())
+}
+
+#[test]
+fn lines_at_ports_are_their_words(rt: HostRuntime) -> Result<(), Fail> {
+    let alloc = rt.alloc();
+    let names = two_names(&rt, alloc)?;
+    let start = Char::Special(0x1c);
+    let mut sink = MemSink::new(alloc, 512, 64, Vec::new(alloc))?;
+    let mut buffer = TextBuffer::new(alloc)?;
+    let mut outbox = Outbox::new(&mut buffer, &mut sink);
+    write_begun(&mut outbox, &names, &Line::Pump { port: NEAR, n: 31 });
+    write_begun(&mut outbox, &names, &Line::Deliver { port: FAR, n: 20 });
+    write_begun(
+        &mut outbox,
+        &names,
+        &Line::Alter {
+            port: NEAR,
+            place: 8,
+            ch: Char::Data(0xcb),
+        },
+    );
+    write_begun(
+        &mut outbox,
+        &names,
+        &Line::Alter {
+            port: NEAR,
+            place: 9,
+            ch: Char::Invalid,
+        },
+    );
+    write_begun(
+        &mut outbox,
+        &names,
+        &Line::Insert {
+            port: FAR,
+            place: 100000,
+            ch: start,
+        },
+    );
+    write_begun(
+        &mut outbox,
+        &names,
+        &Line::Erase {
+            port: FAR,
+            place: 0,
+            n: 4,
+        },
+    );
+    write_begun(&mut outbox, &names, &Line::Timeout { port: NEAR });
+    write_begun(&mut outbox, &names, &Line::Settle { port: FAR });
+    outbox.flush();
+    assert_eq!(rt; sink.written(), AT_PORTS);
+    Ok(())
+}
+
+#[test]
+fn lines_at_nodes_are_their_words(rt: HostRuntime) -> Result<(), Fail> {
+    let alloc = rt.alloc();
+    let names = two_names(&rt, alloc)?;
+    let mut sink = MemSink::new(alloc, 512, 64, Vec::new(alloc))?;
+    let mut buffer = TextBuffer::new(alloc)?;
+    let mut outbox = Outbox::new(&mut buffer, &mut sink);
+    write_begun(&mut outbox, &names, &Line::Move { node: 1 });
+    write_begun(&mut outbox, &names, &Line::Collect { node: 0 });
+    write_begun(&mut outbox, &names, &Line::Run { n: 100000 });
+    outbox.flush();
+    assert_eq!(rt; sink.written(), AT_NODES);
+    Ok(())
+}
+
+#[test]
+fn event_that_was_not_sent_is_named(rt: HostRuntime) -> Result<(), Fail> {
+    let alloc = rt.alloc();
+    let names = two_names(&rt, alloc)?;
+    let symbol = Symbol {
+        s0: 6,
+        p0: 20,
+        p1: 31,
+        s1: 7,
+        cmd: 0,
+    };
+    let mut sink = MemSink::new(alloc, 512, 64, Vec::new(alloc))?;
+    let mut buffer = TextBuffer::new(alloc)?;
+    let mut outbox = Outbox::new(&mut buffer, &mut sink);
+    write_undetected(&mut outbox, &names, 8, NEAR, &Event::Ctl(symbol));
+    write_undetected(
+        &mut outbox,
+        &names,
+        u32::MAX,
+        FAR,
+        &Event::Pkt(31, a_packet(&rt)),
+    );
+    outbox.flush();
+    assert_eq!(rt; sink.written(), NOT_SENT);
+    Ok(())
+}
