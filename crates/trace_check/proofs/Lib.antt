@@ -14,3 +14,4 @@ pub mod StopLaws
 pub mod TableLaws
 pub mod StateLaws
 pub mod NetworkLaws
+pub mod Changed

@@ -8,11 +8,13 @@ use Rattle.link_buffers.specs.Queues.{appended, list_at, popped}
 use Rattle.maint_packets.specs.NextHops.{moved}
 use Rattle.maint_packets.specs.Requests.{request_of}
 use Rattle.fabric_script.specs.declared.ports.PortRef.{PortRef}
-use Rattle.fabric_model.specs.Network.{first_packet, Item, Lanes, with_lane, with_lent}
-use Rattle.fabric_model.specs.Steps.{behind_first, moved_item, only_first}
+use Rattle.fabric_model.specs.Network.{first_packet, Item, Lanes, Network, with_lane, with_lent}
+use Rattle.fabric_model.specs.Steps.{behind_first, moved_item, Needs, only_first, Step}
 use Rattle.fabric_trace.specs.Views.{lists_in, packets_in}
 use Rattle.fabric_trace.proofs.Lanes.{behind_is, first_is, lane_at, lane_other, lent_other, lent_own, lists_set, of_prio_is, packets-append}
 use Rattle.switch_core.proofs.RequestLaws.{request_there}
+use Rattle.trace_check.specs.declared.network.Network.{Network as Kept}
+use Rattle.trace_check.specs.Networks.{MakesIt}
 use Rattle.trace_check.specs.Tables.{IsIn, IsTable, place_of}
 use Rattle.trace_check.proofs.TableLaws.{table_set}
 
@@ -129,6 +131,14 @@ pub if_ok_map : {T E : Type 0} {P Q : T → Type 0} (result : Result T E) → If
     → ((x : T) → P x → Q x) → IfOk result Q
 if_ok_map (Ok x) is follows = follows x is
 if_ok_map (Err e) is follows = tt
+
+-- ---- steps
+
+-- what lacks what it needs is not made
+pub not_made : (nodes : ℕ) (net : Network) (step : Step) (kept : Kept) → (Needs net step → ⊥)
+    → MakesIt nodes net step kept false
+not_made nodes net step kept never =
+    ((λ yes. absurd (cc yes), λ needs. absurd (never needs)), λ yes. absurd (cc yes))
 
 -- ---- steps of devices
 

@@ -1,9 +1,12 @@
 -- The plain network as it is kept, table by table.
-use Rattle.std.specs.Prelude.{◌≡◌, ◌↔◌, ℕ, Bool, IsTrue, List, ◌++◌, length, Some}
+use Rattle.std.specs.Prelude.{◌≡◌, ◌↔◌, ℕ, ◌<◌, Bool, IsTrue, List, ◌++◌, length, Some}
 use Rattle.rio_packets.specs.Fields.{prio_of}
+use Rattle.rio_packets.specs.LinkForm.{Passes}
+use Rattle.maint_packets.specs.Requests.{request_of}
 use Rattle.fabric_script.specs.declared.ports.PortRef.{PortRef}
-use Rattle.fabric_model.specs.Network.{first_packet, Item, Network, peer_in, with_lane, with_lent}
-use Rattle.fabric_model.specs.Steps.{after, behind_first, Needs, Step}
+use Rattle.fabric_model.specs.Network.{first_packet, Item, Network, peer_in, with_device, with_lane, with_lent}
+use Rattle.fabric_model.specs.Serving.{device_after}
+use Rattle.fabric_model.specs.Steps.{after, Answer, AtNode, behind_first, ByDevice, Drop, Free, Hold, Leave, Linked, Move, Needs, Step, Take}
 use Rattle.fabric_trace.specs.Views.{lists_in, packets_in}
 use Rattle.trace_check.specs.declared.links.Links.{Links}
 use Rattle.trace_check.specs.declared.network.Network.{Network as Kept}
@@ -35,7 +38,25 @@ abbrev pub with_received : Network → PortRef → ℕ → List Item → Network
 with_received net q r items =
     record net { received = with_lane net.received q r (net.received q r ++ items) }
 
+-- ---- the part of an answer
+
+-- the registers of the port's node have answered the packet, if it is a request
+abbrev pub with_answered : Network → PortRef → List ℕ → Network
+with_answered net p packet = record net {
+  registers = with_device net.registers p.node (device_after p.port (request_of packet));
+}
+
 -- ---- steps
+
+-- the step's ports and nodes are of so many nodes, and what an endpoint takes is in its link form
+abbrev pub IsStepOf : ℕ → Step → Type 0
+IsStepOf nodes (Linked (Hold q packet)) = IsIn nodes q
+IsStepOf nodes (Linked (Free p packet)) = IsIn nodes p
+IsStepOf nodes (AtNode (Take n packet)) = (n < nodes) × Passes packet
+IsStepOf nodes (AtNode (Leave n packet)) = n < nodes
+IsStepOf nodes (ByDevice (Move p q packet)) = IsIn nodes p × IsIn nodes q
+IsStepOf nodes (ByDevice (Drop p packet)) = IsIn nodes p
+IsStepOf nodes (ByDevice (Answer p packet response)) = IsIn nodes p
 
 -- whether the step is made is whether the network has what it needs, and then it is made
 abbrev pub MakesIt : ℕ → Network → Step → Kept → Bool → Type 0

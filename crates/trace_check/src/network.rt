@@ -1,13 +1,14 @@
 //! The plain network: the queues of all ports, and the registers of all nodes.
 
-ghost use Rattle.std.specs.Prelude.{◌≡◌, ◌↔◌, ◌==◌, ℕ, ◌<◌, count_by, drop, slice_get, false, List, [], ◌∷◌, Some, IfOk, IsTrue};
+ghost use Rattle.std.specs.Prelude.{◌≡◌, ◌↔◌, ◌==◌, ℕ, ◌<◌, count_by, drop, slice_get, false, List, [], ◌∷◌, Some, IfOk, IfSome, IsTrue};
 ghost use Rattle.rio_packets.specs.Fields.{prio_of};
 ghost use Rattle.rio_packets.specs.LinkForm.{Passes};
 ghost use Rattle.fabric_model.specs.Network.{Item, Network as ANetwork, room_in, room_out, switch_at};
-ghost use Rattle.fabric_model.specs.Steps.{AtNode, ByDevice, Drop as ADrop, Free, Hold, IsFirst, Leave, Linked, Move, Take, with_waiting, without_first};
+ghost use Rattle.fabric_model.specs.Steps.{Answer, AtNode, ByDevice, Drop as ADrop, Free, Hold, IsFirst, IsForRegisters, Leave, Linked, Move, Take, with_waiting, without_first};
 ghost use Rattle.fabric_trace.specs.Views.{packets_in};
-ghost use Rattle.fabric_model.specs.Serving.{next_at};
-ghost use Rattle.trace_check.specs.Networks.{AreLinks, IsNetwork, MakesIt, WaitsFirst, with_lending, with_received, without_waiting};
+ghost use Rattle.fabric_model.specs.Serving.{next_at, response_at};
+ghost use Rattle.trace_check.specs.Networks.{AreLinks, IsNetwork, IsStepOf, MakesIt, WaitsFirst, with_answered, with_lending, with_received, without_waiting};
+ghost use Rattle.trace_check.specs.Reads.{step_of};
 ghost use Rattle.trace_check.specs.Tables.{IsIn};
 ghost use Rattle.maint_packets.specs.NextHops.{is_at_end};
 
@@ -141,8 +142,13 @@ impl Network {
         }
     }
 
-    /// Makes a step, and tells whether it can be made.
-    pub(crate) fn make(&mut self, step: &Step, links: &Links) -> Result<bool, AllocError> {
+    /// Makes a step, and tells whether it can be made. If it cannot, the network is of no use
+    /// any more.
+    pub(crate) fn make(&mut self, step: &Step, links: &Links) -> Result<bool, AllocError>
+        ensures { IfOk result (λ made. (nodes : ℕ) (net : ANetwork) → IsNetwork nodes net self.old
+            → AreLinks nodes net.links links.now → IsStepOf nodes (step_of step.now)
+            → MakesIt nodes net (step_of step.now) self.new made) }
+    {
         match step {
             Step::Hold(port, packet) => self.hold(*port, packet, links),
             Step::Free(port, packet) => Ok(self.free(*port, packet)),
@@ -356,10 +362,15 @@ impl Network {
         port: PortRef,
         packet: &Packet,
         response: &Packet,
-    ) -> Result<bool, AllocError> {
-        let for_registers = self.is_switch(port.node) == Some(false)
-            || self.next_at(port.node, packet) == Some(Next::RegisterUnit);
-        if !for_registers || !self.take_first(port, packet) {
+    ) -> Result<bool, AllocError>
+        ensures { IfOk result (λ made. (nodes : ℕ) (net : ANetwork) → IsNetwork nodes net self.old
+            → IsIn nodes port
+            → MakesIt nodes net (ByDevice (Answer port packet.now response.now)) self.new made) }
+    {
+        if !self.is_for_registers(port, packet) {
+            return Ok(false);
+        }
+        if !self.take_first(port, packet) {
             return Ok(false);
         }
         match self.respond(port, packet) {
@@ -368,8 +379,24 @@ impl Network {
         }
     }
 
+    /// Whether the registers of a packet's node answer it: those of an endpoint, or of a switch
+    /// that sends it to them.
+    fn is_for_registers(&self, port: PortRef, packet: &Packet) -> bool
+        ensures { (nodes : ℕ) (net : ANetwork) → IsNetwork nodes net self.now
+            → IsTrue result ↔ IsForRegisters net port packet.now }
+    {
+        self.is_switch(port.node) == Some(false)
+            || self.next_at(port.node, packet) == Some(Next::RegisterUnit)
+    }
+
     /// What the registers of a node answer to a packet, if it is a request.
-    fn respond(&mut self, port: PortRef, packet: &Packet) -> Option<Packet> {
+    fn respond(&mut self, port: PortRef, packet: &Packet) -> Option<Packet>
+        ensures value { (nodes : ℕ) (net : ANetwork) → IsNetwork nodes net self.old
+            → result ≡ response_at net port packet.now }
+        ensures registers { (nodes : ℕ) (net : ANetwork) → IsNetwork nodes net self.old
+            → IsNetwork nodes (with_answered net port packet.now) self.new }
+        ensures form { IfSome result Passes }
+    {
         let request = read_request(packet)?;
         let node = usize::from(port.node);
         if node >= self.registers.len() {
