@@ -50,7 +50,7 @@ status_text ReadFault = codes "rio: standard input cannot be read\n"
 status_text WriteFault = codes "rio: standard output cannot be written\n"
 status_text NoMemory = codes "rio: there is not enough memory\n"
 status_text Undetected = codes
-    "rio: a port acted on what its peer had not sent: the last line names it\n"
+    "rio: a port acted on what its peer had not sent; the last line of a trace names it\n"
 status_text TooLong = codes "rio: the input is longer than 4194304 bytes\n"
 status_text Locked = codes "rio: a device is locked by another host\n"
 

@@ -35,7 +35,7 @@ fn status_text(status: Status) -> &'static [u8]
         Status::WriteFault => b"rio: standard output cannot be written\n",
         Status::NoMemory => b"rio: there is not enough memory\n",
         Status::Undetected => {
-            b"rio: a port acted on what its peer had not sent: the last line names it\n"
+            b"rio: a port acted on what its peer had not sent; the last line of a trace names it\n"
         },
         Status::TooLong => b"rio: the input is longer than 4194304 bytes\n",
         Status::Locked => b"rio: a device is locked by another host\n",
