@@ -105,6 +105,17 @@ told-front from chars told framer told_is framer_is =
     ∙ ap (λ (e : Events). listed e.first e.second) (events_by-front from chars)
     ∙ listed-front from chars
 
+-- what a run of characters told, and then what those behind it say
+pub said_on : (from : Place) (chars left : List Char) (told : Told) (framer : Framing)
+    → told ≡ told_of (telling_front from chars).step.gives
+    → framer ≡ framing_after (telling_front from chars).step
+    → left ≡ drop (telling_front from chars).count chars
+    → said from chars ≡ told_events told framer.ended ++ said framer.place left
+said_on from chars left told framer told_is framer_is left_is =
+    let events = told-front from chars told framer told_is framer_is in
+    said-front from chars
+    ∙ (λ i. sym events i ++ said (sym framer_is i).place (sym left_is i))
+
 -- a run of characters is read, and what it told is noted
 pub hears_on : (run next : PortRun) (chars left : List Char) (told : Told) (framer : Framing)
     → told ≡ told_of (telling_front run.place chars).step.gives
@@ -121,6 +132,10 @@ hears_on run next chars left told framer told_is framer_is left_is next_is =
 
 said-none : (from : Place) → said from [] ≡ []
 said-none from = ap (map (λ (event : ℕ × Event). event.1)) (run-none from 0)
+
+pub said_none : (from : Place) (left : List Char) → length left ≤ 0 → said from left ≡ []
+said_none from [] few = said-none from
+said_none from (c ∷ left) few = absurd (omega (arith, few))
 
 -- after no characters
 pub hears_none : (run : PortRun) (left : List Char) → length left ≤ 0 → hears run left ≡ run

@@ -15,3 +15,4 @@ pub mod TableLaws
 pub mod StateLaws
 pub mod NetworkLaws
 pub mod Changed
+pub mod SendingLaws

@@ -10,3 +10,4 @@ pub mod Stops
 pub mod Tables
 pub mod States
 pub mod Networks
+pub mod Sending

@@ -1,6 +1,6 @@
 //! Packets that stand at a port, first in first out for each priority.
 
-ghost use Rattle.std.specs.Prelude.{◌≡◌, ◌↔◌, ◌-◌, ◌<◌, length, Some, slice_get, IfOk, IsTrue};
+ghost use Rattle.std.specs.Prelude.{◌≡◌, ◌↔◌, ◌-◌, ◌<◌, Contains, length, Some, slice_get, IfOk, IsTrue};
 ghost use Rattle.rio_packets.specs.Fields.{prio_of};
 ghost use Rattle.link_buffers.specs.Queues.{list_at, appended, packet_count, popped, no_packets};
 
@@ -91,13 +91,19 @@ impl Lanes {
         self.lanes[usize::from(prio)].len()
     }
 
-    /// Whether one of the packets has this form.
-    pub(crate) fn contain(&self, form: &[u8]) -> bool {
-        self.lanes.iter().any(|lane| has_form(lane, form))
+    /// Whether a packet is among those of its priority.
+    pub(crate) fn contains(&self, packet: &Packet) -> bool
+        ensures value { IsTrue result
+            ↔ Contains (list_at self.now (prio_of packet.now)) packet.now }
+        ensures range { prio_of packet.now < 4 }
+    {
+        has(&self.lanes[usize::from(packet.prio())], packet)
     }
 }
 
-/// Whether one of the packets has this form.
-pub(crate) fn has_form(packets: &VecDeque<Packet>, form: &[u8]) -> bool {
-    packets.iter().any(|packet| packet.bytes() == form)
+/// Whether a packet is among others.
+pub(crate) fn has(packets: &VecDeque<Packet>, packet: &Packet) -> bool
+    ensures { IsTrue result ↔ Contains packets.now.items packet.now }
+{
+    packets.iter().any(|other| other == packet)
 }

@@ -16,11 +16,9 @@ use crate::lanes::Lanes;
 use crate::lines::Step;
 use crate::links::Links;
 use crate::places::{PORTS, place_of};
-use crate::sending::may_send;
 use fabric_script::{Line, PortRef, SetUp};
 use maint_packets::{Next, answer, move_on, next_of, read_request, write_response};
 use maint_registers::Registers;
-use rio_chars::Char;
 use rio_packets::Packet;
 use std::alloc::{AllocError, Global};
 use std::collections::VecDeque;
@@ -37,8 +35,8 @@ const PLACES: usize = 16;
 pub(crate) struct Network {
     buffers: Vec<u8>,
     received: Vec<Lanes>,
-    waiting: Vec<Lanes>,
-    lent: Vec<VecDeque<Packet>>,
+    pub(crate) waiting: Vec<Lanes>,
+    pub(crate) lent: Vec<VecDeque<Packet>>,
     registers: Vec<Registers>,
 }
 
@@ -291,14 +289,6 @@ impl Network {
     {
         let place = place_of(port);
         place < self.received.len() && self.received[place].take_first(packet)
-    }
-
-    /// Whether a port has each packet in characters that it sends.
-    pub(crate) fn may_send(&self, port: PortRef, chars: &[Char]) -> bool {
-        let place = place_of(port);
-        place < self.waiting.len()
-            && place < self.lent.len()
-            && may_send(&self.waiting[place], &self.lent[place], chars)
     }
 
     /// A packet leaves at an endpoint. Requests are for its registers.
