@@ -16,3 +16,5 @@ pub mod StateLaws
 pub mod NetworkLaws
 pub mod Changed
 pub mod SendingLaws
+pub mod StartLaws
+pub mod BuildLaws

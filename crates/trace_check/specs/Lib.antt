@@ -11,3 +11,4 @@ pub mod Tables
 pub mod States
 pub mod Networks
 pub mod Sending
+pub mod Starting

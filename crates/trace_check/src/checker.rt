@@ -4,6 +4,7 @@ ghost use Rattle.std.specs.Prelude.{◌≡◌, ◌+◌, ◌<◌, false, [], ◌�
 ghost use Rattle.fabric_trace.specs.Lines.{steps_of};
 ghost use Rattle.trace_check.specs.Lawful.{is_last};
 ghost use Rattle.trace_check.specs.Reads.{line_of};
+ghost use Rattle.trace_check.specs.Starting.{IsBegun};
 ghost use Rattle.trace_check.specs.States.{Checks, IsLineIn, IsReached, Reached};
 
 use crate::lines::TraceLine;
@@ -22,6 +23,7 @@ pub(crate) struct Checker {
 impl Checker {
     /// Before the first line.
     pub(crate) fn new(alloc: Global, set_up: &SetUp) -> Result<Checker, AllocError>
+        requires { IsBegun set_up.now }
         ensures ended { IfOk result (λ checker. checker.ended ≡ false) }
         ensures steps { IfOk result (λ checker. checker.steps ≡ 0) }
     {

@@ -5,6 +5,7 @@ ghost use Rattle.fabric_script.specs.declared.lines.Numbered.{Numbered as ANumbe
 ghost use Rattle.fabric_script.specs.Known.{Known as AKnown};
 ghost use Rattle.fabric_script.specs.SetUps.{IsReady};
 ghost use Rattle.trace_check.specs.Inputs.{IsInput, IsRefused, set_up_texts, texts_of};
+ghost use Rattle.trace_check.specs.Starting.{IsBegun};
 ghost use Rattle.trace_check.specs.Stops.{AreSpelled, ended_by, Reads, Stops};
 ghost use Rattle.trace_check.specs.declared.checking.CheckEnd.TheVariants.{NoMemory as OutOfMemory};
 
@@ -89,6 +90,7 @@ pub fn check_trace(alloc: Global, bytes: &[u8]) -> Result<u32, CheckEnd>
 /// Checks the lines of a trace, of which the first has this number.
 fn check_lines(alloc: Global, set_up: &SetUp, bytes: &[u8], first: u32) -> Result<u32, CheckEnd>
     requires ready { IsReady set_up.now.known }
+    requires begun { IsBegun set_up.now }
     requires few { first + length bytes.now ≤ 16777218 }
     ensures spelled { IfOk result (λ steps.
         AreSpelled set_up.now.known (texts_of bytes.now) steps) }

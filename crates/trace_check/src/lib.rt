@@ -14,6 +14,7 @@
 //! are on their way, and the packets that came and are not held.
 #![tactic(auto)]
 
+mod building;
 mod checker;
 mod checking;
 mod fields;

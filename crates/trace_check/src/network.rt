@@ -15,16 +15,13 @@ ghost use Rattle.maint_packets.specs.NextHops.{is_at_end};
 use crate::lanes::Lanes;
 use crate::lines::Step;
 use crate::links::Links;
-use crate::places::{PORTS, place_of};
-use fabric_script::{Line, PortRef, SetUp};
+use crate::places::place_of;
+use fabric_script::PortRef;
 use maint_packets::{Next, answer, move_on, next_of, read_request, write_response};
 use maint_registers::Registers;
 use rio_packets::Packet;
-use std::alloc::{AllocError, Global};
+use std::alloc::AllocError;
 use std::collections::VecDeque;
-
-/// How many receive buffers a port has if no line says how many.
-const BUFFERS: u8 = 8;
 
 /// How many packets of a priority a port may have to be sent, those that are lent among them.
 const PLACES: usize = 16;
@@ -33,102 +30,14 @@ const PLACES: usize = 16;
 /// wait, and those that it lent; and the registers of the nodes.
 #[derive(Drop)]
 pub(crate) struct Network {
-    buffers: Vec<u8>,
-    received: Vec<Lanes>,
+    pub(crate) buffers: Vec<u8>,
+    pub(crate) received: Vec<Lanes>,
     pub(crate) waiting: Vec<Lanes>,
     pub(crate) lent: Vec<VecDeque<Packet>>,
-    registers: Vec<Registers>,
+    pub(crate) registers: Vec<Registers>,
 }
 
 impl Network {
-    /// The network that set-up lines make.
-    pub(crate) fn new(alloc: Global, set_up: &SetUp) -> Result<Network, AllocError> {
-        let mut network = Network {
-            buffers: Vec::new(alloc),
-            received: Vec::new(alloc),
-            waiting: Vec::new(alloc),
-            lent: Vec::new(alloc),
-            registers: Vec::new(alloc),
-        };
-        for numbered in set_up.lines() {
-            network.set_up(alloc, &numbered.line)?;
-        }
-        Ok(network)
-    }
-
-    /// Takes in a line of set-up.
-    fn set_up(&mut self, alloc: Global, line: &Line) -> Result<(), AllocError> {
-        match line {
-            Line::Endpoint { id, .. } => self.add_node(alloc, Registers::endpoint(*id, false))?,
-            Line::Switch { ports, .. } if 2 <= *ports && *ports <= 16 => {
-                self.add_node(alloc, Registers::switch(*ports, 0))?;
-            }
-            Line::Link { a, b } => {
-                self.link(*a);
-                self.link(*b);
-            }
-            Line::Buffers { port, n } => {
-                let place = place_of(*port);
-                if place < self.buffers.len() {
-                    self.buffers[place] = *n;
-                }
-            }
-            _ => self.set_registers(line),
-        }
-        Ok(())
-    }
-
-    /// One more node, with its ports.
-    fn add_node(&mut self, alloc: Global, registers: Registers) -> Result<(), AllocError> {
-        self.registers.push(registers)?;
-        for _ in 0..PORTS {
-            self.buffers.push(BUFFERS)?;
-            self.received.push(Lanes::new(alloc))?;
-            self.waiting.push(Lanes::new(alloc))?;
-            self.lent.push(VecDeque::new(alloc))?;
-        }
-        Ok(())
-    }
-
-    /// A port has a link.
-    fn link(&mut self, port: PortRef) {
-        let node = usize::from(port.node);
-        if port.port < 16 && node < self.registers.len() {
-            self.registers[node].set_linked(port.port);
-        }
-    }
-
-    /// What a line sets in registers.
-    fn set_registers(&mut self, line: &Line) {
-        match line {
-            Line::Route { node, id, p } => self.set_route(usize::from(*node), *id, *p),
-            Line::Default { node, p } => self.set_default(usize::from(*node), *p),
-            Line::Lock { node, id } => self.set_lock(usize::from(*node), *id),
-            _ => {}
-        }
-    }
-
-    /// A switch sends packets for a destination to a port.
-    fn set_route(&mut self, node: usize, id: u8, port: u8) {
-        if node < self.registers.len() && self.registers[node].is_switch() {
-            self.registers[node].set_route(id, port);
-        }
-    }
-
-    /// A switch sends packets without a route to a port.
-    fn set_default(&mut self, node: usize, port: u8) {
-        if node < self.registers.len() && self.registers[node].is_switch() {
-            self.registers[node].set_default(port);
-        }
-    }
-
-    /// A host holds a node.
-    fn set_lock(&mut self, node: usize, id: u16) {
-        if node < self.registers.len() {
-            self.registers[node].set_lock(id);
-        }
-    }
-
     /// Whether a node is a switch; None if there is no such node.
     fn is_switch(&self, node: u8) -> Option<bool>
         ensures { (nodes : ℕ) (net : ANetwork) → IsNetwork nodes net self.now

@@ -3,6 +3,7 @@
 ghost use Rattle.std.specs.Prelude.{◌≡◌, ◌≤◌, ◌↔◌, [], IfOk, IsTrue};
 ghost use Rattle.fabric_trace.specs.Fold.{edit_of};
 ghost use Rattle.trace_check.specs.Reads.{step_of};
+ghost use Rattle.trace_check.specs.Starting.{IsBegun};
 ghost use Rattle.trace_check.specs.States.{Edits, Fires, Frees, Gets, Holds, IsEditIn, IsReached, IsStepIn, Makes, Reached, Sends};
 ghost use Rattle.trace_check.specs.Tables.{IsIn};
 
@@ -45,7 +46,9 @@ pub(crate) struct State {
 
 impl State {
     /// Before the first line.
-    pub(crate) fn new(alloc: Global, set_up: &SetUp) -> Result<State, AllocError> {
+    pub(crate) fn new(alloc: Global, set_up: &SetUp) -> Result<State, AllocError>
+        requires { IsBegun set_up.now }
+    {
         let links = Links::new(alloc, set_up)?;
         let network = Network::new(alloc, set_up)?;
         let mut wires = Vec::new(alloc);
