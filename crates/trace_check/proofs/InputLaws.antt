@@ -10,7 +10,8 @@ use Rattle.fabric_script.specs.Known.{Known, nothing_in, of_set_up}
 use Rattle.fabric_script.specs.Scripts.{pieces_of, SpellsFrom}
 use Rattle.fabric_script.specs.SetUps.{for_event}
 use Rattle.trace_check.specs.declared.checking.CheckEnd.TheVariants as C
-use Rattle.trace_check.specs.Stops.{ended_by}
+use Rattle.trace_check.specs.declared.checking.Unlawful.{Unlawful}
+use Rattle.trace_check.specs.Outcomes.{ended_by}
 use Rattle.trace_check.specs.Inputs.{fed, is_between, IsAccepted, set_up_bytes, set_up_texts, texts_of, trace_texts, without_empty_end}
 
 -- ---- the first line
@@ -110,3 +111,7 @@ pub refusal_of : (end : ScriptEnd) (refusal : Refusal) → ended_by end ≡ C.Re
     → end ≡ S.Refused refusal
 refusal_of (S.Refused r) refusal is = cc
 refusal_of S.NoMemory refusal is = absurd cc
+
+pub never_unlawful : (end : ScriptEnd) (hit : Unlawful) → ended_by end ≡ C.Unlawful hit → ⊥
+never_unlawful (S.Refused r) hit is = absurd cc
+never_unlawful S.NoMemory hit is = absurd cc

@@ -13,8 +13,17 @@ pub mod InputLaws
 pub mod StopLaws
 pub mod TableLaws
 pub mod StateLaws
+pub mod NewState
+pub mod AnswerLaws
 pub mod NetworkLaws
 pub mod Changed
 pub mod SendingLaws
 pub mod StartLaws
 pub mod BuildLaws
+pub mod FaultLaws
+pub mod Behind
+pub mod Fronts
+pub mod Reaching
+pub mod LineIn
+pub mod Once
+pub mod Telling

@@ -1,18 +1,21 @@
--- How far the lines of a trace have been read.
+-- How far the lines of a trace have been read, and what is told in the end.
 use Rattle.std.proofs.Common.{◌≡◌, ℕ, suc, ◌+◌, ◌++◌, ◌<◌, ◌≤◌, Bool, true, false, List, [], ◌∷◌, length, Option, Some, None, Bor, inl, inr, MatchOption, IfSome, refl, sym, ap, ◌∙◌, subst, arith, append_assoc, length-append}
 use Rattle.std.proofs.lemmas.List.{append-nil}
-use Rattle.fabric_script.specs.Known.{Known}
+use Rattle.fabric_script.specs.Known.{Known, IsOrderly}
+use Rattle.fabric_model.specs.Network.{Network}
 use Rattle.fabric_trace.specs.Lines.{TraceLine, Begun, Stepped, Signed, Lacked, Ended, Undetected, steps_of}
 use Rattle.fabric_trace.proofs.Keeping.{steps_of-append}
-use Rattle.trace_check.specs.Inputs.{texts_of}
-use Rattle.trace_check.specs.Lawful.{is_last, SpellAll, SpellFront}
-use Rattle.trace_check.specs.Stops.{AreSpelled, AtLine, Behind, HitsText, NoForm, Reads, Stops}
+use Rattle.trace_check.specs.declared.state.State.{State}
+use Rattle.trace_check.specs.Checks.{Passes, PassAll}
+use Rattle.trace_check.specs.Inputs.{texts_ahead, texts_of}
+use Rattle.trace_check.specs.Lawful.{as_behind, Behind, Fault, fault_number, Hits, HitsNext, is_last, IsLawful, IsUnlawful, NoForm, NotCome, PassFront, SpellAll, SpellFront}
+use Rattle.trace_check.specs.Outcomes.{Reads}
+use Rattle.trace_check.specs.States.{fault_of, IsReached, reached_after, Reached, StandsAt, unreached}
+use Rattle.trace_check.specs.Wires.{are_short}
 use Rattle.trace_check.specs.Words.{SpellsLine}
-
--- a first line and the bytes behind it, as lines
-abbrev pub texts_ahead : Option (Bor (List ℕ) × Bor (List ℕ)) → List (List ℕ)
-texts_ahead None = []
-texts_ahead (Some found) = found.0.now ∷ texts_of found.1.now
+use Rattle.trace_check.proofs.Behind.{text_short}
+use Rattle.trace_check.proofs.Fronts.{pass_more}
+use Rattle.trace_check.proofs.Reaching.{Reaches, on_behind, other_behind, passes_so, stands_by, stands_so, start_behind}
 
 -- how many bytes are left, and one more if a line is there
 abbrev pub left_ahead : Option (Bor (List ℕ) × Bor (List ℕ)) → ℕ
@@ -31,41 +34,69 @@ pub ahead_less : (bytes : List ℕ) (ahead : Option (Bor (List ℕ) × Bor (List
 ahead_less bytes None less = omega arith
 ahead_less bytes (Some found) less = omega (arith, less)
 
--- the texts spell these lines, of which the last ends the trace if it has ended
-abbrev pub SpellSo : Known → Bool → List (List ℕ) → List TraceLine → Type 0
-SpellSo known false texts lines = SpellFront known texts lines
-SpellSo known true texts lines = (before : List (List ℕ)) × (text : List ℕ)
-    × (earlier : List TraceLine) × (line : TraceLine) × (texts ≡ before ++ text ∷ [])
-    × (lines ≡ earlier ++ line ∷ []) × SpellFront known before earlier
-    × SpellsLine known text line × (is_last line ≡ true)
+-- the texts spell these lines, the last of which alone ends the trace, and no reason hits any, with
+-- others behind them
+pub record HasEnded (known : Known) (net : Network) (texts : List (List ℕ)) (lines : List TraceLine)
+    (rest : List (List ℕ)) : Type 0 where
+  pub before : List (List ℕ)
+  pub text : List ℕ
+  pub earlier : List TraceLine
+  pub line : TraceLine
+  pub texts_are : texts ≡ before ++ text ∷ []
+  pub lines_are : lines ≡ earlier ++ line ∷ []
+  pub front : SpellFront known before earlier
+  pub spelled : SpellsLine known text line
+  pub last : is_last line ≡ true
+  pub pass : PassFront net earlier (text ∷ rest)
+  pub passes : Passes net earlier line (as_behind rest)
+
+-- or the trace goes on
+abbrev pub HasRead : Known → Network → Bool → List (List ℕ) → List TraceLine → List (List ℕ)
+    → Type 0
+HasRead known net true texts lines rest = HasEnded known net texts lines rest
+HasRead known net false texts lines rest = SpellFront known texts lines × PassFront net lines rest
 
 -- lines were read, and this is the next one
-pub record IsAhead (known : Known) (bytes : List ℕ) (first number : ℕ)
-    (ahead : Option (Bor (List ℕ) × Bor (List ℕ))) (ended : Bool) (steps : ℕ) : Type 0 where
+pub record IsAhead (known : Known) (net : Network) (bytes : List ℕ) (first number : ℕ)
+    (ahead : Option (Bor (List ℕ) × Bor (List ℕ))) (ended : Bool) (steps : ℕ) (state : State) :
+    Type 0 where
   pub front : List (List ℕ)
   pub lines : List TraceLine
   pub split : texts_of bytes ≡ front ++ texts_ahead ahead
   pub number_is : number ≡ first + length front
   pub few : length front + left_ahead ahead ≤ length bytes
-  pub spelled : SpellSo known ended front lines
+  pub read : HasRead known net ended front lines (texts_ahead ahead)
   pub count : steps ≡ length (steps_of lines)
   pub steps_few : steps ≤ length front
+  pub r : Reached
+  pub reached : IsReached r state
+  pub behind : Reaches (length known.names) net lines (as_behind (texts_ahead ahead)) r
 
-pub begin_ahead : (known : Known) (bytes : List ℕ) (first : ℕ)
-    (ahead : Option (Bor (List ℕ) × Bor (List ℕ))) → texts_of bytes ≡ texts_ahead ahead
-    → left_ahead ahead ≤ length bytes → IsAhead known bytes first first ahead false 0
-begin_ahead known bytes first ahead texts less = record {
+none_front : (net : Network) (rest : List (List ℕ)) → PassFront net [] rest
+none_front net rest [] line behind is = absurd cc
+none_front net rest (x ∷ before) line behind is = absurd cc
+
+pub begin_ahead : (known : Known) (net : Network) (bytes : List ℕ) (first : ℕ)
+    (ahead : Option (Bor (List ℕ) × Bor (List ℕ))) (state : State)
+    → texts_of bytes ≡ texts_ahead ahead → left_ahead ahead ≤ length bytes
+    → IsReached (unreached (length known.names) net) state
+    → IsAhead known net bytes first first ahead false 0 state
+begin_ahead known net bytes first ahead state texts less reached = record {
   front = [];
   lines = [];
   split = texts;
   number_is = omega arith;
   few = omega (arith, less);
-  spelled = refl;
+  read = (refl, none_front net (texts_ahead ahead));
   count = refl;
   steps_few = omega arith;
+  r = unreached (length known.names) net;
+  reached = reached;
+  behind = start_behind (length known.names) net (as_behind (texts_ahead ahead));
 }
 
--- one more line that does not end the trace
+-- ---- one more line
+
 front_more : (known : Known) (texts : List (List ℕ)) (lines : List TraceLine) (text : List ℕ)
     (line : TraceLine) → SpellFront known texts lines → SpellsLine known text line
     → is_last line ≡ false → SpellFront known (texts ++ text ∷ []) (lines ++ line ∷ [])
@@ -81,13 +112,29 @@ front_more known (x ∷ texts) lines text line front spells goes =
       more,
     )
 
-spell_more : (known : Known) (texts : List (List ℕ)) (lines : List TraceLine) (text : List ℕ)
-    (line : TraceLine) (ends : Bool) → SpellFront known texts lines → SpellsLine known text line
-    → ends ≡ is_last line → SpellSo known ends (texts ++ text ∷ []) (lines ++ line ∷ [])
-spell_more known texts lines text line false front spells goes =
-    front_more known texts lines text line front spells (sym goes)
-spell_more known texts lines text line true front spells ends =
-    (texts, text, lines, line, refl, refl, front, spells, sym ends)
+read_more : (known : Known) (net : Network) (texts : List (List ℕ)) (lines : List TraceLine)
+    (text : List ℕ) (line : TraceLine) (ends : Bool) (rest : List (List ℕ)) → IsOrderly known
+    → SpellFront known texts lines → PassFront net lines (text ∷ rest) → SpellsLine known text line
+    → ends ≡ is_last line → Passes net lines line (as_behind rest)
+    → HasRead known net ends (texts ++ text ∷ []) (lines ++ line ∷ []) rest
+read_more known net texts lines text line false rest orderly front pass spells goes passes = (
+  front_more known texts lines text line front spells (sym goes),
+  pass_more known net lines text line rest orderly spells pass passes,
+)
+read_more known net texts lines text line true rest orderly front pass spells ends passes =
+    record {
+      before = texts;
+      text = text;
+      earlier = lines;
+      line = line;
+      texts_are = refl;
+      lines_are = refl;
+      front = front;
+      spelled = spells;
+      last = sym ends;
+      pass = pass;
+      passes = passes;
+    }
 
 one_step : (line : TraceLine) → length (steps_of (line ∷ [])) ≤ 1
 one_step (Begun line) = omega arith
@@ -97,22 +144,39 @@ one_step (Lacked lack) = omega arith
 one_step Ended = omega arith
 one_step (Undetected number q e) = omega arith
 
-pub on_ahead : (known : Known) (bytes : List ℕ) (first number : ℕ) (text left : Bor (List ℕ))
-    (ended : Bool) (steps : ℕ) (next : Option (Bor (List ℕ) × Bor (List ℕ))) (ends : Bool)
-    (more : ℕ) → IsAhead known bytes first number (Some (text, left)) ended steps
+pub on_ahead : (known : Known) (net : Network) (bytes : List ℕ) (first number : ℕ)
+    (text left : Bor (List ℕ)) (ended : Bool) (steps : ℕ) (state : State)
+    (next : Option (Bor (List ℕ) × Bor (List ℕ))) (short ends : Bool) (more : ℕ) (new : State)
+    → IsOrderly known → IsAhead known net bytes first number (Some (text, left)) ended steps state
     → texts_of left.now ≡ texts_ahead next → left_ahead next ≤ length left.now
-    → Reads known text.now ended steps ends more None
-    → IsAhead known bytes first (number + 1) next ends more
-on_ahead known bytes first number text left true steps next ends more is texts less reads =
-    absurd reads
-on_ahead known bytes first number text left false steps next ends more is texts less reads =
-    let line = reads.0 in
+    → short ≡ are_short (as_behind (texts_ahead next))
+    → ((r : Reached) → IsReached r state → r.nodes ≡ length known.names
+    → Reads known r text.now short ended steps ends more new None)
+    → IsAhead known net bytes first (number + 1) next ends more new
+on_ahead known net bytes first number text left true steps state next short ends more new orderly is
+    texts less short_is reads =
+    absurd (reads is.r is.reached is.behind.nodes_are)
+on_ahead known net bytes first number text left false steps state next short ends more new orderly
+    is texts less short_is reads =
+    let goes = reads is.r is.reached is.behind.nodes_are in
+    let line = goes.line in
+    let rest = texts_ahead next in
+    let behind = other_behind (length known.names) net is.lines
+    (as_behind (text.now ∷ texts_of left.now)) (line ∷ as_behind rest) is.r
+    (text_short known text.now (texts_of left.now) line (as_behind rest) orderly goes.spelled)
+    is.behind in
+    let stand : (fault : Fault) → StandsAt is.r line (are_short (as_behind rest)) fault
+    = subst (λ b. (fault : Fault) → StandsAt is.r line b fault) short_is goes.checked.answer in
+    let pass = subst (λ (l : List (List ℕ)). PassFront net is.lines (text.now ∷ l)) texts
+    is.read.1 in
+    let passes = passes_so (length known.names) net is.lines (as_behind rest) line is.r behind
+    stand in
     let longer = length-append is.front (text.now ∷ []) in
     let number_is = is.number_is in
     let few = is.few in
     let count = is.count in
     let steps_few = is.steps_few in
-    let adds = reads.3 in
+    let adds = goes.more_is in
     let low = one_step line in
     let all = ap length (steps_of-append is.lines (line ∷ []))
     ∙ length-append (steps_of is.lines) (steps_of (line ∷ [])) in
@@ -123,71 +187,114 @@ on_ahead known bytes first number text left false steps next ends more is texts 
           ∙ sym (append_assoc is.front (text.now ∷ []) (texts_ahead next));
       number_is = omega (arith, longer, number_is);
       few = omega (arith, longer, few, less);
-      spelled = spell_more known is.front is.lines text.now line ends is.spelled reads.1 reads.2;
+      read = read_more known net is.front is.lines text.now line ends rest orderly is.read.0 pass
+          goes.spelled goes.ends_is passes;
       count = omega (arith, all, count, adds);
       steps_few = omega (arith, longer, steps_few, adds, low);
+      r = reached_after is.r line (are_short (as_behind rest));
+      reached = subst (λ b. IsReached (reached_after is.r line b) new) short_is
+          (goes.checked.reached refl);
+      behind = on_behind (length known.names) net is.lines (as_behind rest) line is.r
+          (stand NotCome) behind;
     }
 
 -- ---- what ends the reading
 
-pub hit_ahead : (known : Known) (bytes : List ℕ) (first number : ℕ) (text left : Bor (List ℕ))
-    (ended : Bool) (steps : ℕ) (ends : Bool) (more reason : ℕ)
-    → IsAhead known bytes first number (Some (text, left)) ended steps
-    → Reads known text.now ended steps ends more (Some reason)
-    → Stops known (texts_of bytes) first number reason
-hit_ahead known bytes first number text left true steps ends more reason is reads =
-    let before = is.spelled.0 in
-    let last = is.spelled.1 in
-    let line = is.spelled.3 in
-    let texts = is.spelled.4 in
-    let counted = ap length texts ∙ length-append before (last ∷ []) in
-    let number_is = is.number_is in
-    subst (λ r. Stops known (texts_of bytes) first number r) (sym reads) (record {
-      front = before;
-      rest = last ∷ text.now ∷ texts_of left.now;
-      lines = is.spelled.2;
-      place = 1;
-      split = is.split
-          ∙ ap (λ (l : List (List ℕ)). l ++ text.now ∷ texts_of left.now) texts
-          ∙ append_assoc before (last ∷ []) (text.now ∷ texts_of left.now);
-      spelled = is.spelled.6;
-      hits = Behind line is.spelled.7 is.spelled.8;
-      at = omega (arith, counted, number_is);
-    })
-hit_ahead known bytes first number text left false steps ends more reason is reads =
-    let number_is = is.number_is in
-    record {
-      front = is.front;
-      rest = text.now ∷ texts_of left.now;
-      lines = is.lines;
-      place = 0;
-      split = is.split;
-      spelled = is.spelled;
-      hits = by_reading reads;
-      at = omega (arith, number_is);
-    }
-  where
-    by_reading : Reads known text.now false steps ends more (Some reason)
-        → HitsText known (text.now ∷ texts_of left.now) 0 reason
-    by_reading (inl (form, none)) =
-        subst (λ r. HitsText known (text.now ∷ texts_of left.now) 0 r) (sym form) (NoForm none)
-    by_reading (inr (line, spells, least, most)) = AtLine line spells least most
+-- a reason hits the line with this number
+abbrev pub StopsAt : Known → Network → List (List ℕ) → ℕ → ℕ → ℕ → Type 0
+StopsAt known net texts first number reason =
+    (place : ℕ) × (number ≡ first + place) × IsUnlawful known net texts place reason
 
-pub none_ahead : (known : Known) (bytes : List ℕ) (first number steps : ℕ)
-    → IsAhead known bytes first number None false steps
-    → Stops known (texts_of bytes) first number 21
-none_ahead known bytes first number steps is =
-    let number_is = is.number_is in
-    record {
-      front = is.front;
-      rest = [];
-      lines = is.lines;
-      place = 0;
-      split = is.split;
-      spelled = is.spelled;
-      hits = NoForm tt;
-      at = omega (arith, number_is);
-    }
+pub hit_ahead : (known : Known) (net : Network) (bytes : List ℕ) (first number : ℕ)
+    (text left : Bor (List ℕ)) (ended : Bool) (steps : ℕ) (state : State)
+    (next : Option (Bor (List ℕ) × Bor (List ℕ))) (short ends : Bool) (more reason : ℕ)
+    (new : State) → IsOrderly known
+    → IsAhead known net bytes first number (Some (text, left)) ended steps state
+    → texts_of left.now ≡ texts_ahead next → short ≡ are_short (as_behind (texts_ahead next))
+    → ((r : Reached) → IsReached r state → r.nodes ≡ length known.names
+    → Reads known r text.now short ended steps ends more new (Some reason))
+    → StopsAt known net (texts_of bytes) first number reason
+hit_ahead known net bytes first number text left true steps state next short ends more reason new
+    orderly is texts short_is reads =
+    let form = reads is.r is.reached is.behind.nodes_are in
+    let ended = is.read in
+    let counted = ap length ended.texts_are ∙ length-append ended.before (ended.text ∷ []) in
+    let number_is = is.number_is in (
+      length ended.before + 1,
+      omega (arith, counted, number_is),
+      subst (IsUnlawful known net (texts_of bytes) (length ended.before + 1)) (sym form) (record {
+        front = ended.before;
+        rest = ended.text ∷ text.now ∷ texts_of left.now;
+        lines = ended.earlier;
+        place = 1;
+        split = is.split
+            ∙ ap (λ (l : List (List ℕ)). l ++ text.now ∷ texts_of left.now) ended.texts_are
+            ∙ append_assoc ended.before (ended.text ∷ []) (text.now ∷ texts_of left.now);
+        spelled = ended.front;
+        pass = ended.pass;
+        hits = Behind ended.line ended.spelled ended.last ended.passes;
+        at = refl;
+      }),
+    )
+hit_ahead known net bytes first number text left false steps state next short ends more reason new
+    orderly is texts short_is reads = (
+      length is.front,
+      is.number_is,
+      record {
+        front = is.front;
+        rest = text.now ∷ texts_of left.now;
+        lines = is.lines;
+        place = 0;
+        split = is.split;
+        spelled = is.read.0;
+        pass = is.read.1;
+        hits = by_reading (reads is.r is.reached is.behind.nodes_are);
+        at = omega arith;
+      },
+    )
+  where
+    by_reading : Reads known is.r text.now short false steps ends more new (Some reason)
+        → HitsNext known net is.lines (text.now ∷ texts_of left.now) 0 reason
+    by_reading (inl (form, none)) =
+        subst (λ n. HitsNext known net is.lines (text.now ∷ texts_of left.now) 0 n) (sym form)
+        (NoForm none)
+    by_reading (inr hit) =
+        let behind = other_behind (length known.names) net is.lines
+        (as_behind (text.now ∷ texts_of left.now)) (hit.line ∷ as_behind (texts_of left.now)) is.r
+        (text_short known text.now (texts_of left.now) hit.line (as_behind (texts_of left.now))
+        orderly hit.spelled) is.behind in
+        let rest = as_behind (texts_of left.now) in
+        let same : short ≡ are_short rest
+        = short_is ∙ ap (λ (l : List (List ℕ)). are_short (as_behind l)) (sym texts) in
+        let fails = subst (λ b. StandsAt is.r hit.line b (fault_of hit.fault) → ⊥) same
+        hit.least.0 in
+        let below = subst (λ b. (other : Fault) → fault_number other
+        < fault_number (fault_of hit.fault) → StandsAt is.r hit.line b other) same hit.least.1 in
+        let so = stands_so (length known.names) net is.lines rest hit.line is.r behind in
+        let by_them = stands_by (length known.names) net is.lines rest hit.line is.r behind in
+        subst (λ n. HitsNext known net is.lines (text.now ∷ texts_of left.now) 0 n) (sym hit.number)
+        (Hits hit.line (fault_of hit.fault) hit.spelled
+        (λ stands. fails (by_them (fault_of hit.fault) stands))
+        (λ other less. so other (below other less)))
+
+pub none_ahead : (known : Known) (net : Network) (bytes : List ℕ) (first number steps : ℕ)
+    (state : State) → IsAhead known net bytes first number None false steps state
+    → StopsAt known net (texts_of bytes) first number 21
+none_ahead known net bytes first number steps state is = (
+  length is.front,
+  is.number_is,
+  record {
+    front = is.front;
+    rest = [];
+    lines = is.lines;
+    place = 0;
+    split = is.split;
+    spelled = is.read.0;
+    pass = is.read.1;
+    hits = NoForm tt;
+    at = omega arith;
+  },
+)
 
 -- ---- the whole trace
 
@@ -213,16 +320,23 @@ spell_all known (x ∷ y ∷ before) text earlier line front spells last = (
   spell_all known (y ∷ before) text front.1 line front.5 spells last,
 )
 
-pub all_ahead : (known : Known) (bytes : List ℕ) (first number steps : ℕ)
-    → IsAhead known bytes first number None true steps
-    → AreSpelled known (texts_of bytes) steps
-all_ahead known bytes first number steps is =
-    let all = spell_all known is.spelled.0 is.spelled.1 is.spelled.2 is.spelled.3 is.spelled.6
-    is.spelled.7 is.spelled.8 in
+pub all_ahead : (known : Known) (net : Network) (bytes : List ℕ) (first number steps : ℕ)
+    (state : State) → IsOrderly known
+    → IsAhead known net bytes first number None true steps state
+    → IsLawful known net (texts_of bytes) steps
+all_ahead known net bytes first number steps state orderly is =
+    let ended = is.read in
+    let all = spell_all known ended.before ended.text ended.earlier ended.line ended.front
+    ended.spelled ended.last in
+    let front = pass_more known net ended.earlier ended.text ended.line [] orderly ended.spelled
+    ended.pass ended.passes in
     record {
       lines = is.lines;
       spelled = subst (λ (l : List (List ℕ)). SpellAll known l is.lines)
-          (sym (is.split ∙ append-nil is.front ∙ is.spelled.4))
-          (subst (SpellAll known (is.spelled.0 ++ is.spelled.1 ∷ [])) (sym is.spelled.5) all);
+          (sym (is.split ∙ append-nil is.front ∙ ended.texts_are))
+          (subst (SpellAll known (ended.before ++ ended.text ∷ [])) (sym ended.lines_are) all);
+      pass = subst (PassAll net) (sym ended.lines_are)
+          (λ before line behind same. subst (λ (l : List TraceLine). Passes net before line l)
+          (append-nil behind) (front before line behind same));
       count = is.count;
     }

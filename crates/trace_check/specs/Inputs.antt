@@ -1,5 +1,6 @@
 -- What a checker is given: the lines of bytes, those of the set-up, and those of the trace.
 use Rattle.std.specs.Prelude.{◌≡◌, ℕ, ◌+◌, ◌++◌, Bool, nat_eq, codes, List, [], ◌∷◌, length, Option, Some, None, if◌then◌else◌}
+use denote.Ref.{Bor}
 use Rattle.std.specs.List.{flat_map}
 use Rattle.std.specs.Cmp.Lexicographic.{pointwise}
 use Rattle.fabric_script.specs.declared.lines.Numbered.{Numbered}
@@ -17,6 +18,11 @@ without_empty_end (text ∷ next ∷ texts) = text ∷ without_empty_end (next �
 -- the lines of bytes, without their line feeds
 abbrev pub texts_of : List ℕ → List (List ℕ)
 texts_of bytes = without_empty_end (pieces_of bytes)
+
+-- a first line and the bytes behind it, as lines
+abbrev pub texts_ahead : Option (Bor (List ℕ) × Bor (List ℕ)) → List (List ℕ)
+texts_ahead None = []
+texts_ahead (Some found) = found.0.now ∷ texts_of found.1.now
 
 -- the line between the set-up lines and the trace
 abbrev pub is_between : List ℕ → Bool

@@ -6,9 +6,9 @@ pub mod Running
 pub mod Lawful
 pub mod Reads
 pub mod Inputs
-pub mod Stops
 pub mod Tables
 pub mod States
 pub mod Networks
 pub mod Sending
 pub mod Starting
+pub mod Outcomes

@@ -4,8 +4,8 @@ ghost use Rattle.std.specs.Prelude.{◌≡◌, ◌+◌, ◌<◌, false, [], ◌�
 ghost use Rattle.fabric_trace.specs.Lines.{steps_of};
 ghost use Rattle.trace_check.specs.Lawful.{is_last};
 ghost use Rattle.trace_check.specs.Reads.{line_of};
-ghost use Rattle.trace_check.specs.Starting.{IsBegun};
-ghost use Rattle.trace_check.specs.States.{Checks, IsLineIn, IsReached, Reached};
+ghost use Rattle.trace_check.specs.Starting.{IsBegun, net_of, nodes_of};
+ghost use Rattle.trace_check.specs.States.{Checks, IsLineIn, IsReached, Reached, unreached};
 
 use crate::lines::TraceLine;
 use crate::state::{Fault, State};
@@ -26,6 +26,8 @@ impl Checker {
         requires { IsBegun set_up.now }
         ensures ended { IfOk result (λ checker. checker.ended ≡ false) }
         ensures steps { IfOk result (λ checker. checker.steps ≡ 0) }
+        ensures reached { IfOk result (λ checker.
+            IsReached (unreached (nodes_of set_up.now) (net_of set_up.now)) checker.state) }
     {
         let state = State::new(alloc, set_up)?;
         Ok(Checker {

@@ -1,18 +1,20 @@
 //! A script of set-up lines and a trace, and whether the trace is lawful.
 
-ghost use Rattle.std.specs.Prelude.{◌≡◌, ◌+◌, ◌<◌, ◌≤◌, ℕ, List, length, Err, IfOk, IsErrOf};
-ghost use Rattle.fabric_script.specs.declared.lines.Numbered.{Numbered as ANumbered};
-ghost use Rattle.fabric_script.specs.Known.{Known as AKnown};
+ghost use Rattle.std.specs.Prelude.{◌≡◌, ◌⊎◌, ◌+◌, ◌<◌, ◌≤◌, ℕ, length, option_map, Err, IfOk, IsErrOf, IsOk};
 ghost use Rattle.fabric_script.specs.SetUps.{IsReady};
-ghost use Rattle.trace_check.specs.Inputs.{IsInput, IsRefused, set_up_texts, texts_of};
-ghost use Rattle.trace_check.specs.Starting.{IsBegun};
-ghost use Rattle.trace_check.specs.Stops.{AreSpelled, ended_by, Reads, Stops};
+ghost use Rattle.trace_check.specs.Inputs.{IsRefused, texts_ahead, texts_of};
+ghost use Rattle.trace_check.specs.Lawful.{as_behind, fault_number, IsLawful, IsUnlawful};
+ghost use Rattle.trace_check.specs.Outcomes.{ended_by, HasLawful, HasUnlawful, Reads};
+ghost use Rattle.trace_check.specs.Starting.{IsBegun, net_of, nodes_of};
+ghost use Rattle.trace_check.specs.States.{fault_of, IsReached, Reached};
+ghost use Rattle.trace_check.specs.Wires.{are_short};
 ghost use Rattle.trace_check.specs.declared.checking.CheckEnd.TheVariants.{NoMemory as OutOfMemory};
 
 use crate::checker::Checker;
 use crate::fields::LineEnd;
 use crate::reading::read_trace_line;
 use crate::splitting::{next_line, split_input};
+use crate::state::Fault;
 use fabric_script::{Refusal, ScriptEnd, SetUp, read_set_up};
 use std::alloc::{AllocError, Global};
 
@@ -61,20 +63,26 @@ impl From<ScriptEnd> for CheckEnd {
 }
 
 /// How many steps a lawful trace has. The bytes are a script of set-up lines, a line `---` and the
-/// lines of a trace, at most 16,777,216 bytes.
+/// lines of a trace, at most 16,777,216 bytes. Refused comes exactly if a reason hits the set-up
+/// lines or there is no line `---`, and Unlawful exactly if a reason hits a line of the trace or
+/// the last line does not come, unless memory runs out.
 pub fn check_trace(alloc: Global, bytes: &[u8]) -> Result<u32, CheckEnd>
     requires { length bytes.now ≤ 16777216 }
-    // What is refused is refused so, and else the set-up lines are accepted and a trace is there.
+    // What is told is so.
+    ensures lawful { IfOk result (λ steps. HasLawful bytes.now steps) }
+    ensures unlawful { (unlawful : _) → IsErrOf result (CheckEnd.Unlawful unlawful)
+        → HasUnlawful bytes.now unlawful.line unlawful.reason }
     ensures refused { (refusal : _) → IsErrOf result (CheckEnd.Refused refusal)
         → IsRefused bytes.now refusal.line refusal.reason }
-    ensures spelled { IfOk result (λ steps. (set_up : List ANumbered) × (known : AKnown)
-        × (texts : List (List ℕ)) × IsInput bytes.now set_up known texts
-        × AreSpelled known texts steps) }
-    ensures stops { (unlawful : _) → IsErrOf result (CheckEnd.Unlawful unlawful)
-        → (set_up : List ANumbered) × (known : AKnown) × (texts : List (List ℕ))
-        × IsInput bytes.now set_up known texts
-        × Stops known texts (length (set_up_texts (texts_of bytes.now)) + 2) unlawful.line
-        unlawful.reason }
+    // And what is so is told, unless memory runs out.
+    ensures lawful_only { (steps : ℕ) → HasLawful bytes.now steps
+        → IfOk result (λ told. told ≡ steps) × (IsErrOf result OutOfMemory ⊎ IsOk result) }
+    ensures unlawful_only { (line reason : ℕ) → HasUnlawful bytes.now line reason
+        → IsErrOf result (CheckEnd.Unlawful record { line = line; reason = reason })
+        ⊎ IsErrOf result OutOfMemory }
+    ensures refused_only { (line reason : ℕ) → IsRefused bytes.now line reason
+        → IsErrOf result (CheckEnd.Refused record { line = line; reason = reason })
+        ⊎ IsErrOf result OutOfMemory }
 {
     let (script, trace, lines) = split_input(bytes);
     let set_up = read_set_up(alloc, script)?;
@@ -92,10 +100,11 @@ fn check_lines(alloc: Global, set_up: &SetUp, bytes: &[u8], first: u32) -> Resul
     requires ready { IsReady set_up.now.known }
     requires begun { IsBegun set_up.now }
     requires few { first + length bytes.now ≤ 16777218 }
-    ensures spelled { IfOk result (λ steps.
-        AreSpelled set_up.now.known (texts_of bytes.now) steps) }
-    ensures stops { (unlawful : _) → IsErrOf result (CheckEnd.Unlawful unlawful)
-        → Stops set_up.now.known (texts_of bytes.now) first unlawful.line unlawful.reason }
+    ensures lawful { IfOk result (λ steps. IsLawful set_up.now.known (net_of set_up.now)
+        (texts_of bytes.now) steps) }
+    ensures unlawful { (unlawful : _) → IsErrOf result (CheckEnd.Unlawful unlawful)
+        → (place : ℕ) × (unlawful.line ≡ first + place) × IsUnlawful set_up.now.known
+        (net_of set_up.now) (texts_of bytes.now) place unlawful.reason }
     ensures no_refusal { (refusal : _) → IsErrOf result (CheckEnd.Refused refusal) → ⊥ }
 {
     let mut checker = Checker::new(alloc, set_up)?;
@@ -117,7 +126,9 @@ fn check_lines(alloc: Global, set_up: &SetUp, bytes: &[u8], first: u32) -> Resul
 }
 
 /// Whether a line says that a wire is too short.
-fn is_short(line: Option<(&[u8], &[u8])>) -> bool {
+fn is_short(line: Option<(&[u8], &[u8])>) -> bool
+    ensures { result ≡ are_short (as_behind (texts_ahead line.entry)) }
+{
     match line {
         Some((text, _)) => text == b"short".as_slice(),
         None => false,
@@ -129,6 +140,13 @@ fn hit_at(line: u32, reason: u8) -> Result<u32, CheckEnd>
     ensures { result ≡ Err (CheckEnd.Unlawful (record { line = line; reason = reason })) }
 {
     Err(CheckEnd::Unlawful(Unlawful { line, reason }))
+}
+
+/// The number of the reason, if there is one.
+fn number_of(fault: Option<Fault>) -> Option<u8>
+    ensures { result ≡ option_map (λ fault. fault_number (fault_of fault)) fault }
+{
+    fault.map(|fault| fault.number())
 }
 
 impl Checker {
@@ -143,14 +161,15 @@ impl Checker {
     ) -> Result<Option<u8>, AllocError>
         requires ready { IsReady set_up.now.known }
         requires few { self.old.steps < 16777218 }
-        ensures read { IfOk result (λ hit. Reads set_up.now.known text.now self.old.ended
-            self.old.steps self.new.ended self.new.steps hit) }
+        ensures read { IfOk result (λ hit. (r : Reached) → IsReached r self.old.state
+            → r.nodes ≡ nodes_of set_up.now → Reads set_up.now.known r text.now short
+            self.old.ended self.old.steps self.new.ended self.new.steps self.new.state hit) }
     {
         if self.has_ended() {
             return Ok(Some(BAD_FORM));
         }
         match read_trace_line(alloc, set_up, text) {
-            Ok(line) => Ok(self.check(line, short)?.map(|fault| fault.number())),
+            Ok(line) => Ok(number_of(self.check(line, short)?)),
             Err(LineEnd::NoForm) => Ok(Some(BAD_FORM)),
             Err(LineEnd::NoMemory) => Err(AllocError),
         }

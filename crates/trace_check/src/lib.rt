@@ -2,16 +2,18 @@
 //!
 //! Promised: what a lawful trace is, apart from any code, and laws of it. Every trace of a script
 //! is lawful, but for its form; the steps of a lawful trace are legal; a text spells one line at
-//! most. What is read of a text is a line that it spells.
+//! most. And what is lawful is decided: [`check_trace`] tells the steps of a trace exactly if it is
+//! lawful, and else the first line that a reason hits, with the least reason that hits it.
 //!
 //! - `Words`, in `specs`: the words of each line of a trace, and which lines there are;
 //! - `Checks`, `Wires`: what holds at each line, by the lines before it and the one behind;
 //! - `Lawful`: which texts are a lawful trace, and which line of others a reason first hits;
-//! - `Running`: what is enough to be known of a port.
+//! - `Running`, `States`: what is enough to be known of a port, and of all behind the lines before;
+//! - `Outcomes`: what is told of an input.
 //!
-//! [`check_trace`] checks a script of set-up lines and a trace. That it decides what is lawful is
-//! only tested. It takes memory for the lines of set-up, the ports, the packets and characters that
-//! are on their way, and the packets that came and are not held.
+//! [`check_trace`] checks a script of set-up lines and a trace. It takes memory for the lines of
+//! set-up, the ports, the packets and characters that are on their way, and the packets that came
+//! and are not held.
 #![tactic(auto)]
 
 mod building;

@@ -1,10 +1,13 @@
 //! What the lines of a trace leave of a fabric, and which of its steps and signs may follow.
 
-ghost use Rattle.std.specs.Prelude.{◌≡◌, ◌≤◌, ◌↔◌, [], IfOk, IsTrue};
+ghost use Rattle.std.specs.Prelude.{◌≡◌, ◌↔◌, [], false, Bool, IfOk, IsTrue};
 ghost use Rattle.fabric_trace.specs.Fold.{edit_of};
+ghost use Rattle.fabric_trace.specs.Lines.{Begun, Fired as AFired, Got as AGot, Sent as ASent, Signed, Stepped};
+ghost use Rattle.trace_check.specs.Lawful.{fault_number};
+ghost use Rattle.trace_check.specs.Networks.{IsStepOf};
 ghost use Rattle.trace_check.specs.Reads.{step_of};
-ghost use Rattle.trace_check.specs.Starting.{IsBegun};
-ghost use Rattle.trace_check.specs.States.{Edits, Fires, Frees, Gets, Holds, IsEditIn, IsReached, IsStepIn, Makes, Reached, Sends};
+ghost use Rattle.trace_check.specs.Starting.{IsBegun, net_of, nodes_of};
+ghost use Rattle.trace_check.specs.States.{Checks, fault_of, Frees, Holds, IsEditIn, IsLeast, IsReached, Reached, StandsAt, unreached};
 ghost use Rattle.trace_check.specs.Tables.{IsIn};
 
 use crate::hearing::Hearing;
@@ -48,6 +51,8 @@ impl State {
     /// Before the first line.
     pub(crate) fn new(alloc: Global, set_up: &SetUp) -> Result<State, AllocError>
         requires { IsBegun set_up.now }
+        ensures { IfOk result (λ state.
+            IsReached (unreached (nodes_of set_up.now) (net_of set_up.now)) state) }
     {
         let links = Links::new(alloc, set_up)?;
         let network = Network::new(alloc, set_up)?;
@@ -68,7 +73,8 @@ impl State {
     /// An event line, which may edit a wire.
     pub(crate) fn edit(&mut self, line: &Line) -> Result<Option<Fault>, AllocError>
         ensures { IfOk result (λ fault. (r : Reached) → IsReached r self.old
-            → IsEditIn r.nodes (edit_of line.now) → Edits r line.now self.new fault) }
+            → IsEditIn r.nodes (edit_of line.now)
+            → Checks r (Begun line.now) false self.new fault) }
     {
         let Some((port, edit)) = edit_of(line) else {
             return Ok(None);
@@ -86,8 +92,9 @@ impl State {
         port: PortRef,
         chars: Vec<Char>,
     ) -> Result<Option<Fault>, AllocError>
-        ensures { IfOk result (λ fault. (r : Reached) → IsReached r self.old
-            → IsIn r.nodes port → Sends r port chars.items self.new fault) }
+        ensures { IfOk result (λ fault. (r : Reached) (short : Bool) → IsReached r self.old
+            → IsIn r.nodes port
+            → Checks r (Signed (ASent port chars.items)) short self.new fault) }
     {
         let place = place_of(port);
         if place >= self.wires.len() || !self.network.may_send(port, chars.as_slice()) {
@@ -99,8 +106,8 @@ impl State {
 
     /// A port takes characters from the front of its peer's wire.
     pub(crate) fn got(&mut self, port: PortRef, chars: &[Char]) -> Result<Option<Fault>, AllocError>
-        ensures { IfOk result (λ fault. (r : Reached) → IsReached r self.old
-            → IsIn r.nodes port → Gets r port chars.now self.new fault) }
+        ensures { IfOk result (λ fault. (r : Reached) (short : Bool) → IsReached r self.old
+            → IsIn r.nodes port → Checks r (Signed (AGot port chars.now)) short self.new fault) }
     {
         let Some(peer) = self.links.peer(port) else {
             return Ok(Some(Fault::OffWire));
@@ -119,8 +126,8 @@ impl State {
 
     /// The time-out of a port fires: nothing is on its way on its link.
     pub(crate) fn fired(&self, port: PortRef) -> Option<Fault>
-        ensures { (r : Reached) → IsReached r self.now → IsIn r.nodes port
-            → Fires r port result }
+        ensures { (r : Reached) (short : Bool) → IsReached r self.now → IsIn r.nodes port
+            → IsLeast (StandsAt r (Signed (AFired port)) short) result }
     {
         match self.links.peer(port) {
             Some(peer) if self.is_empty(port) && self.is_empty(peer) => None,
@@ -139,8 +146,9 @@ impl State {
 
     /// A step is made.
     pub(crate) fn step(&mut self, step: &Step) -> Result<Option<Fault>, AllocError>
-        ensures { IfOk result (λ fault. (r : Reached) → IsReached r self.old
-            → IsStepIn r.nodes (step_of step.now) → Makes r (step_of step.now) self.new fault) }
+        ensures { IfOk result (λ fault. (r : Reached) (short : Bool) → IsReached r self.old
+            → IsStepOf r.nodes (step_of step.now)
+            → Checks r (Stepped (step_of step.now)) short self.new fault) }
     {
         if !self.network.make(step, &self.links)? {
             return Ok(Some(Fault::NoStep));
@@ -158,8 +166,11 @@ impl State {
                     Some(Fault::NotAllowed)
                 })
             }
-            Step::Take(..) | Step::Leave(..) | Step::Move(..) => Ok(None),
-            Step::Drop(..) | Step::Answer(..) => Ok(None),
+            Step::Take(..) => Ok(None),
+            Step::Leave(..) => Ok(None),
+            Step::Move(..) => Ok(None),
+            Step::Drop(..) => Ok(None),
+            Step::Answer(..) => Ok(None),
         }
     }
 
@@ -215,8 +226,7 @@ fn edit_of(line: &Line) -> Option<(PortRef, Edit)>
 impl Fault {
     /// The number of the reason.
     pub(crate) fn number(self) -> u8
-        ensures least { 22 ≤ result }
-        ensures most { result ≤ 26 }
+        ensures { result ≡ fault_number (fault_of self) }
     {
         match self {
             Fault::OffWire => 22,

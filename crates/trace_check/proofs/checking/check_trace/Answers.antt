@@ -2,31 +2,74 @@ use Rattle.std.proofs.Common.{◌≡◌, ◌+◌, ℕ, Err, List, length, option
 use Rattle.fabric_script.specs.declared.scripts.Refusal.{Refusal}
 use Rattle.fabric_script.specs.Known.{of_set_up}
 use Rattle.fabric_script.specs.Scripts.{RefusedIn}
+use Rattle.trace_check.specs.declared.checking.CheckEnd.TheVariants.{Refused}
 use Rattle.trace_check.specs.Inputs.{Hit, IsInput, IsRefused, NoTrace, texts_of}
-use Rattle.trace_check.specs.Stops.{Stops}
-use Rattle.trace_check.proofs.InputLaws.{accepted_by, all_set_up, refusal_of}
+use Rattle.trace_check.proofs.InputLaws.{accepted_by, all_set_up, never_unlawful, refusal_of}
+use Rattle.trace_check.proofs.NetworkLaws.{if_ok_map}
+use Rattle.trace_check.proofs.Telling.{only_lawful, only_refused, only_unlawful}
 use Rattle.trace_check.proofs.checking.check_trace.Goals as goal
 
-pub returns-in-Some-clause-stops : goal.returns-in-Some-clause-stops
-returns-in-Some-clause-stops c = λ unlawful is.
+-- ---- a trace is there
+
+pub returns-in-Some-clause-lawful : goal.returns-in-Some-clause-lawful
+returns-in-Some-clause-lawful c =
     let split = c.split_input-lines.ensures in
-    let lines = c.in_ok-set_up.set_up.lines in
-    let known = c.in_ok-set_up.set_up.known in
-    let spelled = c.in_ok-set_up.ensures.spelled in
+    let set_up = c.in_ok-set_up.set_up in
     let texts = texts_of c.in-Some.trace.now in
-    let input : IsInput c.args.bytes.now lines known texts = record {
-      accepted = accepted_by c.args.bytes.now c.split_input-lines.result.0.now lines known
-          split.set_up spelled;
+    let input : IsInput c.args.bytes.now set_up.lines set_up.known texts = record {
+      accepted = accepted_by c.args.bytes.now c.split_input-lines.result.0.now set_up.lines
+          set_up.known split.set_up c.in_ok-set_up.ensures.spelled;
       trace = sym split.trace
           ∙ ap (λ o. option_map (λ trace. texts_of trace.now) o) c.in-Some.is;
-    } in (
-      lines,
-      known,
-      texts,
-      input,
-      subst (λ n. Stops known texts (n + 2) unlawful.line unlawful.reason) split.lines
-          (c.check_lines.ensures.stops unlawful is),
-    )
+    } in
+    if_ok_map c.check_lines.result c.check_lines.ensures.lawful (λ steps lawful. record {
+      set_up = set_up.lines;
+      known = set_up.known;
+      texts = texts;
+      input = input;
+      lawful = lawful;
+    })
+
+pub returns-in-Some-clause-unlawful : goal.returns-in-Some-clause-unlawful
+returns-in-Some-clause-unlawful c = λ unlawful is.
+    let split = c.split_input-lines.ensures in
+    let set_up = c.in_ok-set_up.set_up in
+    let texts = texts_of c.in-Some.trace.now in
+    let input : IsInput c.args.bytes.now set_up.lines set_up.known texts = record {
+      accepted = accepted_by c.args.bytes.now c.split_input-lines.result.0.now set_up.lines
+          set_up.known split.set_up c.in_ok-set_up.ensures.spelled;
+      trace = sym split.trace
+          ∙ ap (λ o. option_map (λ trace. texts_of trace.now) o) c.in-Some.is;
+    } in
+    let stops = c.check_lines.ensures.unlawful unlawful is in record {
+      set_up = set_up.lines;
+      known = set_up.known;
+      texts = texts;
+      input = input;
+      place = stops.0;
+      at = stops.1 ∙ ap (λ n. n + 2 + stops.0) split.lines;
+      unlawful = stops.2;
+    }
+
+pub returns-in-Some-clause-lawful_only : goal.returns-in-Some-clause-lawful_only
+returns-in-Some-clause-lawful_only c =
+    only_lawful c.args.bytes.now c.check_lines.result (returns-in-Some-clause-lawful c)
+    (returns-in-Some-clause-unlawful c)
+    (λ refusal is. absurd (c.check_lines.ensures.no_refusal refusal is))
+
+pub returns-in-Some-clause-unlawful_only : goal.returns-in-Some-clause-unlawful_only
+returns-in-Some-clause-unlawful_only c =
+    only_unlawful c.args.bytes.now c.check_lines.result (returns-in-Some-clause-lawful c)
+    (returns-in-Some-clause-unlawful c)
+    (λ refusal is. absurd (c.check_lines.ensures.no_refusal refusal is))
+
+pub returns-in-Some-clause-refused_only : goal.returns-in-Some-clause-refused_only
+returns-in-Some-clause-refused_only c =
+    only_refused c.args.bytes.now c.check_lines.result (returns-in-Some-clause-lawful c)
+    (returns-in-Some-clause-unlawful c)
+    (λ refusal is. absurd (c.check_lines.ensures.no_refusal refusal is))
+
+-- ---- the set-up lines are refused
 
 pub returns-in_err-set_up-clause-refused : goal.returns-in_err-set_up-clause-refused
 returns-in_err-set_up-clause-refused c = λ refusal is.
@@ -36,10 +79,32 @@ returns-in_err-set_up-clause-refused c = λ refusal is.
     c.split_input-lines.ensures.set_up
     (c.in_err-set_up.ensures.refused refusal (ap (λ e. Err e) same)))
 
+pub returns-in_err-set_up-clause-unlawful : goal.returns-in_err-set_up-clause-unlawful
+returns-in_err-set_up-clause-unlawful c = λ unlawful is.
+    absurd (never_unlawful c.in_err-set_up.field-0.0 unlawful (search rules))
+
+pub returns-in_err-set_up-clause-lawful_only : goal.returns-in_err-set_up-clause-lawful_only
+returns-in_err-set_up-clause-lawful_only c =
+    only_lawful c.args.bytes.now c.from_residual.result (search rules)
+    (returns-in_err-set_up-clause-unlawful c) (returns-in_err-set_up-clause-refused c)
+
+pub returns-in_err-set_up-clause-unlawful_only : goal.returns-in_err-set_up-clause-unlawful_only
+returns-in_err-set_up-clause-unlawful_only c =
+    only_unlawful c.args.bytes.now c.from_residual.result (search rules)
+    (returns-in_err-set_up-clause-unlawful c) (returns-in_err-set_up-clause-refused c)
+
+pub returns-in_err-set_up-clause-refused_only : goal.returns-in_err-set_up-clause-refused_only
+returns-in_err-set_up-clause-refused_only c =
+    only_refused c.args.bytes.now c.from_residual.result (search rules)
+    (returns-in_err-set_up-clause-unlawful c) (returns-in_err-set_up-clause-refused c)
+
+-- ---- no trace is there
+
 pub returns-clause-refused : goal.returns-clause-refused
 returns-clause-refused c = λ refusal is.
     let split = c.split_input-lines.ensures in
-    let none = sym split.trace ∙ ap (λ o. option_map (λ trace. texts_of trace.now) o) c.in-None.is in
+    let none = sym split.trace
+    ∙ ap (λ o. option_map (λ trace. texts_of trace.now) o) c.in-None.is in
     let count : c.split_input-lines.result.2 ≡ length (texts_of c.args.bytes.now)
     = split.lines ∙ ap length (all_set_up (texts_of c.args.bytes.now) none) in
     let hit : Refusal = record { line = c.split_input-lines.result.2 + 1; reason = 15 } in
@@ -49,3 +114,21 @@ returns-clause-refused c = λ refusal is.
     (NoTrace (accepted_by c.args.bytes.now c.split_input-lines.result.0.now
     c.in_ok-set_up.set_up.lines c.in_ok-set_up.set_up.known split.set_up
     c.in_ok-set_up.ensures.spelled) none))
+
+pub returns-clause-lawful_only : goal.returns-clause-lawful_only
+returns-clause-lawful_only c =
+    let hit : Refusal = record { line = c.split_input-lines.result.2 + 1; reason = 15 } in
+    only_lawful c.args.bytes.now (Err (Refused hit)) tt (λ unlawful is. absurd cc)
+    (returns-clause-refused c)
+
+pub returns-clause-unlawful_only : goal.returns-clause-unlawful_only
+returns-clause-unlawful_only c =
+    let hit : Refusal = record { line = c.split_input-lines.result.2 + 1; reason = 15 } in
+    only_unlawful c.args.bytes.now (Err (Refused hit)) tt (λ unlawful is. absurd cc)
+    (returns-clause-refused c)
+
+pub returns-clause-refused_only : goal.returns-clause-refused_only
+returns-clause-refused_only c =
+    let hit : Refusal = record { line = c.split_input-lines.result.2 + 1; reason = 15 } in
+    only_refused c.args.bytes.now (Err (Refused hit)) tt (λ unlawful is. absurd cc)
+    (returns-clause-refused c)

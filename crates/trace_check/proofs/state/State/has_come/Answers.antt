@@ -17,8 +17,8 @@ returns-then-place-len c = λ r is is_in.
         λ allowed. may.1 (subst (λ x. MayHold x packet) (sym run) allowed),
       ),
       λ came. record {
-        peers = is.peers;
-        within = is.within;
+        links = is.links;
+        network = is.network;
         wires = is.wires;
         runs = runs_set r.nodes r.runs hearings c.args.port place c.hold.new.self
             (λ run. holds_one run packet) is.runs is_in c.place_of-place.ensures

@@ -1,21 +1,29 @@
-use Rattle.std.proofs.Common.{◌≡◌, ◌++◌, List, ap, ◌∙◌}
+use Rattle.std.proofs.Common.{◌≡◌, ◌++◌, List, true, ap, ◌∙◌, subst, rules, tests}
 use Rattle.rio_chars.specs.declared.chars.Char.{Char}
+use Rattle.fabric_trace.specs.Lines.{Sent, Signed}
+use Rattle.trace_check.specs.Checks.{MaySend}
+use Rattle.trace_check.proofs.AnswerLaws.{sent_stands}
 use Rattle.trace_check.proofs.StateLaws.{wires_set}
 use Rattle.trace_check.proofs.TableLaws.{table_read}
 use Rattle.trace_check.proofs.state.State.sent.Goals as goal
 
 pub returns : goal.returns
-returns c = λ r is is_in.
+returns c = λ r short is is_in.
     let place = c.place_of-place.result in
     let wire = c.index_mut.result.now in
     let here = c.place_of-place.ensures in
+    let chars = c.args.chars.items in
     let before = table_read r.nodes (λ p chars. chars ≡ r.wires p) c.args.self.now.wires.items
     c.args.port place wire is.wires is_in here c.index_mut.ensures.value in
-    record {
-      peers = is.peers;
-      within = is.within;
+    let yes : c.may_send.result ≡ true = search (rules, tests) in
+    let may = subst (λ (l : List Char). MaySend r.net (Signed (Sent c.args.port l)))
+    c.as_slice.ensures.value ((c.may_send.ensures r.nodes r.net is.network is_in).0 yes) in
+    sent_stands r short _ c.args.port chars may
+    (record {
+      links = is.links;
+      network = is.network;
       wires = wires_set r.nodes r.wires c.args.self.now.wires.items c.args.port place
-          c.put.new.self (r.wires c.args.port ++ c.args.chars.items) is.wires is_in here
-          (c.in_ok-put.ensures ∙ ap (λ (l : List Char). l ++ c.args.chars.items) before);
+          c.put.new.self (r.wires c.args.port ++ chars) is.wires is_in here
+          (c.in_ok-put.ensures ∙ ap (λ (l : List Char). l ++ chars) before);
       runs = is.runs;
-    }
+    })

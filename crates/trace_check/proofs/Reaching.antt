@@ -1,0 +1,162 @@
+-- What is reached line by line is what the lines before say.
+use Rattle.std.proofs.Common.{◌≡◌, ℕ, ◌<◌, ◌++◌, List, [], ◌∷◌, refl, sym, ap, ◌∙◌, subst, arith}
+use Rattle.fabric_script.specs.declared.ports.PortRef.{PortRef}
+use Rattle.fabric_model.specs.Network.{Network}
+use Rattle.fabric_model.specs.Steps.{after, after_all, AtNode, ByDevice, Free, Hold, Linked, Step}
+use Rattle.fabric_model.proofs.Joining.{links_stay}
+use Rattle.fabric_model.proofs.Peers.{port_is}
+use Rattle.fabric_trace.specs.Allowance.{allowance}
+use Rattle.fabric_trace.specs.Holds.{got}
+use Rattle.fabric_trace.specs.Lines.{Begun, Ended, Lacked, Signed, Stepped, steps_of, TraceLine, Undetected}
+use Rattle.fabric_trace.specs.Wires.{WireChars}
+use Rattle.fabric_trace.proofs.Keeping.{steps_of-append}
+use Rattle.trace_check.specs.Checks.{freed, HasCome, IsAllowed, IsStep, MaySend, net_after, OnWires, Passes}
+use Rattle.trace_check.specs.Lawful.{Fault, NoStep, NotAllowed, NotCome, NotThere, OffWire, Stands}
+use Rattle.trace_check.specs.Running.{MayFree, MayHold, PortRun}
+use Rattle.trace_check.specs.States.{FreeMayBe, HoldMayBe, reached_after, Reached, StandsAt, unreached}
+use Rattle.trace_check.specs.Wires.{are_short, told_wires, wires_after}
+use Rattle.trace_check.proofs.Behind.{wires_on}
+use Rattle.trace_check.proofs.Exclusive.{wires_alike}
+use Rattle.trace_check.proofs.Running.{HoldsFit, IsRun, may_hold, new_is, run_on}
+
+-- So much is reached behind these lines, with others behind them.
+pub record Reaches (nodes : ℕ) (net : Network) (before behind : List TraceLine) (r : Reached) :
+    Type 0 where
+  pub nodes_are : r.nodes ≡ nodes
+  pub net_is : r.net ≡ net_after net before
+  pub links_are : r.net.links ≡ net.links
+  pub wires_are : r.wires ≡ wires_after net.links (λ p. []) before behind
+  pub runs_are : (p : PortRef) → IsRun p before (r.runs p)
+
+pub start_behind : (nodes : ℕ) (net : Network) (behind : List TraceLine)
+    → Reaches nodes net [] behind (unreached nodes net)
+start_behind nodes net behind = record {
+  nodes_are = refl;
+  net_is = refl;
+  links_are = refl;
+  wires_are = refl;
+  runs_are = new_is;
+}
+
+-- what stands behind the lines counts by the first of it alone
+pub other_behind : (nodes : ℕ) (net : Network) (before one other : List TraceLine) (r : Reached)
+    → are_short one ≡ are_short other → Reaches nodes net before one r
+    → Reaches nodes net before other r
+other_behind nodes net before one other r same is = record {
+  nodes_are = is.nodes_are;
+  net_is = is.net_is;
+  links_are = is.links_are;
+  wires_are = is.wires_are ∙ wires_alike net.links before (λ p. []) one other same;
+  runs_are = is.runs_are;
+}
+
+-- ---- one more line
+
+links_kept : (net : Network) (steps : List Step) → (after_all net steps).links ≡ net.links
+links_kept net [] = refl
+links_kept net (step ∷ steps) = links_kept (after net step) steps ∙ links_stay net step
+
+after-append : (net : Network) (xs ys : List Step)
+    → after_all (after_all net xs) ys ≡ after_all net (xs ++ ys)
+after-append net [] ys = refl
+after-append net (step ∷ xs) ys = after-append (after net step) xs ys
+
+holds_fit : (p : PortRef) (runs : PortRef → PortRun) (line : TraceLine) → HoldMayBe runs line
+    → HoldsFit p (runs p) line
+holds_fit p runs (Begun line) may = tt
+holds_fit p runs (Stepped (Linked (Hold q packet))) may =
+    λ same. subst (λ x. MayHold (runs x) packet) (sym (port_is p q same)) may
+holds_fit p runs (Stepped (Linked (Free q packet))) may = tt
+holds_fit p runs (Stepped (AtNode step)) may = tt
+holds_fit p runs (Stepped (ByDevice step)) may = tt
+holds_fit p runs (Signed sign) may = tt
+holds_fit p runs (Lacked lack) may = tt
+holds_fit p runs Ended may = tt
+holds_fit p runs (Undetected number q e) may = tt
+
+pub on_behind : (nodes : ℕ) (net : Network) (before behind : List TraceLine) (line : TraceLine)
+    (r : Reached) → HoldMayBe r.runs line → Reaches nodes net before (line ∷ behind) r
+    → Reaches nodes net (before ++ line ∷ []) behind (reached_after r line (are_short behind))
+on_behind nodes net before behind line r may is = record {
+  nodes_are = is.nodes_are;
+  net_is = ap (λ (n : Network). net_after n (line ∷ [])) is.net_is
+      ∙ after-append net (steps_of before) (steps_of (line ∷ []))
+      ∙ ap (after_all net) (sym (steps_of-append before (line ∷ [])));
+  links_are = links_kept r.net (steps_of (line ∷ [])) ∙ is.links_are;
+  wires_are = (λ i. told_wires (is.links_are i) (is.wires_are i) line (are_short behind))
+      ∙ wires_on net.links before (λ p. []) line behind;
+  runs_are = λ p. run_on p before line (r.runs p) (holds_fit p r.runs line may) (is.runs_are p);
+}
+
+-- ---- what is asked of what is reached is what is asked of the lines before
+
+has_come : (before : List TraceLine) (runs : PortRef → PortRun) (line : TraceLine)
+    → ((p : PortRef) → IsRun p before (runs p))
+    → (HoldMayBe runs line → HasCome before line) × (HasCome before line → HoldMayBe runs line)
+has_come before runs (Begun line) are = (λ x. tt, λ x. tt)
+has_come before runs (Stepped (Linked (Hold q packet))) are =
+    may_hold q before (runs q) packet (are q)
+has_come before runs (Stepped (Linked (Free q packet))) are = (λ x. tt, λ x. tt)
+has_come before runs (Stepped (AtNode step)) are = (λ x. tt, λ x. tt)
+has_come before runs (Stepped (ByDevice step)) are = (λ x. tt, λ x. tt)
+has_come before runs (Signed sign) are = (λ x. tt, λ x. tt)
+has_come before runs (Lacked lack) are = (λ x. tt, λ x. tt)
+has_come before runs Ended are = (λ x. tt, λ x. tt)
+has_come before runs (Undetected number q e) are = (λ x. tt, λ x. tt)
+
+may_free : (p : PortRef) (before : List TraceLine) (run : PortRun) → IsRun p before run
+    → (MayFree run → freed p before < allowance (got p before))
+    × (freed p before < allowance (got p before) → MayFree run)
+may_free p before run is =
+    let count = is.freed_is in
+    let most = is.allowed in (
+      λ may. omega (arith, may, count, most),
+      λ less. omega (arith, less, count, most),
+    )
+
+is_allowed : (before : List TraceLine) (runs : PortRef → PortRun) (line : TraceLine)
+    → ((p : PortRef) → IsRun p before (runs p))
+    → (FreeMayBe runs line → IsAllowed before line) × (IsAllowed before line → FreeMayBe runs line)
+is_allowed before runs (Begun line) are = (λ x. tt, λ x. tt)
+is_allowed before runs (Stepped (Linked (Hold q packet))) are = (λ x. tt, λ x. tt)
+is_allowed before runs (Stepped (Linked (Free p packet))) are =
+    may_free p before (runs p) (are p)
+is_allowed before runs (Stepped (AtNode step)) are = (λ x. tt, λ x. tt)
+is_allowed before runs (Stepped (ByDevice step)) are = (λ x. tt, λ x. tt)
+is_allowed before runs (Signed sign) are = (λ x. tt, λ x. tt)
+is_allowed before runs (Lacked lack) are = (λ x. tt, λ x. tt)
+is_allowed before runs Ended are = (λ x. tt, λ x. tt)
+is_allowed before runs (Undetected number q e) are = (λ x. tt, λ x. tt)
+
+module _ (nodes : ℕ) (net : Network) (before behind : List TraceLine) (line : TraceLine)
+    (r : Reached) (is : Reaches nodes net before (line ∷ behind) r) where
+  pub stands_so : (fault : Fault) → StandsAt r line (are_short behind) fault
+      → Stands net before line behind fault
+  stands_so OffWire on =
+      subst (λ (w : WireChars). OnWires net.links w line (are_short behind)) is.wires_are
+      (subst (λ l. OnWires l r.wires line (are_short behind)) is.links_are on)
+  stands_so NoStep needs = subst (λ (n : Network). IsStep n line) is.net_is needs
+  stands_so NotCome may = (has_come before r.runs line is.runs_are).0 may
+  stands_so NotAllowed may = (is_allowed before r.runs line is.runs_are).0 may
+  stands_so NotThere may = subst (λ (n : Network). MaySend n line) is.net_is may
+
+  pub stands_by : (fault : Fault) → Stands net before line behind fault
+      → StandsAt r line (are_short behind) fault
+  stands_by OffWire on =
+      subst (λ l. OnWires l r.wires line (are_short behind)) (sym is.links_are)
+      (subst (λ (w : WireChars). OnWires net.links w line (are_short behind)) (sym is.wires_are) on)
+  stands_by NoStep needs = subst (λ (n : Network). IsStep n line) (sym is.net_is) needs
+  stands_by NotCome came = (has_come before r.runs line is.runs_are).1 came
+  stands_by NotAllowed allowed = (is_allowed before r.runs line is.runs_are).1 allowed
+  stands_by NotThere may = subst (λ (n : Network). MaySend n line) (sym is.net_is) may
+
+  -- where all stand the line passes
+  pub passes_so : ((fault : Fault) → StandsAt r line (are_short behind) fault)
+      → Passes net before line behind
+  passes_so all = record {
+    wires = stands_so OffWire (all OffWire);
+    step = stands_so NoStep (all NoStep);
+    came = stands_so NotCome (all NotCome);
+    allowed = stands_so NotAllowed (all NotAllowed);
+    sends = stands_so NotThere (all NotThere);
+  }
