@@ -178,6 +178,56 @@ edit_known {from} {lines} {fabric} {port} {place} stands p =
     ∙ stands.shows.ports d.a shown.port_a)
     (ap (slice_get fabric.ports.items) p.second ∙ stands.shows.ports d.b shown.port_b)
 
+-- the link is the one that stands at the place
+module _ (fabric : Fabric) (port : PortRef) (place : LinkPlace) (p : IsPlaceOf fabric port place)
+    (cable : Cable) (met : cable ≡ slice_index_or fabric.cables.items place.cable cable) where
+  -- its wire has the characters that are known
+  pub edit_chars : (from : Seen) (lines : List TraceLine) → Stands from lines fabric
+      → (wire_at place.side cable.link).chars ≡ ((seen from lines).wires port).chars
+  edit_chars from lines stands =
+      let s = seen from lines in
+      let d = p.is.cable in
+      let same = cable_is fabric.cables.items port place.cable place.side p.is cable met in
+      let k = edit_known stands p in
+      let x = port_at s d.a in
+      let y = port_at s d.b in
+      wire_chars s d.a d.b place.side cable.link x y
+      (ap (λ (c : Cable). link c.link x y) same ∙ k.shown)
+      ∙ ap (λ (q : PortRef). (s.wires q).chars) (sym k.end)
+
+  -- the fabric shows what is known after the edit
+  pub edit_shows : (edit : Edit) (wires : Wires)
+      → ((x y : PortState) → link wires x y ≡ edited_from place.side edit (link cable.link x y))
+      → (from : Seen) (lines : List TraceLine) → Stands from lines fabric
+      → ShowsFabric (fabric_edited fabric place.cable cable wires)
+      (edited_by (seen from lines) (Some (port, edit)))
+  edit_shows edit wires becomes from lines stands =
+      let s = seen from lines in
+      let d = p.is.cable in
+      let same : cable ≡ d = cable_is fabric.cables.items port place.cable place.side p.is cable
+      met in
+      let k = edit_known stands p in
+      let x = port_at s d.a in
+      let y = port_at s d.b in
+      let t = edited_by s (Some (port, edit)) in
+      let shown : link cable.link x y ≡ link_at s d.a d.b = ap (λ (c : Cable). link c.link x y) same
+      ∙ k.shown in
+      let there : link_at t d.a d.b ≡ link wires x y =
+      ap (λ (q : PortRef). link_at (edited_by s (Some (q, edit))) d.a d.b) k.end
+      ∙ edited_at s d.a d.b place.side edit k.peers.apart
+      ∙ ap (edited_from place.side edit) (sym shown) ∙ sym (becomes x y) in
+      let others : AreOthers s t d.a d.b =
+      subst (λ (q : PortRef). AreOthers s (edited_by s (Some (q, edit))) d.a d.b) (sym k.end)
+      (edit_others s d.a d.b place.side edit) in
+      let in_place = cable_shown place.cable d stands p.is.at in
+      let changes =
+      links_changed fabric place.cable d wires x y (stands.shows.ports d.a in_place.port_a)
+      (stands.shows.ports d.b in_place.port_b) in
+      let new_fabric = fabric_edited fabric place.cable d wires in
+      subst (λ (c : Cable). ShowsFabric (fabric_edited fabric place.cable c wires) t) (sym same)
+      (changed_shows fabric new_fabric s t place.cable d wires x y stands.shows k.at changes
+      k.good.proper others refl there)
+
 -- the block is written, and the fabric stands for the lines with it
 pub edit_done : {K : Type 0} (written : K → Option (List ℕ)) (faults : K → ℕ) (fabric : Fabric)
     (port : PortRef) (place : LinkPlace) (p : IsPlaceOf fabric port place) (cable : Cable)
@@ -194,50 +244,26 @@ pub edit_done : {K : Type 0} (written : K → Option (List ℕ)) (faults : K →
 edit_done written faults fabric port place p cable met edit wires becomes answer answers old new
     writes names line is from lines stands =
     let s = seen from lines in
-    let d = p.is.cable in
-    let same : cable ≡ d = cable_is fabric.cables.items port place.cable place.side p.is cable
-    met in
-    let k = edit_known stands p in
-    let x = port_at s d.a in
-    let y = port_at s d.b in
+    let new_fabric = fabric_edited fabric place.cable cable wires in
     let t = edited_by s (Some (port, edit)) in
-    let shown : link cable.link x y ≡ link_at s d.a d.b = ap (λ (c : Cable). link c.link x y) same
-    ∙ k.shown in
-    let there : link_at t d.a d.b ≡ link wires x y =
-    ap (λ (q : PortRef). link_at (edited_by s (Some (q, edit))) d.a d.b) k.end
-    ∙ edited_at s d.a d.b place.side edit k.peers.apart
-    ∙ ap (edited_from place.side edit) (sym shown) ∙ sym (becomes x y) in
-    let others : AreOthers s t d.a d.b =
-    subst (λ (q : PortRef). AreOthers s (edited_by s (Some (q, edit))) d.a d.b) (sym k.end)
-    (edit_others s d.a d.b place.side edit) in
-    let in_place = cable_shown place.cable d stands p.is.at in
-    let chars : (wire_at place.side cable.link).chars ≡ (s.wires port).chars =
-    wire_chars s d.a d.b place.side cable.link x y shown
-    ∙ ap (λ (q : PortRef). (s.wires q).chars) (sym k.end) in
     let block = lack_lines (acted answer) in
     let block_is : block ≡ edits s (Some (port, edit)) =
     ap (λ z. lack_lines (acted z)) answers
     ∙ lacks_is (fits edit (wire_at place.side cable.link).chars)
-    ∙ ap (λ z. if fits edit z then [] else Lacked traced.Short ∷ []) chars in
+    ∙ ap (λ z. if fits edit z then [] else Lacked traced.Short ∷ [])
+    (edit_chars fabric port place p cable met from lines stands) in
     let begun : seen s (Begun line ∷ block) ≡ t = ap (λ e. seen (edited_by s e) block) is
     ∙ lack_same t (acted answer) in
-    let changes =
-    links_changed fabric place.cable d wires x y (stands.shows.ports d.a in_place.port_a)
-    (stands.shows.ports d.b in_place.port_b) in
-    let new_fabric = fabric_edited fabric place.cable d wires in
-    let shows = changed_shows fabric new_fabric s t place.cable d wires x y stands.shows k.at
-    changes k.good.proper others refl there in
+    let shows = edit_shows fabric port place p cable met edit wires becomes from lines stands in
     let is_block = edit_block s line port edit block is block_is in
-    subst (λ (c : Cable). Blocked line names written faults old new from lines
-    (fabric_edited fabric place.cable c wires)) (sym same)
-    (record {
+    record {
       block = block;
       prints = writes names;
       is = is_block;
       stands = stands_on from lines fabric new_fabric line block stands is_block
           (ap (λ (z : Seen). z.unfaithful) begun ∙ stands.sent)
           (subst (ShowsFabric new_fabric) (sym begun) shows);
-    })
+    }
 
 -- nothing of it is written
 pub edit_cut : {K : Type 0} (written : K → Option (List ℕ)) (faults : K → ℕ) (port : PortRef)

@@ -1,7 +1,12 @@
 pub mod ActLaws
 pub mod ActionLaws
+pub mod AnswerLaws
+pub mod AskLaws
 pub mod BlockLaws
 pub mod Cables
+pub mod CarriedLaws
+pub mod CarryAllLaws
+pub mod CarryLaws
 pub mod Changes
 pub mod CollectLaws
 pub mod DeviceLaws
@@ -9,10 +14,16 @@ pub mod EditLaws
 pub mod EndLaws
 pub mod EventLaws
 pub mod FaceLaws
+pub mod FetchLaws
+pub mod FlushLaws
+pub mod GatherAllLaws
+pub mod GatherLaws
 pub mod Halves
+pub mod LeaveLaws
 pub mod LinkLaws
 pub mod NewLaws
 pub mod NodeLaws
+pub mod OwnLaws
 pub mod PlaceLaws
 pub mod PlanLaws
 pub mod RanLaws
@@ -25,3 +36,4 @@ pub mod SettlingLaws
 pub mod ShowLaws
 pub mod StandLaws
 pub mod StepLaws
+pub mod StirLaws

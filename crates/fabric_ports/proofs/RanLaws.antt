@@ -124,10 +124,10 @@ more_exists Q from lines block (Some found) on made is = ([], refl)
 
 -- ---- a call ended as the one in it
 
-pub handed_on : (r : Result (Unit {0}) EventEnd) (end : EventEnd) (P : EventEnd → Type 0)
+pub handed_on : {T : Type 0} (r : Result T EventEnd) (end : EventEnd) (P : EventEnd → Type 0)
     → IsErrAnd r (λ y. y ≡ end) → P end → IfErr r P
-handed_on (Ok x) end P gives holds = absurd gives
-handed_on (Err y) end P gives holds = subst P (sym gives) holds
+handed_on {T} (Ok x) end P gives holds = absurd gives
+handed_on {T} (Err y) end P gives holds = subst P (sym gives) holds
 
 -- ---- what was written
 

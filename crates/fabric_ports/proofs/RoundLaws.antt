@@ -35,7 +35,7 @@ use Rattle.fabric_ports.proofs.SettlingLaws.{good_behind, kinds_stay}
 
 -- ---- switches, one after another
 
-nodes_more : (test : Bool) (A B Q C D : Kind) (s : Seen) (lines : List TraceLine)
+pub nodes_more : (test : Bool) (A B Q C D : Kind) (s : Seen) (lines : List TraceLine)
     → (Both A Q s lines → C s lines) → (Both B Q s lines → D s lines)
     → Both (λ t block. MatchBool test (A t block) (B t block)) Q s lines
     → MatchBool test (C s lines) (D s lines)

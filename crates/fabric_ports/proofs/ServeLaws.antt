@@ -58,7 +58,7 @@ ports_in (Some device) = device.ports
 abbrev pub held_by : Fabric → ℕ → ℕ
 held_by fabric node = held_from fabric node (ports_in (slice_get fabric.devices.items node))
 
-held_lanes : (lanes : ℕ → List Item) → packets_in (lists_in lanes) ≡ length (in_turn lanes)
+pub held_lanes : (lanes : ℕ → List Item) → packets_in (lists_in lanes) ≡ length (in_turn lanes)
 held_lanes lanes =
     let zeroth = length-map (lanes 0) (λ (item : Item). item.now) in
     let first = length-map (lanes 1) (λ (item : Item). item.now) in
@@ -173,7 +173,7 @@ all_served node s first second own last =
 -- ---- what was written
 
 module _ {K : Type 0} (written : K → Option (List ℕ)) (faults : K → ℕ) (names : List (List ℕ)) where
-  did_ran : (Is : List TraceLine → Type 0) (Q : Kind) (b c : Outbox K) (from : Seen)
+  pub did_ran : (Is : List TraceLine → Type 0) (Q : Kind) (b c : Outbox K) (from : Seen)
       (lines : List TraceLine) (mid new : Fabric) → Stands from lines mid
       → ((block : List TraceLine) → Is block → Q (seen from lines) block
       × Made (seen from lines) block)

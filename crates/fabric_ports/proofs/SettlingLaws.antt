@@ -110,7 +110,7 @@ found_at all (x ∷ links) zero link found at within =
 found_at all (x ∷ links) (suc k) link found at within =
     found_at all links k link found.1 at (omega (arith, within))
 
-found_drop : (all links : List (PortRef × PortRef)) (k : ℕ) → AreFound all links
+pub found_drop : (all links : List (PortRef × PortRef)) (k : ℕ) → AreFound all links
     → AreFound all (drop k links)
 found_drop all links zero found = found
 found_drop all [] (suc k) found = tt
@@ -185,7 +185,7 @@ unbegun from lines block port =
     seen-append from lines (Begun (Settle port) ∷ block)
     ∙ sym (seen-append from lines block)
 
-settles_made : (from : Seen) (link : PortRef × PortRef) → IsReady from
+pub settles_made : (from : Seen) (link : PortRef × PortRef) → IsReady from
     → link_in from.network.links link.0 ≡ Some link → IsMade from (Settles link)
 settles_made from link ready found lines block made sent own =
     let s = seen from lines in
@@ -216,7 +216,7 @@ module _ {K : Type 0} (written : K → Option (List ℕ)) (faults : K → ℕ) (
         };
       }
 
-  settle_ends : (a b : Outbox K) (from : Seen) (lines : List TraceLine)
+  pub settle_ends : (a b : Outbox K) (from : Seen) (lines : List TraceLine)
       (link : PortRef × PortRef) (end : EventEnd) → link_in from.network.links link.0 ≡ Some link
       → BlockEnds (Settle link.0) names written faults a b from lines end
       → RanEnds (Settles link) names written faults a b from lines end

@@ -8,3 +8,8 @@ pub mod Blocked
 pub mod Plans
 pub mod Switching
 pub mod Acting
+pub mod Carrying
+pub mod Gathering
+pub mod Asking
+pub mod OwnRegisters
+pub mod Fetching

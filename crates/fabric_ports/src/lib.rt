@@ -1,24 +1,32 @@
-//! A fabric of ports and links, and what the events of a script do to it.
+//! A fabric of ports and links, what the events of a script do to it, and what a host asks over it.
 //!
 //! Promised: a fabric is what its set-up lines make, and each event that is carried out writes its
 //! block of the trace. For whatever lines a fabric stands, it stands for those and the block
-//! afterwards.
+//! afterwards. A host that asks a device gets the response which the registers and the tables give,
+//! or is told exactly why it gets none.
 //!
 //! Left out: the order of events, and the last line of a trace. All memory of the ports is taken
 //! when the fabric is made.
 //!
 //! - [`Fabric`]: its devices, ports and links
 //! - [`Happened`] and [`EventEnd`]: what an event answers
+//! - [`AskEnd`]: why an ask has no answer
+//! - [`Noise`] and [`Quiet`]: who changes what is on the wires while a host asks
 #![tactic(auto)]
 
 mod actions;
 mod answers;
+mod asking;
+mod carrying;
 mod edits;
 mod ends;
 mod events;
 mod fabric;
+mod gathering;
 mod links;
 mod nodes;
+mod noise;
+mod own_registers;
 #[cfg(test)]
 mod plan_tests;
 mod plans;
@@ -26,4 +34,6 @@ mod rounds;
 mod switches;
 
 pub use answers::{EventEnd, Happened};
+pub use asking::AskEnd;
 pub use fabric::Fabric;
+pub use noise::{Noise, Quiet};

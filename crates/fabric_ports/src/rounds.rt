@@ -67,7 +67,7 @@ impl Fabric {
     }
 
     /// Every switch makes steps until no packet of it can go, in the order of the devices.
-    fn serve_all<K: Sink>(&mut self, names: &[Name], outbox: &mut Outbox<K>)
+    pub(crate) fn serve_all<K: Sink>(&mut self, names: &[Name], outbox: &mut Outbox<K>)
         requires stands { (from : Seen) × (lines : List TraceLine) × Stands from lines self.old }
         requires named { length self.old.devices.items ≤ length names.now }
         requires few { length names.now ≤ 256 }

@@ -1,0 +1,294 @@
+-- What is said of an ask by what was told of it.
+use Rattle.std.proofs.Common.{◌≡◌, ℕ, ◌<◌, List, [], ◌∷◌, ◌++◌, Option, Some, None, Result, Ok, Err, IfOk, IfErr, refl, sym, ap, ◌∙◌, subst, arith, append_assoc}
+use Rattle.std.proofs.lemmas.Grind.{flat_map-append}
+use Rattle.std.proofs.lemmas.List.{same_from_push}
+use Rattle.std.specs.Io.KnownBytes.{Appends}
+use Rattle.rio_chars.specs.Fronts.{AppendsFront}
+use Rattle.rio_chars.specs.Written.{Writes}
+use Rattle.rio_chars.specs.declared.outbox.Outbox.{Outbox}
+use Rattle.rio_packets.specs.LinkForm.{LinkForm}
+use Rattle.rio_packets.proofs.FormLaws.{Passes-from_form}
+use Rattle.maint_packets.specs.Requests.{IsGood as IsGoodOp, request_of, request_body}
+use Rattle.maint_packets.specs.Responses.{response_of}
+use Rattle.maint_packets.specs.declared.request.Request.{Request}
+use Rattle.maint_packets.specs.declared.response.Response.{Response}
+use Rattle.maint_packets.proofs.RequestLaws.{read_back}
+use Rattle.link_wires.specs.declared.edits.Edit.{Edit}
+use Rattle.fabric_script.specs.declared.ports.PortRef.{PortRef}
+use Rattle.fabric_model.specs.Steps.{Leave, AtNode}
+use Rattle.fabric_trace.specs.Fold.{seen}
+use Rattle.fabric_trace.specs.Known.{Seen}
+use Rattle.fabric_trace.specs.Lines.{TraceLine, Stepped}
+use Rattle.fabric_trace.specs.Text.{trace_line_text, trace_text}
+use Rattle.fabric_trace.proofs.Boards.{seen_board}
+use Rattle.fabric_trace.proofs.Existing.{ready_on}
+use Rattle.fabric_trace.proofs.Folding.{seen-append}
+use Rattle.fabric_trace.proofs.Making.{made-append}
+use Rattle.fabric_ask.specs.Answered.{IsReplied, response_home, after_request}
+use Rattle.fabric_ask.specs.Asks.{IsAsk}
+use Rattle.fabric_ask.specs.Course.{IsLaid}
+use Rattle.fabric_ask.specs.Only.{IsClear}
+use Rattle.fabric_ask.specs.Own.{NeverAnswers}
+use Rattle.fabric_ask.specs.Quiet.{AreQuiet}
+use Rattle.fabric_ask.proofs.Answering.{is_replied, goes_there}
+use Rattle.fabric_ask.proofs.Lowering.{on_request}
+use Rattle.fabric_ask.proofs.Laying.{laid_heard}
+use Rattle.fabric_ask.proofs.Uncollected.{nothing_answers, answers-append}
+use Rattle.fabric_ports.specs.Asking.{CanAsk, Returns, Replied, AskEnds, Unwritten}
+use Rattle.fabric_ports.specs.Fetching.{NoneLeaves, AskLeaves, response_or_end, response_in, answer_to}
+use Rattle.fabric_ports.specs.Ran.{Ran, RanEnds}
+use Rattle.fabric_ports.specs.declared.answers.EventEnd.{EventEnd}
+use Rattle.fabric_ports.specs.declared.answers.EventEnd.TheVariants as Ends
+use Rattle.fabric_ports.specs.declared.asking.AskEnd.{AskEnd}
+use Rattle.fabric_ports.specs.declared.fabric.Fabric.{Fabric}
+use Rattle.fabric_ports.proofs.AskLaws.{ask_before, ask_found, ask_quiet}
+use Rattle.fabric_ports.proofs.LeaveLaws.{never_last, still_behind}
+use Rattle.fabric_ports.proofs.SettlingLaws.{good_behind}
+
+-- what a request needs that is to be sent
+pub record IsSendable (request : Request) : Type 0 where
+  pub op : IsGoodOp request.op
+  pub prio : request.prio < 4
+
+-- its hop count is a byte of its packet
+low_hop : (request : Request) (packet : List ℕ) → IsSendable request
+    → LinkForm (request_body request) packet → request.hop < 256
+low_hop request packet sendable form =
+    let passes = Passes-from_form (request_body request) packet form in
+    let own = (on_request packet request passes
+    (read_back request packet sendable.prio sendable.op form)).hop in
+    let byte = passes.range 6 0 (omega (arith, passes.least)) in
+    subst (λ n. n < 256) own byte
+
+-- what was told of an ask, by what left at the host or why it ended
+abbrev pub IsTold : List (List ℕ) → {K : Type 0} → (K → Option (List ℕ)) → (K → ℕ) → Outbox K
+    → Outbox K → ℕ → Request → List Edit → Seen → List TraceLine → Fabric
+    → Result (Option (List ℕ)) EventEnd → Type 0
+IsTold names written faults a b host request noise from lines new (Ok left) =
+    Ran (AskLeaves host request noise left) names written faults a b from lines new
+IsTold names written faults a b host request noise from lines new (Err end) =
+    RanEnds (IsAsk host request noise) names written faults a b from lines end
+
+module _ (names : List (List ℕ)) {K : Type 0} (written : K → Option (List ℕ)) (faults : K → ℕ)
+    (a b : Outbox K) (host : ℕ) (request : Request) (noise : List Edit) (old new : Fabric) where
+  pub is_told : (told : Result (Option (List ℕ)) EventEnd)
+      → IfOk told (λ left. (from : Seen) (lines : List TraceLine) → CanAsk host from lines old
+      → Ran (AskLeaves host request noise left) names written faults a b from lines new)
+      → IfErr told (λ end. (from : Seen) (lines : List TraceLine) → CanAsk host from lines old
+      → RanEnds (IsAsk host request noise) names written faults a b from lines end)
+      → (from : Seen) (lines : List TraceLine) → CanAsk host from lines old
+      → IsTold names written faults a b host request noise from lines new told
+  is_told (Ok left) done ended from lines can = done from lines can
+  is_told (Err end) done ended from lines can = ended from lines can
+
+  -- some text was told
+  pub told_text : (told : Result (Option (List ℕ)) EventEnd) (from : Seen)
+      (lines : List TraceLine)
+      → IsTold names written faults a b host request noise from lines new told
+      → (text : List ℕ) × Writes written faults a b text
+  told_text (Ok left) from lines ran = (trace_text names ran.block, ran.prints)
+  told_text (Err (Ends.Undetected port event)) from lines ran =
+      (trace_text names ran.block, ran.prints)
+  told_text (Err Ends.NoMemory) from lines ran = (trace_text names ran.front, ran.prints)
+
+module _ (names : List (List ℕ)) (before after : Option (List ℕ)) (host : ℕ) (request : Request)
+    (noise : List Edit) (from : Seen) (lines : List TraceLine) (old new : Fabric) where
+  -- an ask ended so
+  abbrev pub IsAnswered : Result Response AskEnd → Type 0
+  IsAnswered (Ok response) =
+      Replied names before after host request noise from lines new response
+  IsAnswered (Err end) = AskEnds names before after host request noise from lines end
+
+  module _ {K : Type 0} (written : K → Option (List ℕ)) (faults : K → ℕ) (a b : Outbox K)
+      (can : CanAsk host from lines old) (sendable : IsSendable request) where
+    abbrev s : Seen
+    s = seen from lines
+
+    reads : (packet : List ℕ) → LinkForm (request_body request) packet
+        → request_of packet ≡ Some request
+    reads packet form = read_back request packet sendable.prio sendable.op form
+
+    module _ (left : Option (List ℕ))
+        (ran : Ran (AskLeaves host request noise left) names written faults a b from lines new)
+        (told : Appends before after (trace_text names ran.block)) where
+      abbrev block : List TraceLine
+      block = ran.block
+
+      ask : IsAsk host request noise (seen from lines) ran.block
+      ask = ran.is.0
+
+      low : request.hop < 256
+      low = low_hop request ran.is.0.3.packet sendable ran.is.0.3.form
+
+      still : (seen (seen from lines) ran.block).unfaithful ≡ None
+      still = still_behind lines ran.block ran.stands
+
+      there : (at : PortRef) → Returns (seen from lines).network host request at
+          → IsReplied host (seen from lines) ran.block at request
+      there at trip = is_replied host request noise (seen from lines) ran.block
+          (good_behind can.stands.ready can.stands.made) can.stands.sent can.clear can.laid
+          (ready_on can.stands.ready can.stands.made).formed.registers low reads ask still
+          at trip
+
+      -- no packet left
+      nothing_came : NoneLeaves host ran.block
+          → AskEnds names before after host request noise from lines AskEnd.Unanswered
+      nothing_came stays = record {
+        block = ran.block;
+        told = told;
+        is = ask;
+        sent = ran.stands.sent;
+        lost = λ at trip.
+            let replied = there at trip in
+            never_last host replied.front replied.packet
+            (subst (NoneLeaves host) replied.whole stays);
+        own = ask_before host request noise (seen from lines) ran.block
+            (good_behind can.stands.ready can.stands.made) can.stands.sent ask;
+      }
+
+      -- a packet left, and so the response
+      module _ (packet : List ℕ) (front : List TraceLine)
+          (whole : ran.block ≡ front ++ Stepped (AtNode (Leave host packet)) ∷ []) where
+        trip : (at : PortRef) × Returns (seen from lines).network host request at
+        trip = goes_there host request noise (seen from lines) ran.block
+            (good_behind can.stands.ready can.stands.made) can.stands.sent can.clear can.laid
+            (ready_on can.stands.ready can.stands.made).formed.registers low reads ask
+            still front packet whole
+
+        replied : IsReplied host (seen from lines) ran.block trip.0 request
+        replied = there trip.0 trip.1
+
+        packet_is : packet ≡ replied.packet
+        packet_is =
+            let same = (same_from_push front replied.front
+            (Stepped (AtNode (Leave host packet)))
+            (Stepped (AtNode (Leave host replied.packet))) (sym whole ∙ replied.whole)).1 in cc
+
+        abbrev home : Response
+        home = response_home (seen from lines).network.registers (seen from lines).network.links
+            host request trip.0
+
+        response_is : response_of packet ≡ Some home
+        response_is = ap response_of packet_is ∙ replied.response
+
+        joined : seen from (lines ++ ran.block) ≡ seen (seen from lines) ran.block
+        joined = seen-append from lines ran.block
+
+        registers : (seen from (lines ++ ran.block)).network.registers
+            ≡ after_request (seen from lines).network.registers trip.0 request
+        registers = ap (λ (x : Seen). x.network.registers) joined ∙ replied.registers
+
+        links : (seen from (lines ++ ran.block)).network.links ≡ (seen from lines).network.links
+        links = ap (λ (x : Seen). x.network.links) joined
+            ∙ (seen_board ran.block (seen from lines)).links
+
+        laid : IsLaid (seen from (lines ++ ran.block)).network.registers
+            (seen from (lines ++ ran.block)).network.links host
+        laid = subst (λ r. IsLaid r (seen from (lines ++ ran.block)).network.links host)
+            (sym registers)
+            (subst (λ l. IsLaid
+            (after_request (seen from lines).network.registers trip.0 request) l host) (sym links)
+            (laid_heard (seen from lines).network.registers (seen from lines).network.links host
+            trip.0 request can.laid))
+
+        response_came : Replied names before after host request noise from lines new home
+        response_came = record {
+          block = ran.block;
+          told = told;
+          is = ask;
+          again = record {
+            stands = ran.stands;
+            clear = subst (λ (x : Seen). IsClear x.network) (sym joined) replied.clear;
+            laid = laid;
+          };
+          quiet = subst (λ (x : Seen). AreQuiet x.network.links x) (sym joined)
+              (ask_quiet host request noise (seen from lines) ran.block
+              (good_behind can.stands.ready can.stands.made) can.stands.sent ask front packet
+              whole);
+          at = trip.0;
+          trip = trip.1;
+          response_is = refl;
+          registers = registers;
+          links = links;
+          own = subst (NeverAnswers host) (sym replied.whole)
+              (answers-append host replied.front
+              (Stepped (AtNode (Leave host replied.packet)) ∷ [])
+              (nothing_answers host replied.front replied.nothing) (tt, tt));
+        }
+
+        pub came : IsAnswered (response_or_end (response_of packet))
+        came = subst (λ o. IsAnswered (response_or_end o)) (sym response_is) response_came
+
+    -- the lines were told whole
+    told_whole : (left : Option (List ℕ))
+        → (ran : Ran (AskLeaves host request noise left) names written faults a b from lines new)
+        → Appends before after (trace_text names ran.block)
+        → IsAnswered (response_or_end (response_in left))
+    told_whole None ran told = nothing_came None ran told ran.is.1
+    told_whole (Some packet) ran told =
+        came (Some packet) ran told packet ran.is.1.0 ran.is.1.1
+
+    -- no write failed
+    pub told_answers : (told : Result (Option (List ℕ)) EventEnd)
+        → IsTold names written faults a b host request noise from lines new told
+        → ((text : List ℕ) → Writes written faults a b text → Appends before after text)
+        → IsAnswered (answer_to told)
+    told_answers (Ok left) ran whole =
+        told_whole left ran (whole (trace_text names ran.block) ran.prints)
+    told_answers (Err (Ends.Undetected port event)) ran whole =
+        let found = sym (ap (λ (t : Seen). t.unfaithful) (seen-append from lines ran.block))
+        ∙ ran.found in
+        let apart = ask_found host request noise (seen from lines) ran.block
+        (good_behind can.stands.ready can.stands.made) can.stands.sent ran.is
+        (record { port = port; event = event }) found in
+        record {
+          block = ran.block;
+          told = whole (trace_text names ran.block) ran.prints;
+          is = ran.is;
+          made = made-append can.stands.made apart.made;
+          found = ran.found;
+          own = nothing_answers host ran.block apart.nothing;
+        }
+    told_answers (Err Ends.NoMemory) ran whole = record {
+      block = ran.block;
+      front = ran.front;
+      rest = ran.rest;
+      told = whole (trace_text names ran.front) ran.prints;
+      is = ran.is;
+      whole = ran.whole;
+    }
+
+    front_more : (front rest : List TraceLine) → AppendsFront before after (trace_text names front)
+        → AppendsFront before after (trace_text names (front ++ rest))
+    front_more front rest told = record {
+      front = told.front;
+      rest = told.rest ++ trace_text names rest;
+      whole = flat_map-append (λ (line : TraceLine). trace_line_text names line ++ 10 ∷ []) front
+          rest
+          ∙ ap (λ (l : List ℕ). l ++ trace_text names rest) told.whole
+          ∙ append_assoc told.front told.rest (trace_text names rest);
+      told = told.told;
+    }
+
+    -- a write failed
+    pub told_fails : (told : Result (Option (List ℕ)) EventEnd)
+        → IsTold names written faults a b host request noise from lines new told
+        → ((text : List ℕ) → Writes written faults a b text → AppendsFront before after text)
+        → Unwritten names before after host request noise from lines
+    told_fails (Ok left) ran front = record {
+      block = ran.block;
+      told = front (trace_text names ran.block) ran.prints;
+      is = ran.is.0;
+    }
+    told_fails (Err (Ends.Undetected port event)) ran front = record {
+      block = ran.block;
+      told = front (trace_text names ran.block) ran.prints;
+      is = ran.is;
+    }
+    told_fails (Err Ends.NoMemory) ran front = record {
+      block = ran.block;
+      told = subst (λ (l : List TraceLine). AppendsFront before after (trace_text names l))
+          (sym ran.whole)
+          (front_more ran.front ran.rest (front (trace_text names ran.front) ran.prints));
+      is = ran.is;
+    }

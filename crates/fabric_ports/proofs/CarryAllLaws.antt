@@ -1,0 +1,216 @@
+-- Links that carry what they can, one after another.
+use Rattle.std.proofs.Common.{◌≡◌, ◌+◌, ℕ, List, [], ◌∷◌, ◌++◌, take, drop, Option, Some, None, refl, sym, ap, ◌∙◌, subst}
+use Rattle.rio_chars.specs.declared.outbox.Outbox.{Outbox}
+use Rattle.link_wires.specs.declared.edits.Edit.{Edit}
+use Rattle.fabric_script.specs.declared.ports.PortRef.{PortRef}
+use Rattle.fabric_model.specs.Network.{link_in}
+use Rattle.fabric_model.proofs.Peers.{link_peers}
+use Rattle.fabric_trace.specs.Fold.{seen}
+use Rattle.fabric_trace.specs.Known.{Found, Seen}
+use Rattle.fabric_trace.specs.Lines.{TraceLine}
+use Rattle.fabric_trace.specs.Parts.{Made, Done}
+use Rattle.fabric_trace.specs.Ready.{IsReady}
+use Rattle.fabric_trace.specs.Rounds.{Follows, NamesNothing}
+use Rattle.fabric_trace.proofs.Keeping.{IsGood, made_keeps}
+use Rattle.fabric_trace.proofs.Making.{made-append, made_by}
+use Rattle.fabric_trace.proofs.Rounds.{AreFound, all_found}
+use Rattle.fabric_ask.specs.Asks.{CarryAll}
+use Rattle.fabric_ask.proofs.Beginning.{carry_all_exist}
+use Rattle.fabric_ask.proofs.Carrying.{has_carried}
+use Rattle.fabric_ports.specs.Carrying.{AreLinked, WithLeft, Carries, LinksCarry}
+use Rattle.fabric_ports.specs.Ran.{Ran, RanEnds}
+use Rattle.fabric_ports.specs.Standing.{Stands}
+use Rattle.fabric_ports.specs.declared.answers.EventEnd.{EventEnd}
+use Rattle.fabric_ports.specs.declared.fabric.Fabric.{Fabric}
+use Rattle.fabric_ports.proofs.Cables.{seen_links}
+use Rattle.fabric_ports.proofs.EndLaws.{links_stand}
+use Rattle.fabric_ports.proofs.RanLaws.{Both, Nothing, both_as, both_nothing, nothing_both, both_assoc, GoesOn, IsMade, ran_nothing, ran_both, ran_as, ends_as, ends_first, ends_second}
+use Rattle.fabric_ports.proofs.SettlingLaws.{good_behind, found_drop, IsNext}
+use Rattle.fabric_ports.proofs.CarryLaws.{open_behind, left_first}
+use Rattle.fabric_ports.proofs.CarriedLaws.{ends_left}
+
+carry_append : (xs ys : List (PortRef × PortRef)) (noise middle left : List Edit) (s : Seen)
+    (lines : List TraceLine) → s.unfaithful ≡ None
+    → Both (CarryAll xs noise middle) (CarryAll ys middle left) s lines
+    → CarryAll (xs ++ ys) noise left s lines
+carry_append [] ys noise middle left s lines still both =
+    let none = both.3 in
+    let own : Both Nothing (CarryAll ys middle left) s lines =
+    (both.0, both.1, both.2, none.0, both.4) in
+    subst (λ (n : List Edit). CarryAll ys n left s lines) none.1
+    (nothing_both (CarryAll ys middle left) s lines still own)
+carry_append (x ∷ xs) ys noise middle left s lines still both =
+    let first = both.3 in
+    let next = first.0 in
+    let own : Both (Both (Carries x noise next) (CarryAll xs next middle)) (CarryAll ys middle left)
+    s lines = (both.0, both.1, both.2, first.1, both.4) in (
+      next,
+      both_as (Carries x noise next) (Both (CarryAll xs next middle) (CarryAll ys middle left))
+          (CarryAll (xs ++ ys) next left) s lines
+          (λ t rest sent more. carry_append xs ys next middle left t rest sent more)
+          (both_assoc (Carries x noise next) (CarryAll xs next middle) (CarryAll ys middle left) s
+          lines own),
+    )
+
+carry_one : (link : PortRef × PortRef) (noise left : List Edit) (s : Seen)
+    (lines : List TraceLine) → Carries link noise left s lines
+    → CarryAll (link ∷ []) noise left s lines
+carry_one link noise left s lines own = (
+  left,
+  both_as (Carries link noise left) Nothing (CarryAll [] left left) s lines
+      (λ t rest sent none. (none, refl)) (both_nothing (Carries link noise left) s lines own),
+)
+
+-- ---- made of parts
+
+carries_made : {from : Seen} (link : PortRef × PortRef) (noise left : List Edit) → IsReady from
+    → link_in from.network.links link.0 ≡ Some link → IsMade from (Carries link noise left)
+carries_made {from} link noise left ready found lines block made sent own =
+    let s = seen from lines in
+    let is_open = open_behind link ready found made sent in
+    made-append made
+    (has_carried noise left s link.0 link.1 block is_open.good is_open.still is_open.peers
+    own).local.made
+
+all_made : (links all : List (PortRef × PortRef)) (noise left : List Edit) (s : Seen)
+    (lines : List TraceLine) → IsGood s → s.unfaithful ≡ None → s.network.links ≡ all
+    → AreFound all links → CarryAll links noise left s lines → Made s lines
+all_made [] all noise left s lines good still same found own = Done own.0
+all_made (link ∷ links) all noise left s lines good still same found own =
+    let both = own.1 in
+    let peers = link_peers s.network.links link.0 link good.proper
+    (ap (λ l. link_in l link.0) same ∙ found.0) in
+    let first = (has_carried noise own.0 s link.0 link.1 both.0 good still peers both.3).local.made
+    in
+    let t = seen s both.0 in
+    made_by both.2 (made-append first (by_found both.0 both.1 own.0 t.unfaithful refl both.4 first
+    (λ rest g still2 same2 more. all_made links all own.0 left t rest g still2 same2 found.1
+    more)))
+  where
+    by_found : (first rest : List TraceLine) (next : List Edit) (o : Option Found)
+        → (seen s first).unfaithful ≡ o
+        → Follows o (CarryAll links next left (seen s first)) NamesNothing rest → Made s first
+        → ((lines : List TraceLine) → IsGood (seen s first) → (seen s first).unfaithful ≡ None
+        → (seen s first).network.links ≡ all → CarryAll links next left (seen s first) lines
+        → Made (seen s first) lines) → Made (seen s first) rest
+    by_found first rest next None is more made again =
+        again rest (made_keeps good made).good is (seen_links s first ∙ same) more
+    by_found first rest next (Some f) is none made again = Done none
+
+pub links_carry_made : {from : Seen} (noise left : List Edit) → IsReady from
+    → IsMade from (LinksCarry noise left)
+links_carry_made {from} noise left ready lines block made sent own =
+    let s = seen from lines in
+    let good = good_behind ready made in
+    made-append made
+    (all_made s.network.links s.network.links noise left s block good sent refl
+    (all_found s.network.links good.proper) own)
+
+-- ---- what was written
+
+pub next_linked : {from : Seen} {lines : List TraceLine} {fabric : Fabric} {k : ℕ}
+    {link : PortRef × PortRef} → Stands from lines fabric → IsNext from k link
+    → AreLinked fabric link
+next_linked {from} {lines} {fabric} {k} {link} stands next = record {
+  from = from;
+  lines = lines;
+  stands = stands;
+  found = ap (λ l. link_in l link.0) (links_stand stands) ∙ next.found;
+}
+
+module _ {K : Type 0} (written : K → Option (List ℕ)) (faults : K → ℕ) (names : List (List ℕ)) where
+  pub carry_begins : (a : Outbox K) (from : Seen) (lines : List TraceLine) (fabric : Fabric)
+      (noise : List Edit) → Stands from lines fabric
+      → Ran (CarryAll [] noise noise) names written faults a a from lines fabric
+  carry_begins a from lines fabric noise stands =
+      ran_as written faults names Nothing (CarryAll [] noise noise) a a from lines fabric
+      (λ block none. (none, refl)) (ran_nothing written faults names a from lines fabric stands)
+
+  -- one link more has carried what it can
+  pub carried_more : (a b c : Outbox K) (from : Seen) (lines : List TraceLine)
+      (old mid new : Fabric) (k : ℕ) (link : PortRef × PortRef) (noise middle left : List Edit)
+      → Stands from lines old → IsNext from k link
+      → (first : Ran (CarryAll (take k from.network.links) noise middle) names written faults a b
+      from lines mid)
+      → Ran (Carries link middle left) names written faults b c from (lines ++ first.block) new
+      → Ran (CarryAll (take (k + 1) from.network.links) noise left) names written faults a c from
+      lines new
+  carried_more a b c from lines old mid new k link noise middle left stands next first own =
+      let links = from.network.links in
+      ran_as written faults names
+      (Both (CarryAll (take k links) noise middle) (CarryAll (link ∷ []) middle left))
+      (CarryAll (take (k + 1) links) noise left) a c from lines new
+      (λ block both. subst (λ (l : List (PortRef × PortRef)). CarryAll l noise left
+      (seen from lines) block) (sym next.more)
+      (carry_append (take k links) (link ∷ []) noise middle left (seen from lines) block
+      stands.sent both))
+      (ran_both written faults names (CarryAll (take k links) noise middle)
+      (CarryAll (link ∷ []) middle left) a b c from lines mid new first
+      (ran_as written faults names (Carries link middle left) (CarryAll (link ∷ []) middle left) b c
+      from (lines ++ first.block) new
+      (λ block carries. carry_one link middle left (seen from (lines ++ first.block)) block carries)
+      own))
+
+  -- a link did not come to its end
+  pub carried_short : (a b c : Outbox K) (from : Seen) (lines : List TraceLine)
+      (old mid : Fabric) (k : ℕ) (link : PortRef × PortRef) (noise middle : List Edit)
+      (end : EventEnd) → Stands from lines old → IsNext from k link
+      → (first : Ran (CarryAll (take k from.network.links) noise middle) names written faults a b
+      from lines mid)
+      → RanEnds (WithLeft (Carries link middle)) names written faults b c from
+      (lines ++ first.block) end
+      → RanEnds (WithLeft (LinksCarry noise)) names written faults a c from lines end
+  carried_short a b c from lines old mid k link noise middle end stands next first ended =
+      let links = from.network.links in
+      let rest = drop (k + 1) links in
+      let own = ends_left written faults names (Carries link middle) b c from
+      (lines ++ first.block) end ended in
+      let on : GoesOn from (WithLeft (CarryAll rest own.0)) =
+      λ more made sent. (let exist = carry_all_exist rest links own.0 (seen from more)
+      (good_behind stands.ready made) sent (seen_links from more)
+      (found_drop links links (k + 1) (all_found links stands.ready.proper)) in
+      (exist.exists.lines, (exist.left, exist.exists.is))) in
+      let inner = ends_first written faults names (Carries link middle own.0)
+      (WithLeft (CarryAll rest own.0)) b c from (lines ++ first.block) mid end
+      (carries_made link middle own.0 stands.ready next.found) on first.stands own.1 in
+      ends_as written faults names
+      (Both (CarryAll (take k links) noise middle)
+      (Both (Carries link middle own.0) (WithLeft (CarryAll rest own.0))))
+      (WithLeft (LinksCarry noise)) a c from lines end
+      (λ block both. (let all = both_left own.0 (seen from lines) block both in (
+        all.0,
+        subst (λ (l : List (PortRef × PortRef)). CarryAll l noise all.0 (seen from lines)
+            block) (next.whole ∙ sym (seen_links from lines))
+            (carry_append (take k links) (link ∷ rest) noise middle all.0 (seen from lines) block
+            stands.sent all.1),
+      )))
+      (ends_second written faults names (CarryAll (take k links) noise middle)
+      (Both (Carries link middle own.0) (WithLeft (CarryAll rest own.0))) a b c from lines mid end
+      first inner)
+    where
+      both_left : (next : List Edit) (s : Seen) (block : List TraceLine)
+          → Both (CarryAll (take k from.network.links) noise middle)
+          (Both (Carries link middle next)
+          (WithLeft (CarryAll (drop (k + 1) from.network.links) next))) s block
+          → (left : List Edit) × Both (CarryAll (take k from.network.links) noise middle)
+          (CarryAll (link ∷ drop (k + 1) from.network.links) middle left) s block
+      both_left next s block both =
+          let rest = drop (k + 1) from.network.links in
+          left_first (CarryAll (take k from.network.links) noise middle)
+          (CarryAll (link ∷ rest) middle) s block
+          (both_as (CarryAll (take k from.network.links) noise middle)
+          (Both (Carries link middle next) (WithLeft (CarryAll rest next)))
+          (WithLeft (CarryAll (link ∷ rest) middle)) s block
+          (λ t lines sent more. (let own = left_first (Carries link middle next)
+          (CarryAll rest next) t lines more in (own.0, (next, own.1)))) both)
+
+  -- all links have carried what they can
+  pub carried_all : (a b : Outbox K) (from : Seen) (lines : List TraceLine) (new : Fabric)
+      (links : List (PortRef × PortRef)) (noise left : List Edit) → links ≡ from.network.links
+      → Ran (CarryAll links noise left) names written faults a b from lines new
+      → Ran (LinksCarry noise left) names written faults a b from lines new
+  carried_all a b from lines new links noise left same ran =
+      ran_as written faults names (CarryAll links noise left) (LinksCarry noise left) a b from lines
+      new
+      (λ block own. subst (λ (l : List (PortRef × PortRef)). CarryAll l noise left
+      (seen from lines) block) (same ∙ sym (seen_links from lines)) own) ran

@@ -1,0 +1,345 @@
+-- Rounds of an ask, one after another, until the host holds a packet.
+use Rattle.std.proofs.Common.{◌≡◌, ℕ, zero, suc, ◌+◌, ◌<◌, Bool, true, false, List, [], ◌++◌, Option, Some, None, MatchBool, refl, sym, ap, ◌∙◌, subst, arith, append-nil, append_assoc}
+use Rattle.rio_chars.proofs.WrittenLaws.{Writes-nil}
+use Rattle.rio_chars.specs.declared.outbox.Outbox.{Outbox}
+use Rattle.switch_core.specs.declared.endpoint.Collected.TheVariants as Collects
+use Rattle.link_wires.specs.declared.edits.Edit.{Edit}
+use Rattle.fabric_model.specs.Network.{IsEndpoint}
+use Rattle.fabric_trace.specs.Fold.{seen}
+use Rattle.fabric_trace.specs.Known.{Found, Seen}
+use Rattle.fabric_trace.specs.Lines.{TraceLine}
+use Rattle.fabric_trace.specs.Ready.{IsReady}
+use Rattle.fabric_trace.specs.Rounds.{Follows, NamesNothing}
+use Rattle.fabric_trace.specs.Served.{IsCollect}
+use Rattle.fabric_trace.proofs.Existing.{ready_on, good_of}
+use Rattle.fabric_trace.proofs.Folding.{seen-append}
+use Rattle.fabric_ask.specs.Asks.{AskRound, AskRounds, Unheld, holds_some}
+use Rattle.fabric_ask.specs.Travel.{GoesOn as Continues}
+use Rattle.fabric_ask.proofs.Beginning.{more_exists}
+use Rattle.fabric_ask.proofs.Collecting.{collect_lines_made}
+use Rattle.fabric_ask.proofs.Gathering.{stays_endpoint}
+use Rattle.fabric_ask.proofs.Uncollected.{round_apart, unheld_apart}
+use Rattle.fabric_ports.specs.Carrying.{WithLeft}
+use Rattle.fabric_ports.specs.Events.{Did, collected}
+use Rattle.fabric_ports.specs.Fetching.{left_of, RoundsLeave}
+use Rattle.fabric_ports.specs.Ran.{Kind, Ran, RanEnds}
+use Rattle.fabric_ports.specs.Standing.{Stands}
+use Rattle.fabric_ports.specs.declared.answers.EventEnd.{EventEnd}
+use Rattle.fabric_ports.specs.declared.answers.EventEnd.TheVariants.{Undetected, NoMemory}
+use Rattle.fabric_ports.specs.declared.answers.Happened.{Happened}
+use Rattle.fabric_ports.specs.declared.fabric.Fabric.{Fabric}
+use Rattle.fabric_ports.proofs.LeaveLaws.{leaves_behind, nothing_leaves, left_leaves, did_stands, still_behind}
+use Rattle.fabric_ports.proofs.RanLaws.{Both, both_as, both_nothing, nothing_both, both_assoc, lines_written, ran_both, ran_as, ends_as, ends_second}
+use Rattle.fabric_ports.proofs.SettlingLaws.{good_behind}
+
+-- ---- rounds, one after another
+
+-- after a round the host holds none, and more such rounds follow
+abbrev Stays : ℕ → ℕ → List Edit → List Edit → Kind
+Stays host k noise left t rest = (holds_some host t ≡ false) × Unheld host k noise left t rest
+
+not_held : (host : ℕ) (n : ℕ) (noise : List Edit) (t : Seen) (rest : List TraceLine)
+    → holds_some host t ≡ false → AskRounds host n noise t rest
+    → Continues host n noise t rest
+not_held host n noise t rest held more =
+    subst (λ b. MatchBool b (IsCollect t.network host rest) (AskRounds host n noise t rest))
+    (sym held) more
+
+pub rounds_behind : (host k m : ℕ) (noise mid : List Edit) (s : Seen) (lines : List TraceLine)
+    → s.unfaithful ≡ None → Both (Unheld host k noise mid) (AskRounds host m mid) s lines
+    → AskRounds host (k + m) noise s lines
+rounds_behind host zero m noise mid s lines still both =
+    let same : m ≡ 0 + m = omega arith in
+    let own = nothing_both (AskRounds host m mid) s lines still
+    (both.0, both.1, both.2, both.3.0, both.4) in
+    subst (λ j. AskRounds host j noise s lines) same
+    (subst (λ n. AskRounds host m n s lines) both.3.1 own)
+rounds_behind host (suc k) m noise mid s lines still both =
+    let same : suc (k + m) ≡ suc k + m = omega arith in
+    let left = both.3.0 in
+    subst (λ j. AskRounds host j noise s lines) same (
+      left,
+      both_as (AskRound host noise left) (Both (Stays host k left mid) (AskRounds host m mid))
+          (Continues host (k + m) left) s lines
+          (λ t rest sent own. not_held host (k + m) left t rest own.3.0
+          (rounds_behind host k m left mid t rest sent
+          (own.0, own.1, own.2, own.3.1, own.4)))
+          (both_assoc (AskRound host noise left) (Stays host k left mid) (AskRounds host m mid) s
+          lines (both.0, both.1, both.2, both.3.1, both.4)),
+    )
+
+pub unheld_behind : (host k m : ℕ) (noise mid left : List Edit) (s : Seen)
+    (lines : List TraceLine) → s.unfaithful ≡ None
+    → Both (Unheld host k noise mid) (Unheld host m mid left) s lines
+    → Unheld host (k + m) noise left s lines
+unheld_behind host zero m noise mid left s lines still both =
+    let same : m ≡ 0 + m = omega arith in
+    let own = nothing_both (Unheld host m mid left) s lines still
+    (both.0, both.1, both.2, both.3.0, both.4) in
+    subst (λ j. Unheld host j noise left s lines) same
+    (subst (λ n. Unheld host m n left s lines) both.3.1 own)
+unheld_behind host (suc k) m noise mid left s lines still both =
+    let same : suc (k + m) ≡ suc k + m = omega arith in
+    let one = both.3.0 in
+    subst (λ j. Unheld host j noise left s lines) same (
+      one,
+      both_as (AskRound host noise one) (Both (Stays host k one mid) (Unheld host m mid left))
+          (Stays host (k + m) one left) s lines
+          (λ t rest sent own. (
+            own.3.0,
+            unheld_behind host k m one mid left t rest sent
+                (own.0, own.1, own.2, own.3.1, own.4),
+          ))
+          (both_assoc (AskRound host noise one) (Stays host k one mid) (Unheld host m mid left) s
+          lines (both.0, both.1, both.2, both.3.1, both.4)),
+    )
+
+-- a round after which the host holds a packet, or none
+abbrev pub RoundTo : ℕ → Bool → List Edit → List Edit → Kind
+RoundTo host held noise left s lines =
+    AskRound host noise left s lines × (holds_some host (seen s lines) ≡ held)
+
+unheld_one : (host : ℕ) (noise left : List Edit) (s : Seen) (lines : List TraceLine)
+    → (seen s lines).unfaithful ≡ None → RoundTo host false noise left s lines
+    → Unheld host 1 noise left s lines
+unheld_one host noise left s lines still round = (
+  left,
+  (
+    lines,
+    [],
+    sym (append-nil lines),
+    round.0,
+    subst (λ (f : Option Found). Follows f (Stays host 0 left left (seen s lines)) NamesNothing [])
+        (sym still) (round.1, (refl, refl)),
+  ),
+)
+
+-- the host holds a packet after a round, and collects it
+rounds_held : (host m : ℕ) (noise left : List Edit) (s : Seen) (first rest : List TraceLine)
+    → (seen s first).unfaithful ≡ None → RoundTo host true noise left s first
+    → IsCollect (seen s first).network host rest
+    → AskRounds host (suc m) noise s (first ++ rest)
+rounds_held host m noise left s first rest still round collect = (
+  left,
+  (
+    first,
+    rest,
+    refl,
+    round.0,
+    subst (λ (f : Option Found). Follows f (Continues host m left (seen s first)) NamesNothing rest)
+        (sym still)
+        (subst (λ b. MatchBool b (IsCollect (seen s first).network host rest)
+        (AskRounds host m left (seen s first) rest)) (sym round.1) collect),
+  ),
+)
+
+rounds_left : (k n : ℕ) → k < n → (m : ℕ) × (k + suc m ≡ n)
+rounds_left k zero less = absurd (omega (arith, less))
+rounds_left zero (suc n) less = (n, omega arith)
+rounds_left (suc k) (suc n) less =
+    let rest = rounds_left k n (omega (arith, less)) in
+    let same = rest.1 in
+    (rest.0, omega (arith, same))
+
+-- ---- what follows a round
+
+-- lines behind a round: none if something was found
+after_round : (host m : ℕ) (left : List Edit) (t : Seen) (found : Option Found) → IsReady t
+    → IsEndpoint t.network host → t.unfaithful ≡ found
+    → (rest : List TraceLine) × Follows found (Continues host m left t) NamesNothing rest
+after_round host m left t None ready endpoint is =
+    let own = more_exists host m left t ready is endpoint in (own.lines, own.is)
+after_round host m left t (Some found) ready endpoint is = ([], refl)
+
+-- ---- what was written
+
+module _ {K : Type 0} (written : K → Option (List ℕ)) (faults : K → ℕ) (names : List (List ℕ))
+    (host : ℕ) where
+  -- before the first round
+  pub unheld_none : (out : Outbox K) (from : Seen) (lines : List TraceLine) (fabric : Fabric)
+      (noise : List Edit) → Stands from lines fabric
+      → Ran (Unheld host 0 noise noise) names written faults out out from lines fabric
+  unheld_none out from lines fabric noise stands = record {
+    block = [];
+    prints = Writes-nil written faults out;
+    is = (refl, refl);
+    stands = subst (λ (l : List TraceLine). Stands from l fabric) (sym (append-nil lines)) stands;
+  }
+
+  -- one round more after which the host holds none
+  pub unheld_more : (a b c : Outbox K) (from : Seen) (lines : List TraceLine)
+      (old mid new : Fabric) (k : ℕ) (noise left last : List Edit) → Stands from lines old
+      → (first : Ran (Unheld host k noise left) names written faults a b from lines mid)
+      → (round : Ran (AskRound host left last) names written faults b c from
+      (lines ++ first.block) new)
+      → holds_some host (seen from ((lines ++ first.block) ++ round.block)) ≡ false
+      → Ran (Unheld host (k + 1) noise last) names written faults a c from lines new
+  unheld_more a b c from lines old mid new k noise left last stands first round none =
+      let t = seen from (lines ++ first.block) in
+      let held = sym (ap (holds_some host) (seen-append from (lines ++ first.block) round.block))
+      ∙ none in
+      let one : Ran (Unheld host 1 left last) names written faults b c from (lines ++ first.block)
+      new = record {
+        block = round.block;
+        prints = round.prints;
+        is = unheld_one host left last t round.block
+            (still_behind (lines ++ first.block) round.block round.stands) (round.is, held);
+        stands = round.stands;
+      } in
+      ran_as written faults names (Both (Unheld host k noise left) (Unheld host 1 left last))
+      (Unheld host (k + 1) noise last) a c from lines new
+      (λ block both. unheld_behind host k 1 noise left last (seen from lines) block stands.sent
+      both)
+      (ran_both written faults names (Unheld host k noise left) (Unheld host 1 left last) a b c from
+      lines mid new first one)
+
+  -- no round is left
+  pub fetched_none : (a b : Outbox K) (from : Seen) (lines : List TraceLine) (old new : Fabric)
+      (k n : ℕ) (noise left : List Edit) → k ≡ n → Stands from lines old
+      → IsEndpoint (seen from lines).network host
+      → Ran (Unheld host k noise left) names written faults a b from lines new
+      → Ran (RoundsLeave host n noise None) names written faults a b from lines new
+  fetched_none a b from lines old new k n noise left same stands is ran =
+      let s = seen from lines in
+      let many : k + 0 ≡ n = omega (arith, same) in
+      let good = good_behind stands.ready stands.made in
+      record {
+        block = ran.block;
+        prints = ran.prints;
+        is = (
+          subst (λ j. AskRounds host j noise s ran.block) many
+              (rounds_behind host k 0 noise left s ran.block stands.sent
+              (both_nothing (Unheld host k noise left) s ran.block ran.is)),
+          nothing_leaves host ran.block
+              (unheld_apart host k noise left s ran.block good stands.sent is ran.is).nothing,
+        );
+        stands = ran.stands;
+      }
+
+  -- the host held a packet after a round, and has collected it
+  pub fetched : (a b c d : Outbox K) (from : Seen) (lines : List TraceLine)
+      (old mid next new : Fabric) (k n : ℕ) (noise left last : List Edit) (happened : Happened)
+      → k < n → Stands from lines old → IsEndpoint (seen from lines).network host
+      → (first : Ran (Unheld host k noise left) names written faults a b from lines mid)
+      → (round : Ran (AskRound host left last) names written faults b c from
+      (lines ++ first.block) next)
+      → holds_some host (seen from ((lines ++ first.block) ++ round.block)) ≡ true
+      → Did (λ block. IsCollect (seen from ((lines ++ first.block) ++ round.block)).network host
+      block × (happened ≡ collected block)) names written faults c d
+      (seen from ((lines ++ first.block) ++ round.block)) new
+      → Ran (RoundsLeave host n noise (left_of happened)) names written faults a d from lines new
+  fetched a b c d from lines old mid next new k n noise left last happened less stands is first
+      round some did =
+      let s = seen from lines in
+      let here = lines ++ first.block in
+      let t = seen from here in
+      let t_is : t ≡ seen s first.block = seen-append from lines first.block in
+      let there = here ++ round.block in
+      let u_is : seen from there ≡ seen t round.block = seen-append from here round.block in
+      let count = rounds_left k n less in
+      let good = good_behind stands.ready stands.made in
+      let t_good = good_behind first.stands.ready first.stands.made in
+      let u_good = good_behind round.stands.ready round.stands.made in
+      let endpoint = subst (λ (x : Seen). IsEndpoint x.network host) (sym t_is)
+      (stays_endpoint s host first.block is) in
+      let rest = round.block ++ did.block in
+      let rounds = rounds_held host count.0 left last t round.block did.block
+      (still_behind here round.block round.stands)
+      (round.is, sym (ap (holds_some host) u_is) ∙ some)
+      (subst (λ (x : Seen). IsCollect x.network host did.block) u_is did.is.0) in
+      let all : AskRounds host (k + suc count.0) noise s (first.block ++ rest) =
+      rounds_behind host k (suc count.0) noise left s (first.block ++ rest) stands.sent (
+        first.block,
+        rest,
+        refl,
+        first.is,
+        subst (λ (f : Option Found). Follows f (AskRounds host (suc count.0) left
+            (seen s first.block)) NamesNothing rest)
+            (sym (still_behind lines first.block first.stands))
+            (subst (λ (x : Seen). AskRounds host (suc count.0) left x rest) t_is rounds),
+      ) in
+      let stays = did_stands round.stands did
+      (collect_lines_made (seen from there) host did.block u_good round.stands.sent did.is.0) in
+      record {
+        block = first.block ++ rest;
+        prints = lines_written written faults names a b d first.block rest first.prints
+            (lines_written written faults names b c d round.block did.block round.prints
+            did.prints);
+        is = (
+          subst (λ j. AskRounds host j noise s (first.block ++ rest)) count.1 all,
+          leaves_behind host (left_of happened) first.block rest
+              (nothing_leaves host first.block (unheld_apart host k noise left s first.block good
+              stands.sent is first.is).nothing)
+              (leaves_behind host (left_of happened) round.block did.block
+              (nothing_leaves host round.block (round_apart host left last t round.block t_good
+              first.stands.sent endpoint round.is).nothing)
+              (left_leaves (seen from there).network host did.block happened did.is.0 did.is.1)),
+        );
+        stands = subst (λ (l : List TraceLine). Stands from l new)
+            (append_assoc here round.block did.block
+            ∙ append_assoc lines first.block rest) stays;
+      }
+
+  round_ends : (b c : Outbox K) (from : Seen) (lines : List TraceLine) (mid : Fabric) (m : ℕ)
+      (noise : List Edit) (end : EventEnd) → Stands from lines mid
+      → IsEndpoint (seen from lines).network host
+      → RanEnds (WithLeft (AskRound host noise)) names written faults b c from lines end
+      → RanEnds (AskRounds host (suc m) noise) names written faults b c from lines end
+  round_ends b c from lines mid m noise (Undetected port event) stands is ends =
+      let s = seen from lines in
+      let found = sym (ap (λ (t : Seen). t.unfaithful) (seen-append from lines ends.block))
+      ∙ ends.found in
+      record {
+        block = ends.block;
+        prints = ends.prints;
+        is = (
+          ends.is.0,
+          (
+            ends.block,
+            [],
+            sym (append-nil ends.block),
+            ends.is.1,
+            subst (λ (f : Option Found). Follows f
+                (Continues host m ends.is.0 (seen s ends.block)) NamesNothing []) (sym found) refl,
+          ),
+        );
+        found = ends.found;
+      }
+  round_ends b c from lines mid m noise NoMemory stands is ends =
+      let s = seen from lines in
+      let t = seen s ends.block in
+      let ready = ready_on stands.ready stands.made in
+      let made = (round_apart host noise ends.is.0 s ends.block (good_of ready) stands.sent is
+      ends.is.1).made in
+      let more = after_round host m ends.is.0 t t.unfaithful (ready_on ready made)
+      (stays_endpoint s host ends.block is) refl in
+      record {
+        block = ends.block ++ more.0;
+        front = ends.front;
+        rest = ends.rest ++ more.0;
+        prints = ends.prints;
+        is = (ends.is.0, (ends.block, more.0, refl, ends.is.1, more.1));
+        whole = ap (λ (l : List TraceLine). l ++ more.0) ends.whole
+            ∙ append_assoc ends.front ends.rest more.0;
+      }
+
+  -- a round did not come to its end
+  pub fetch_ends : (a b c : Outbox K) (from : Seen) (lines : List TraceLine) (old mid : Fabric)
+      (k n : ℕ) (noise left : List Edit) (end : EventEnd) → k < n → Stands from lines old
+      → IsEndpoint (seen from lines).network host
+      → (first : Ran (Unheld host k noise left) names written faults a b from lines mid)
+      → RanEnds (WithLeft (AskRound host left)) names written faults b c from
+      (lines ++ first.block) end
+      → RanEnds (AskRounds host n noise) names written faults a c from lines end
+  fetch_ends a b c from lines old mid k n noise left end less stands is first ends =
+      let count = rounds_left k n less in
+      let endpoint = subst (λ (x : Seen). IsEndpoint x.network host)
+      (sym (seen-append from lines first.block))
+      (stays_endpoint (seen from lines) host first.block is) in
+      ends_as written faults names (Both (Unheld host k noise left)
+      (AskRounds host (suc count.0) left)) (AskRounds host n noise) a c from lines end
+      (λ block both. subst (λ j. AskRounds host j noise (seen from lines) block) count.1
+      (rounds_behind host k (suc count.0) noise left (seen from lines) block stands.sent both))
+      (ends_second written faults names (Unheld host k noise left)
+      (AskRounds host (suc count.0) left) a b c from lines mid end first
+      (round_ends b c from (lines ++ first.block) mid count.0 left end first.stands endpoint ends))

@@ -1,0 +1,218 @@
+-- An edit of a wire whose line is written if it does something.
+use Rattle.std.proofs.Common.{◌≡◌, ◌&&◌, ◌<◌, ℕ, ◌+◌, not, Bool, true, false, List, [], ◌∷◌, ◌++◌, length, take, drop, Option, Some, None, refl, sym, ap, ◌∙◌, subst, append-nil, if◌then◌else◌, slice_index_or, arith}
+use Rattle.std.proofs.lemmas.Bool.{eqb-true}
+use Rattle.std.proofs.lemmas.List.{take-append-drop}
+use Rattle.rio_chars.specs.Written.{Writes}
+use Rattle.rio_chars.specs.declared.chars.Char.{Char}
+use Rattle.rio_chars.specs.declared.outbox.Outbox.{Outbox}
+use Rattle.link_port.specs.Ports.{PortState}
+use Rattle.link_wires.specs.Wires.{fits, edited}
+use Rattle.link_wires.specs.declared.edits.Edit.{Edit}
+use Rattle.link_machine.specs.Calls.{edited_from}
+use Rattle.link_machine.specs.States.{Wires, link, wire_at}
+use Rattle.fabric_script.specs.declared.ports.PortRef.{PortRef}
+use Rattle.fabric_model.specs.Network.{same_port}
+use Rattle.fabric_model.proofs.Peers.{port_is}
+use Rattle.fabric_trace.specs.Fold.{changed, edited_by, seen}
+use Rattle.fabric_trace.specs.Known.{Seen}
+use Rattle.fabric_trace.specs.Lines.{TraceLine, Begun}
+use Rattle.fabric_trace.specs.Parts.Part.{Begins}
+use Rattle.fabric_trace.specs.Text.{trace_text}
+use Rattle.fabric_trace.proofs.Folding.{seen-append}
+use Rattle.fabric_trace.proofs.Making.{one_part, made-append}
+use Rattle.fabric_ask.specs.Noise.{Gives, edit_line, is_idle, edit_lines, stirred}
+use Rattle.fabric_ask.proofs.Carrying.{edit_is}
+use Rattle.fabric_ports.specs.Carrying.{WithLeft, Edits as EditsWire, Stirs}
+use Rattle.fabric_ports.specs.Ends.{IsPlaceOf}
+use Rattle.fabric_ports.specs.Ran.{Ran, RanEnds, RanShort}
+use Rattle.fabric_ports.specs.Showing.{ShowsFabric}
+use Rattle.fabric_ports.specs.Standing.{Stands}
+use Rattle.fabric_ports.specs.declared.answers.EventEnd.{EventEnd}
+use Rattle.fabric_ports.specs.declared.ends.LinkPlace.{LinkPlace}
+use Rattle.fabric_ports.specs.declared.fabric.Cable.{Cable}
+use Rattle.fabric_ports.specs.declared.fabric.Fabric.{Fabric}
+use Rattle.fabric_ports.proofs.EditLaws.{fabric_edited, edit_chars, edit_shows}
+use Rattle.fabric_ports.proofs.RanLaws.{Nothing, ran_nothing, ran_as, ends_as}
+use Rattle.rio_chars.proofs.WrittenLaws.{Writes-nil}
+
+-- ---- an edit that changes nothing
+
+idle_changes : (edit : Edit) (chars : List Char) → is_idle edit ≡ true
+    → edited edit chars ≡ chars
+idle_changes (Edit.Alter place ch) chars idle = absurd cc
+idle_changes (Edit.Insert place ch) chars idle = absurd cc
+idle_changes (Edit.Erase place n) chars idle =
+    let none : n ≡ 0 = eqb-true n 0 idle in
+    let same : place + n ≡ place = omega (arith, none) in
+    ap (λ k. take place chars ++ drop k chars) same ∙ take-append-drop place chars
+
+idle_is : (b : Bool) → not b ≡ false → b ≡ true
+idle_is true is = refl
+idle_is false is = absurd cc
+
+nothing_changes : (edit : Edit) (chars : List Char)
+    → (fits edit chars && not (is_idle edit)) ≡ false → changed edit chars ≡ chars
+nothing_changes edit chars is = by_fit (fits edit chars) is
+  where
+    by_fit : (fit : Bool) → (fit && not (is_idle edit)) ≡ false
+        → (if fit then edited edit chars else chars) ≡ chars
+    by_fit true is = idle_changes edit chars (idle_is (is_idle edit) is)
+    by_fit false is = refl
+
+-- what is known stays
+still_known : (s : Seen) (p : PortRef) (edit : Edit)
+    → changed edit (s.wires p).chars ≡ (s.wires p).chars → edited_by s (Some (p, edit)) ≡ s
+still_known s p edit same = λ i. record s { wires = λ q. wire q i }
+  where
+    wire : (q : PortRef) → (if same_port q p
+        then record (s.wires p) { chars = changed edit (s.wires p).chars } else s.wires q)
+        ≡ s.wires q
+    wire q = by_same (same_port q p) refl
+      where
+        by_same : (own : Bool) → same_port q p ≡ own → (if own
+            then record (s.wires p) { chars = changed edit (s.wires p).chars } else s.wires q)
+            ≡ s.wires q
+        by_same true is = (λ i. record (s.wires p) { chars = same i })
+            ∙ ap s.wires (sym (port_is q p is))
+        by_same false is = refl
+
+-- ---- an edit
+
+edit_stands : (p : PortRef) (edit : Edit) (from : Seen) (lines : List TraceLine)
+    (old new : Fabric) (does : Bool)
+    → (fits edit ((seen from lines).wires p).chars && not (is_idle edit)) ≡ does
+    → Stands from lines old → ShowsFabric new (edited_by (seen from lines) (Some (p, edit)))
+    → Stands from (lines ++ (if does then Begun (edit_line p edit) ∷ [] else [])) new
+edit_stands p edit from lines old new true is stands shows =
+    let s = seen from lines in
+    let line = Begun (edit_line p edit) in
+    let joined : seen from (lines ++ line ∷ []) ≡ edited_by s (Some (p, edit)) =
+    seen-append from lines (line ∷ []) ∙ ap (edited_by s) (edit_is p edit) in
+    record {
+      ready = stands.ready;
+      made = made-append stands.made (one_part (Begins (edit_line p edit) refl));
+      sent = ap (λ (t : Seen). t.unfaithful) joined ∙ stands.sent;
+      shows = subst (ShowsFabric new) (sym joined) shows;
+    }
+edit_stands p edit from lines old new false is stands shows =
+    let s = seen from lines in
+    let same = still_known s p edit (nothing_changes edit (s.wires p).chars is) in
+    subst (λ (l : List TraceLine). Stands from l new) (sym (append-nil lines)) (record {
+      ready = stands.ready;
+      made = stands.made;
+      sent = stands.sent;
+      shows = subst (ShowsFabric new) same shows;
+    })
+
+-- the written lines are those of the edit, and the fabric stands for the lines with them
+pub edit_ran : {K : Type 0} (written : K → Option (List ℕ)) (faults : K → ℕ)
+    (names : List (List ℕ)) (fabric : Fabric) (port : PortRef) (place : LinkPlace)
+    (p : IsPlaceOf fabric port place) (cable : Cable)
+    → (met : cable ≡ slice_index_or fabric.cables.items place.cable cable) → (edit : Edit)
+    → (wires : Wires)
+    → ((x y : PortState) → link wires x y ≡ edited_from place.side edit (link cable.link x y))
+    → (old new : Outbox K)
+    → Writes written faults old new
+    (trace_text names (edit_lines port edit (wire_at place.side cable.link).chars))
+    → (from : Seen) (lines : List TraceLine) → Stands from lines fabric
+    → Ran (EditsWire port edit) names written faults old new from lines
+    (fabric_edited fabric place.cable cable wires)
+edit_ran written faults names fabric port place p cable met edit wires becomes old new writes from
+    lines stands =
+    let s = seen from lines in
+    let chars = edit_chars fabric port place p cable met from lines stands in
+    record {
+      block = edit_lines port edit (s.wires port).chars;
+      prints = subst
+          (λ l. Writes written faults old new (trace_text names (edit_lines port edit l))) chars
+          writes;
+      is = refl;
+      stands = edit_stands port edit from lines fabric
+          (fabric_edited fabric place.cable cable wires)
+          (fits edit (s.wires port).chars && not (is_idle edit)) refl stands
+          (edit_shows fabric port place p cable met edit wires becomes from lines stands);
+    }
+
+-- nothing of it is written
+pub edit_short : {K : Type 0} (written : K → Option (List ℕ)) (faults : K → ℕ)
+    (names : List (List ℕ)) (port : PortRef) (edit : Edit) (outbox : Outbox K) (from : Seen)
+    (lines : List TraceLine)
+    → RanShort (EditsWire port edit) names written faults outbox outbox from lines
+edit_short written faults names port edit outbox from lines =
+    let block = edit_lines port edit ((seen from lines).wires port).chars in
+    record {
+      block = block;
+      front = [];
+      rest = block;
+      prints = Writes-nil written faults outbox;
+      is = refl;
+      whole = refl;
+    }
+
+-- ---- the next edit
+
+none_stirred : (noise : List Edit) (p : PortRef) (chars : List Char) → chars ≡ []
+    → ([], noise) ≡ stirred noise p chars
+none_stirred [] p chars none = refl
+none_stirred (edit ∷ noise) p chars none =
+    ap (stirred (edit ∷ noise) p) (sym none)
+
+empty : {X : Type 0} (xs : List X) → length xs ≡ 0 → xs ≡ []
+empty [] none = refl
+empty (x ∷ xs) none = absurd (omega (arith, none))
+
+edit_stirred : (noise left : List Edit) (edit : Edit) (p : PortRef) (chars : List Char)
+    (lines : List TraceLine) → 0 < length chars → Gives noise (Some edit) left
+    → lines ≡ edit_lines p edit chars → (lines, left) ≡ stirred noise p chars
+edit_stirred noise left edit p [] lines some gives is = absurd (omega (arith, some))
+edit_stirred noise left edit p (c ∷ chars) lines some gives is =
+    (λ i. (is i, left)) ∙ ap (λ (n : List Edit). stirred n p (c ∷ chars)) (sym gives)
+
+module _ {K : Type 0} (written : K → Option (List ℕ)) (faults : K → ℕ) (names : List (List ℕ))
+    (port : PortRef) (noise left : List Edit) where
+  -- the wire has no characters
+  pub stir_empty : (out : Outbox K) (from : Seen) (lines : List TraceLine) (fabric : Fabric)
+      → left ≡ noise → length ((seen from lines).wires port).chars ≡ 0 → Stands from lines fabric
+      → Ran (Stirs port noise left) names written faults out out from lines fabric
+  stir_empty out from lines fabric same none stands =
+      let chars = ((seen from lines).wires port).chars in
+      ran_as written faults names Nothing (Stirs port noise left) out out from lines fabric
+      (λ block nothing. (λ i. (nothing i, same i))
+      ∙ none_stirred noise port chars (empty chars none))
+      (ran_nothing written faults names out from lines fabric stands)
+
+  -- no edit is left
+  pub stir_none : (out : Outbox K) (from : Seen) (lines : List TraceLine) (fabric : Fabric)
+      → Gives noise None left → Stands from lines fabric
+      → Ran (Stirs port noise left) names written faults out out from lines fabric
+  stir_none out from lines fabric gives stands =
+      let chars = ((seen from lines).wires port).chars in
+      ran_as written faults names Nothing (Stirs port noise left) out out from lines fabric
+      (λ block nothing. (λ i. (nothing i, gives.1 i))
+      ∙ ap (λ (n : List Edit). stirred n port chars) (sym gives.0))
+      (ran_nothing written faults names out from lines fabric stands)
+
+  -- the edit that was given is made
+  pub stir_some : (a b : Outbox K) (from : Seen) (lines : List TraceLine) (new : Fabric)
+      (edit : Edit) → Gives noise (Some edit) left
+      → 0 < length ((seen from lines).wires port).chars
+      → Ran (EditsWire port edit) names written faults a b from lines new
+      → Ran (Stirs port noise left) names written faults a b from lines new
+  stir_some a b from lines new edit gives some ran =
+      ran_as written faults names (EditsWire port edit) (Stirs port noise left) a b from lines new
+      (λ block is. edit_stirred noise left edit port ((seen from lines).wires port).chars block some
+      gives is) ran
+
+  pub stir_ends : (a b : Outbox K) (from : Seen) (lines : List TraceLine) (edit : Edit)
+      (end : EventEnd) → Gives noise (Some edit) left
+      → 0 < length ((seen from lines).wires port).chars
+      → RanEnds (EditsWire port edit) names written faults a b from lines end
+      → RanEnds (WithLeft (Stirs port noise)) names written faults a b from lines end
+  stir_ends a b from lines edit end gives some ran =
+      ends_as written faults names (EditsWire port edit) (WithLeft (Stirs port noise)) a b from
+      lines end
+      (λ block is. (
+        left,
+        edit_stirred noise left edit port ((seen from lines).wires port).chars
+            block some gives is,
+      )) ran

@@ -1,0 +1,96 @@
+use Rattle.std.proofs.Common.{◌++◌, List, arith}
+use Rattle.fabric_trace.specs.Known.{Seen}
+use Rattle.fabric_trace.specs.Lines.{TraceLine}
+use Rattle.fabric_ports.specs.Carrying.{WithLeft, Carries}
+use Rattle.fabric_ports.specs.Ran.{RanEnds}
+use Rattle.fabric_ports.specs.Standing.{Stands}
+use Rattle.fabric_ports.proofs.RanLaws.{handed_on}
+use Rattle.fabric_ports.proofs.SettlingLaws.{devices_stay}
+use Rattle.fabric_ports.proofs.CarriedLaws.{linked_on, first_linked, on_ok, if_err, carried, carry_unturned, carry_unstirred, carry_unsettled}
+use Rattle.fabric_ports.proofs.fabric.Fabric.carry.Goals as goal
+
+pub stir_both-requires-clause-linked : goal.stir_both-requires-clause-linked
+stir_both-requires-clause-linked g c =
+    let is = c.requires.linked in
+    linked_on is is.stands (c.in_ok-turn_both.ensures.done is.from is.lines is.stands).stands
+
+pub stir_both-requires-clause-named : goal.stir_both-requires-clause-named
+stir_both-requires-clause-named g c =
+    let is = c.requires.linked in
+    let same = devices_stay is.stands
+    (c.in_ok-turn_both.ensures.done is.from is.lines is.stands).stands in
+    let named = c.requires.named in
+    omega (arith, same, named)
+
+pub act-requires-clause-linked : goal.act-requires-clause-linked
+act-requires-clause-linked g c =
+    let is = c.requires.linked in
+    let turned = c.in_ok-turn_both.ensures.done is.from is.lines is.stands in
+    first_linked (linked_on is is.stands
+    (c.in_ok-stir_both.ensures.done is.from (is.lines ++ turned.block) turned.stands).stands)
+
+pub act-requires-clause-named : goal.act-requires-clause-named
+act-requires-clause-named g c =
+    let is = c.requires.linked in
+    let turned = c.in_ok-turn_both.ensures.done is.from is.lines is.stands in
+    let same = devices_stay is.stands
+    (c.in_ok-stir_both.ensures.done is.from (is.lines ++ turned.block) turned.stands).stands in
+    let named = c.requires.named in
+    omega (arith, same, named)
+
+pub returns-in_err-turn_both-clause-ended : goal.returns-in_err-turn_both-clause-ended
+returns-in_err-turn_both-clause-ended g c =
+    handed_on c.from_residual.result c.in_err-turn_both.field-0.0
+    (λ end. (from : Seen) (lines : List TraceLine) → Stands from lines c.args.self.now
+    → RanEnds (WithLeft (Carries c.args.ends (g.N.Noise.edits c.args.noise.now)))
+    c.args.names.now g.K.Sink.written g.K.Sink.faults
+    c.args.outbox.now c.turn_both.new.outbox from lines end)
+    c.from_residual.ensures.1
+    (λ from lines stands.
+    carry_unturned g.K.Sink.written g.K.Sink.faults c.args.names.now c.args.ends from lines
+    c.args.self.now c.requires.linked stands c.args.outbox.now c.turn_both.new.outbox
+    c.in_err-turn_both.field-0.0 (g.N.Noise.edits c.args.noise.now)
+    (c.in_err-turn_both.ensures.ended from lines stands))
+
+pub returns-in_err-stir_both-clause-ended : goal.returns-in_err-stir_both-clause-ended
+returns-in_err-stir_both-clause-ended g c =
+    handed_on c.from_residual-in_err-stir_both.result c.in_err-stir_both.field-0.0
+    (λ end. (from : Seen) (lines : List TraceLine) → Stands from lines c.args.self.now
+    → RanEnds (WithLeft (Carries c.args.ends (g.N.Noise.edits c.args.noise.now)))
+    c.args.names.now g.K.Sink.written g.K.Sink.faults
+    c.args.outbox.now c.stir_both.new.outbox from lines end)
+    c.from_residual-in_err-stir_both.ensures.1
+    (λ from lines stands.
+    (let first = c.in_ok-turn_both.ensures.done from lines stands in
+    carry_unstirred g.K.Sink.written g.K.Sink.faults c.args.names.now c.args.ends from lines
+    c.args.self.now c.requires.linked stands c.args.outbox.now c.turn_both.new.outbox
+    c.stir_both.new.outbox c.turn_both.new.self c.in_err-stir_both.field-0.0
+    (g.N.Noise.edits c.args.noise.now) first
+    (c.in_err-stir_both.ensures.ended from (lines ++ first.block) first.stands)))
+
+pub returns-clause-done : goal.returns-clause-done
+returns-clause-done g c =
+    on_ok c.act.result
+    (λ own from lines stands.
+    (let first = c.in_ok-turn_both.ensures.done from lines stands in
+    let second = c.in_ok-stir_both.ensures.done from (lines ++ first.block) first.stands in
+    carried g.K.Sink.written g.K.Sink.faults c.args.names.now c.args.ends from lines
+    c.args.self.now c.requires.linked stands c.args.outbox.now c.turn_both.new.outbox
+    c.stir_both.new.outbox c.act.new.outbox c.turn_both.new.self c.stir_both.new.self
+    c.act.new.self (g.N.Noise.edits c.args.noise.now) (g.N.Noise.edits c.stir_both.new.noise)
+    first second
+    (own from ((lines ++ first.block) ++ second.block) second.stands)))
+    c.act.ensures.done
+
+pub returns-clause-ended : goal.returns-clause-ended
+returns-clause-ended g c =
+    if_err c.act.result
+    (λ end own from lines stands.
+    (let first = c.in_ok-turn_both.ensures.done from lines stands in
+    let second = c.in_ok-stir_both.ensures.done from (lines ++ first.block) first.stands in
+    carry_unsettled g.K.Sink.written g.K.Sink.faults c.args.names.now c.args.ends from lines
+    c.args.self.now c.requires.linked stands c.args.outbox.now c.turn_both.new.outbox
+    c.stir_both.new.outbox c.act.new.outbox c.turn_both.new.self c.stir_both.new.self end
+    (g.N.Noise.edits c.args.noise.now) (g.N.Noise.edits c.stir_both.new.noise) first second
+    (own from ((lines ++ first.block) ++ second.block) second.stands)))
+    c.act.ensures.ended

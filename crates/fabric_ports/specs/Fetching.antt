@@ -1,0 +1,64 @@
+-- What an ask tells, and what it answers of it.
+use Rattle.std.specs.Prelude.{◌≡◌, ◌≢◌, ℕ, List, [], ◌∷◌, ◌++◌, Option, Some, None, Result, Ok, Err, ⊤}
+use Rattle.maint_packets.specs.Responses.{response_of}
+use Rattle.maint_packets.specs.declared.request.Request.{Request}
+use Rattle.maint_packets.specs.declared.response.Response.{Response}
+use Rattle.link_wires.specs.declared.edits.Edit.{Edit}
+use Rattle.fabric_model.specs.Steps.{Leave, AtNode}
+use Rattle.fabric_trace.specs.Lines.{TraceLine, Stepped}
+use Rattle.fabric_ask.specs.Asks.{AskRounds, IsAsk}
+use Rattle.fabric_ports.specs.declared.answers.EventEnd.{EventEnd}
+use Rattle.fabric_ports.specs.declared.answers.EventEnd.TheVariants as Ends
+use Rattle.fabric_ports.specs.declared.answers.Happened.{Happened}
+use Rattle.fabric_ports.specs.declared.answers.Happened.TheVariants.{Left}
+use Rattle.fabric_ports.specs.declared.asking.AskEnd.{AskEnd}
+use Rattle.fabric_ports.specs.declared.asking.AskEnd.TheVariants.{Unanswered, Undetected, NoMemory}
+use Rattle.fabric_ports.specs.Ran.{Kind}
+
+-- ---- what leaves at the host
+
+-- the packet that left, if one did
+abbrev pub left_of : Happened → Option (List ℕ)
+left_of (Left packet) = Some packet
+left_of _ = None
+
+-- no packet leaves at the host in a line, in any of these lines
+abbrev pub NoLeave : ℕ → TraceLine → Type 0
+NoLeave host (Stepped (AtNode (Leave n packet))) = n ≢ host
+NoLeave host line = ⊤
+
+abbrev pub NoneLeaves : ℕ → List TraceLine → Type 0
+NoneLeaves host [] = ⊤
+NoneLeaves host (line ∷ lines) = NoLeave host line × NoneLeaves host lines
+
+-- this packet leaves at the host in the last line, or none in any
+abbrev pub Leaves : ℕ → Option (List ℕ) → List TraceLine → Type 0
+Leaves host None lines = NoneLeaves host lines
+Leaves host (Some packet) lines =
+    (front : List TraceLine) × (lines ≡ front ++ Stepped (AtNode (Leave host packet)) ∷ [])
+
+-- the lines of at most so many rounds, and of an ask, and what leaves in them
+abbrev pub RoundsLeave : ℕ → ℕ → List Edit → Option (List ℕ) → Kind
+RoundsLeave host rounds noise left s lines =
+    AskRounds host rounds noise s lines × Leaves host left lines
+
+abbrev pub AskLeaves : ℕ → Request → List Edit → Option (List ℕ) → Kind
+AskLeaves host request noise left s lines = IsAsk host request noise s lines × Leaves host left lines
+
+-- ---- what is answered
+
+-- the response, if there is one
+abbrev pub response_or_end : Option Response → Result Response AskEnd
+response_or_end None = Err Unanswered
+response_or_end (Some response) = Ok response
+
+-- the response that a packet carries
+abbrev pub response_in : Option (List ℕ) → Option Response
+response_in None = None
+response_in (Some packet) = response_of packet
+
+-- by what left at the host, or why its lines have ended
+abbrev pub answer_to : Result (Option (List ℕ)) EventEnd → Result Response AskEnd
+answer_to (Ok left) = response_or_end (response_in left)
+answer_to (Err (Ends.Undetected port event)) = Err (Undetected port event)
+answer_to (Err Ends.NoMemory) = Err NoMemory

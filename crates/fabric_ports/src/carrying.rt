@@ -1,0 +1,250 @@
+//! What the links do in a round of an ask.
+ghost use Rattle.std.specs.Prelude.{◌≡◌, ◌≤◌, ◌<◌, List, length, OnOk, IfErr};
+ghost use Rattle.rio_chars.specs.Written.{Writes};
+ghost use Rattle.rio_chars.specs.declared.chars.Char.{Char};
+ghost use Rattle.link_wires.specs.Wires.{fits, answered};
+ghost use Rattle.fabric_trace.specs.Fold.{seen};
+ghost use Rattle.fabric_trace.specs.Known.{Seen};
+ghost use Rattle.fabric_trace.specs.Lines.{TraceLine};
+ghost use Rattle.fabric_trace.specs.Text.{trace_text};
+ghost use Rattle.fabric_ask.specs.Noise.{edit_line, edit_lines, is_idle};
+ghost use Rattle.fabric_ports.specs.Carrying.{AreLinked, WithLeft, BothTurn, Stirs, Edits, BothStir, Carries, LinksCarry};
+ghost use Rattle.fabric_ports.specs.Ends.{IsLinked};
+ghost use Rattle.fabric_ports.specs.Ran.{Ran, RanEnds};
+ghost use Rattle.fabric_ports.specs.Standing.{Stands};
+
+use crate::actions::Action;
+use crate::answers::EventEnd;
+use crate::fabric::Fabric;
+use crate::noise::Noise;
+use fabric_script::{Line, Name, PortRef};
+use link_wires::{Edit, Edited};
+use rio_chars::{Outbox, Sink};
+use std::alloc::Global;
+use trace_lines::write_begun;
+
+impl Fabric {
+    /// Every link carries what it can, in the order of the links.
+    pub(crate) fn carry_all<N: Noise, K: Sink>(
+        &mut self,
+        alloc: Global,
+        names: &[Name],
+        noise: &mut N,
+        outbox: &mut Outbox<K>,
+    ) -> Result<(), EventEnd>
+        requires stands { (from : Seen) × (lines : List TraceLine) × Stands from lines self.old }
+        requires named { length self.old.devices.items ≤ length names.now }
+        ensures done { OnOk result ((from : Seen) (lines : List TraceLine)
+            → Stands from lines self.old
+            → Ran (LinksCarry (N.edits noise.old) (N.edits noise.new)) names.now
+            K.written K.faults outbox.old outbox.new from lines self.new) }
+        ensures ended { IfErr result (λ end. (from : Seen) (lines : List TraceLine)
+            → Stands from lines self.old
+            → RanEnds (WithLeft (LinksCarry (N.edits noise.old))) names.now
+            K.written K.faults outbox.old outbox.new from lines end) }
+    {
+        for place in 0..self.cables.len() {
+            let cable = &self.cables[place];
+            let (a, b) = (cable.a, cable.b);
+            self.carry(alloc, names, (a, b), noise, outbox)?;
+        }
+        Ok(())
+    }
+
+    /// Both ports of a link take a turn, each wire that has characters gets the next edit, and the
+    /// link settles.
+    fn carry<N: Noise, K: Sink>(
+        &mut self,
+        alloc: Global,
+        names: &[Name],
+        ends: (PortRef, PortRef),
+        noise: &mut N,
+        outbox: &mut Outbox<K>,
+    ) -> Result<(), EventEnd>
+        requires linked { AreLinked self.old ends }
+        requires named { length self.old.devices.items ≤ length names.now }
+        ensures done { OnOk result ((from : Seen) (lines : List TraceLine)
+            → Stands from lines self.old
+            → Ran (Carries ends (N.edits noise.old) (N.edits noise.new)) names.now
+            K.written K.faults outbox.old outbox.new from lines self.new) }
+        ensures ended { IfErr result (λ end. (from : Seen) (lines : List TraceLine)
+            → Stands from lines self.old
+            → RanEnds (WithLeft (Carries ends (N.edits noise.old))) names.now
+            K.written K.faults outbox.old outbox.new from lines end) }
+    {
+        self.turn_both(alloc, names, ends, outbox)?;
+        self.stir_both(alloc, names, ends, noise, outbox)?;
+        self.act(alloc, names, ends.0, Action::Settle, outbox)
+    }
+
+    /// Both ports of a link take a turn to send.
+    fn turn_both<K: Sink>(
+        &mut self,
+        alloc: Global,
+        names: &[Name],
+        ends: (PortRef, PortRef),
+        outbox: &mut Outbox<K>,
+    ) -> Result<(), EventEnd>
+        requires linked { AreLinked self.old ends }
+        requires named { length self.old.devices.items ≤ length names.now }
+        ensures done { OnOk result ((from : Seen) (lines : List TraceLine)
+            → Stands from lines self.old → Ran (BothTurn ends) names.now
+            K.written K.faults outbox.old outbox.new from lines self.new) }
+        ensures ended { IfErr result (λ end. (from : Seen) (lines : List TraceLine)
+            → Stands from lines self.old → RanEnds (BothTurn ends) names.now
+            K.written K.faults outbox.old outbox.new from lines end) }
+    {
+        self.act(alloc, names, ends.0, Action::Pump(1), outbox)?;
+        self.act(alloc, names, ends.1, Action::Pump(1), outbox)
+    }
+
+    /// Both wires of a link get the next edit, that of its first port first.
+    fn stir_both<N: Noise, K: Sink>(
+        &mut self,
+        alloc: Global,
+        names: &[Name],
+        ends: (PortRef, PortRef),
+        noise: &mut N,
+        outbox: &mut Outbox<K>,
+    ) -> Result<(), EventEnd>
+        requires linked { AreLinked self.old ends }
+        requires named { length self.old.devices.items ≤ length names.now }
+        ensures done { OnOk result ((from : Seen) (lines : List TraceLine)
+            → Stands from lines self.old
+            → Ran (BothStir ends (N.edits noise.old) (N.edits noise.new)) names.now
+            K.written K.faults outbox.old outbox.new from lines self.new) }
+        ensures ended { IfErr result (λ end. (from : Seen) (lines : List TraceLine)
+            → Stands from lines self.old
+            → RanEnds (WithLeft (BothStir ends (N.edits noise.old))) names.now
+            K.written K.faults outbox.old outbox.new from lines end) }
+    {
+        self.stir(alloc, names, ends.0, noise, outbox)?;
+        self.stir(alloc, names, ends.1, noise, outbox)
+    }
+
+    /// The wire of a port gets the next edit, if the wire has characters and an edit is left.
+    fn stir<N: Noise, K: Sink>(
+        &mut self,
+        alloc: Global,
+        names: &[Name],
+        port: PortRef,
+        noise: &mut N,
+        outbox: &mut Outbox<K>,
+    ) -> Result<(), EventEnd>
+        requires linked { IsLinked self.old port }
+        requires named { length self.old.devices.items ≤ length names.now }
+        ensures done { OnOk result ((from : Seen) (lines : List TraceLine)
+            → Stands from lines self.old
+            → Ran (Stirs port (N.edits noise.old) (N.edits noise.new)) names.now
+            K.written K.faults outbox.old outbox.new from lines self.new) }
+        ensures ended { IfErr result (λ end. (from : Seen) (lines : List TraceLine)
+            → Stands from lines self.old
+            → RanEnds (WithLeft (Stirs port (N.edits noise.old))) names.now
+            K.written K.faults outbox.old outbox.new from lines end) }
+    {
+        let length = self.length(port);
+        if length == 0 {
+            return Ok(());
+        }
+        match noise.next(length) {
+            Some(edit) => self.edit_aloud(alloc, names, port, &edit, outbox),
+            None => Ok(()),
+        }
+    }
+
+    /// The number of characters on the wire of a port.
+    fn length(&self, port: PortRef) -> usize
+        requires { IsLinked self.now port }
+        ensures { (from : Seen) (lines : List TraceLine) → Stands from lines self.now
+            → result ≡ length ((seen from lines).wires port).chars }
+    {
+        let place = self.link_of(port);
+        self.cables[place.cable].link.length(place.side)
+    }
+
+    /// Changes the characters of a port's wire, if it has so many. The line of the edit is written
+    /// if the edit does something.
+    fn edit_aloud<K: Sink>(
+        &mut self,
+        alloc: Global,
+        names: &[Name],
+        port: PortRef,
+        edit: &Edit,
+        outbox: &mut Outbox<K>,
+    ) -> Result<(), EventEnd>
+        requires linked { IsLinked self.old port }
+        requires named { length self.old.devices.items ≤ length names.now }
+        ensures done { OnOk result ((from : Seen) (lines : List TraceLine)
+            → Stands from lines self.old → Ran (Edits port edit.now) names.now
+            K.written K.faults outbox.old outbox.new from lines self.new) }
+        ensures ended { IfErr result (λ end. (from : Seen) (lines : List TraceLine)
+            → Stands from lines self.old → RanEnds (Edits port edit.now) names.now
+            K.written K.faults outbox.old outbox.new from lines end) }
+    {
+        let place = self.link_of(port);
+        let cable = &mut self.cables[place.cable];
+        match cable.link.edit(alloc, place.side, edit) {
+            Ok(edited) => {
+                write_edit(outbox, names, port, edit, edited);
+                Ok(())
+            }
+            Err(_) => Err(EventEnd::NoMemory),
+        }
+    }
+}
+
+/// Writes the line of an edit of a port's wire, if it was done and did something.
+fn write_edit<K: Sink>(
+    outbox: &mut Outbox<K>,
+    names: &[Name],
+    port: PortRef,
+    edit: &Edit,
+    edited: Edited,
+)
+    requires { port.node < length names.now }
+    ensures { (chars : List Char) → edited ≡ answered (fits edit.now chars)
+        → Writes K.written K.faults outbox.old outbox.new
+        (trace_text names.now (edit_lines port edit.now chars)) }
+{
+    match edited {
+        Edited::Done => {
+            if !is_idle(edit) {
+                write_begun(outbox, names, &line_of(port, edit));
+            }
+        }
+        Edited::Short => {}
+    }
+}
+
+/// Whether an edit changes nothing: no character is erased.
+fn is_idle(edit: &Edit) -> bool
+    ensures { result ≡ is_idle edit.now }
+{
+    match edit {
+        Edit::Erase { count, .. } => *count == 0,
+        Edit::Alter { .. } | Edit::Insert { .. } => false,
+    }
+}
+
+/// The line of an edit of a port's wire.
+fn line_of(port: PortRef, edit: &Edit) -> Line
+    ensures { result ≡ edit_line port edit.now }
+{
+    match edit {
+        Edit::Alter { place, ch } => Line::Alter {
+            port,
+            place: *place,
+            ch: *ch,
+        },
+        Edit::Erase { place, count } => Line::Erase {
+            port,
+            place: *place,
+            n: *count,
+        },
+        Edit::Insert { place, ch } => Line::Insert {
+            port,
+            place: *place,
+            ch: *ch,
+        },
+    }
+}
