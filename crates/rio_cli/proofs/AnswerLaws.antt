@@ -15,7 +15,8 @@ use Rattle.rio_cli.specs.declared.status.Status.{Status}
 use Rattle.rio_cli.specs.declared.status.Status.TheVariants.{Done, Words, Script, ReadFault, WriteFault, NoMemory, Undetected, TooLong, Locked, Unlawful}
 use Rattle.rio_cli.specs.Inputs.{most_input}
 use Rattle.rio_cli.specs.Outputs.{IsAccepted, IsRefused, IsUnlawful, IsHit, Completes, Exposes, RunsOut, Declines, Gave, OfInput, verdict_text}
-use Rattle.rio_cli.specs.Checking.{HasTrace, IsSpelled, lawful_text}
+use Rattle.trace_check.specs.Outcomes.{HasLawful}
+use Rattle.rio_cli.specs.Checking.{HasTrace, lawful_text}
 use Rattle.trace_check.specs.Inputs.{IsRefused as IsRefusedInput, Hit, NoTrace, set_up_bytes}
 use Rattle.rio_cli.specs.Messages.{Explains}
 use Rattle.rio_cli.specs.Answers.{Answers, SaysOfBytes, SaysOfInput, IsOther, IsToldOf, TellsRefusal, Refuses, RefusesInput, RefusesBytes}
@@ -241,13 +242,13 @@ module _ (command : Command) (bytes : List ℕ) (status : Status) (line reason :
 
 -- the steps of a trace were told
 pub says_lawful : (bytes : List ℕ) (status : Status) (steps : ℕ)
-    (w : Option (List ℕ)) (f : ℕ) (w' : Option (List ℕ)) (f2 : ℕ) → IsSpelled bytes steps
+    (w : Option (List ℕ)) (f : ℕ) (w' : Option (List ℕ)) (f2 : ℕ) → HasLawful bytes steps
     → Answers status Done (lawful_text steps) w f w' f2
     ⊎ ((status ≡ NoMemory) × Keeps w w') → SaysOfBytes Check status bytes w f w' f2
 says_lawful bytes status steps w f w' f2 is (inl (inl told)) =
     subst (λ s. SaysOfBytes Check s bytes w f w' f2) (sym told.0) (record {
       steps = steps;
-      spelled = is;
+      lawful = is;
       told = told.1;
     })
 says_lawful bytes status steps w f w' f2 is (inl (inr failed)) =
@@ -255,7 +256,7 @@ says_lawful bytes status steps w f w' f2 is (inl (inr failed)) =
       failed.1,
       inl (record {
         steps = steps;
-        spelled = is;
+        lawful = is;
         told = failed.2;
       }),
     )

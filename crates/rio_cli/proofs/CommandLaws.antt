@@ -15,7 +15,7 @@ use Rattle.rio_cli.specs.declared.status.Status.{Status}
 use Rattle.rio_cli.specs.declared.status.Status.TheVariants.{Done, Words, Script, ReadFault, WriteFault, NoMemory, Undetected, TooLong, Locked, Unlawful}
 use Rattle.rio_cli.specs.Inputs.{most_input}
 use Rattle.rio_cli.specs.Outputs.{IsAccepted, IsRefused, IsUnlawful, IsHit, Completes, Exposes, RunsOut, Declines, Gave, OfInput, verdict_text}
-use Rattle.rio_cli.specs.Checking.{HasTrace, IsSpelled, lawful_text}
+use Rattle.rio_cli.specs.Checking.{HasTrace, lawful_text}
 use Rattle.trace_check.specs.Inputs.{IsRefused as IsRefusedInput, Hit, NoTrace, set_up_bytes}
 use Rattle.rio_cli.specs.Messages.{Explains}
 use Rattle.rio_cli.specs.Answers.{Answers, SaysOfBytes, SaysOfInput, IsOther, IsToldOf, TellsRefusal, Refuses, RefusesInput, RefusesBytes}
@@ -68,7 +68,9 @@ completed : (command : Command) (bytes : List ℕ) (w w' : Option (List ℕ))
     → Completes command bytes w w' → IsAccepted command bytes
 completed Replay bytes w w' h = (h.names, h.script, h.spells)
 completed Decode bytes w w' h = (h.decoded.chars, h.decoded.spells)
-completed Check bytes w w' h = h.spelled.has
+completed Check bytes w w' h =
+    let is = h.lawful in
+    record { set_up = is.set_up; known = is.known; texts = is.texts; input = is.input }
 
 -- what an input is of which all was written up to an event that was not sent
 exposed : (command : Command) (bytes : List ℕ) (w w' : Option (List ℕ))
@@ -82,7 +84,8 @@ unlawful_too : (command : Command) (bytes : List ℕ) (line reason : ℕ)
     → IsUnlawful command bytes line reason → IsAccepted command bytes
 unlawful_too Replay bytes line reason h = absurd h
 unlawful_too Decode bytes line reason h = absurd h
-unlawful_too Check bytes line reason h = h.has
+unlawful_too Check bytes line reason h =
+    record { set_up = h.set_up; known = h.known; texts = h.texts; input = h.input }
 
 pub accepted_stays : (command : Command) (bytes : List ℕ) (w w' : Option (List ℕ))
     → IsAccepted command bytes → Declines Script command bytes w w' → ⊥

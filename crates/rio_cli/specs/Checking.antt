@@ -1,12 +1,12 @@
 -- What `check` reads and writes: set-up lines and a trace, and whether it is lawful.
-use Rattle.std.specs.Prelude.{ℕ, ◌+◌, List, ◌++◌, length, Option, codes}
+use Rattle.std.specs.Prelude.{ℕ, List, ◌++◌, Option, codes}
 use Rattle.std.specs.Fmt.{decimal}
 use Rattle.std.specs.Io.KnownBytes.{Appends}
 use Rattle.rio_chars.specs.Fronts.{AppendsFront}
 use Rattle.fabric_script.specs.Known.{Known}
 use Rattle.fabric_script.specs.declared.lines.Numbered.{Numbered}
-use Rattle.trace_check.specs.Inputs.{IsInput, set_up_texts, texts_of}
-use Rattle.trace_check.specs.Stops.{AreSpelled, Stops}
+use Rattle.trace_check.specs.Inputs.{IsInput}
+use Rattle.trace_check.specs.Outcomes.{HasLawful}
 
 -- the line that tells a lawful trace of so many steps
 abbrev pub lawful_text : ℕ → List ℕ
@@ -19,24 +19,14 @@ pub record HasTrace (bytes : List ℕ) : Type 0 where
   pub texts : List (List ℕ)
   pub input : IsInput bytes set_up known texts
 
--- Those lines are spelled as those of a trace of so many steps are.
-pub record IsSpelled (bytes : List ℕ) (steps : ℕ) : Type 0 where
-  pub has : HasTrace bytes
-  pub spelled : AreSpelled has.known has.texts steps
-
--- A reason hits this line, counted from 1, and the lines of the trace before it are spelled.
-pub record StopsAt (bytes : List ℕ) (line reason : ℕ) : Type 0 where
-  pub has : HasTrace bytes
-  pub stops : Stops has.known has.texts (length (set_up_texts (texts_of bytes)) + 2) line reason
-
--- So many steps were told.
+-- The trace is lawful, and how many steps it has was told.
 pub record Checks (bytes : List ℕ) (written written_after : Option (List ℕ)) : Type 0 where
   pub steps : ℕ
-  pub spelled : IsSpelled bytes steps
+  pub lawful : HasLawful bytes steps
   pub told : Appends written written_after (lawful_text steps)
 
--- A front of the line that tells so many steps was written.
+-- The trace is lawful, and a front of the line that tells so was written.
 pub record ChecksFront (bytes : List ℕ) (written written_after : Option (List ℕ)) : Type 0 where
   pub steps : ℕ
-  pub spelled : IsSpelled bytes steps
+  pub lawful : HasLawful bytes steps
   pub told : AppendsFront written written_after (lawful_text steps)

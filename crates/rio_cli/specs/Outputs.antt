@@ -10,7 +10,8 @@ use Rattle.fabric_script.specs.Scripts.{IsScript, RefusedAt}
 use Rattle.fabric_replay.specs.Replaying.{ReplayedWhole, ReplayedUnsent, ReplayedFront}
 use Rattle.rio_chars.specs.declared.chars.Char.{Char}
 use Rattle.trace_check.specs.Inputs.{IsRefused as IsRefusedInput}
-use Rattle.rio_cli.specs.Checking.{HasTrace, StopsAt, Checks, ChecksFront}
+use Rattle.trace_check.specs.Outcomes.{HasUnlawful}
+use Rattle.rio_cli.specs.Checking.{HasTrace, Checks, ChecksFront}
 use Rattle.rio_cli.specs.Decoding.{SpellsChars, BadWordAt, Decodes, DecodesFront}
 use Rattle.rio_cli.specs.declared.status.Status.{Status}
 use Rattle.rio_cli.specs.declared.status.Status.TheVariants.{Script, Unlawful}
@@ -81,7 +82,7 @@ IsRefused Check = IsRefusedInput
 
 -- the input is carried out, and is not lawful, at this line and for this reason
 abbrev pub IsUnlawful : Command → List ℕ → ℕ → ℕ → Type 0
-IsUnlawful Check = StopsAt
+IsUnlawful Check = HasUnlawful
 IsUnlawful _ = λ bytes line reason. ⊥
 
 -- a line of the input is told with this status, and this reason

@@ -1,19 +1,13 @@
 use Rattle.std.proofs.Common.{Err, ap}
 use Rattle.rio_cli.specs.declared.command.Command.TheVariants.{Check}
 use Rattle.rio_cli.specs.declared.status.Status.TheVariants.{Script, Unlawful}
-use Rattle.rio_cli.specs.Checking.{IsSpelled, StopsAt}
 use Rattle.rio_cli.proofs.AnswerLaws.{says_lawful, says_line, says_condemned, RefusesBytes-line}
 use Rattle.rio_cli.proofs.top.check_bytes.Goals as goal
 
 pub returns-in-Ok-clause-says : goal.returns-in-Ok-clause-says
 returns-in-Ok-clause-says g c =
-    let s = c.in-Ok.ensures.spelled in
-    let spelled : IsSpelled c.args.bytes.now c.in-Ok.steps = record {
-      has = record { set_up = s.0; known = s.1; texts = s.2; input = s.3 };
-      spelled = s.4;
-    } in
-    says_lawful c.args.bytes.now c.tell_lawful.result.status c.in-Ok.steps _ _ _ _ spelled
-    c.tell_lawful.ensures.lawful
+    says_lawful c.args.bytes.now c.tell_lawful.result.status c.in-Ok.steps _ _ _ _
+    c.in-Ok.ensures.lawful c.tell_lawful.ensures.lawful
 
 pub returns-in-Err-Refused-clause-says : goal.returns-in-Err-Refused-clause-says
 returns-in-Err-Refused-clause-says g c =
@@ -31,22 +25,13 @@ returns-in-Err-Refused-clause-refuses g c =
 pub returns-in-Err-Unlawful-clause-says : goal.returns-in-Err-Unlawful-clause-says
 returns-in-Err-Unlawful-clause-says g c =
     let u = c.in-Err-Unlawful in
-    let s = u.ensures.stops u.unlawful (ap Err u.field-0-is) in
-    let at : StopsAt c.args.bytes.now u.unlawful.line u.unlawful.reason = record {
-      has = record { set_up = s.0; known = s.1; texts = s.2; input = s.3 };
-      stops = s.4;
-    } in
     says_condemned Check c.args.bytes.now c.condemn_line.result.status u.unlawful.line
-    u.unlawful.reason _ _ _ _ at c.condemn_line.ensures.unlawful
+    u.unlawful.reason _ _ _ _ (u.ensures.unlawful u.unlawful (ap Err u.field-0-is))
+    c.condemn_line.ensures.unlawful
 
 pub returns-in-Err-Unlawful-clause-refuses : goal.returns-in-Err-Unlawful-clause-refuses
 returns-in-Err-Unlawful-clause-refuses g c =
     let u = c.in-Err-Unlawful in
-    let s = u.ensures.stops u.unlawful (ap Err u.field-0-is) in
-    let at : StopsAt c.args.bytes.now u.unlawful.line u.unlawful.reason = record {
-      has = record { set_up = s.0; known = s.1; texts = s.2; input = s.3 };
-      stops = s.4;
-    } in
     RefusesBytes-line Unlawful Check c.args.bytes.now c.condemn_line.result.status
-    c.condemn_line.result.refusal u.unlawful.line u.unlawful.reason _ _ at
-    c.condemn_line.ensures.refusal
+    c.condemn_line.result.refusal u.unlawful.line u.unlawful.reason _ _
+    (u.ensures.unlawful u.unlawful (ap Err u.field-0-is)) c.condemn_line.ensures.refusal
