@@ -1,0 +1,127 @@
+-- An access as a request: what is answered, and where it goes, are the same.
+use Rattle.std.proofs.Common.{◌≡◌, ℕ, ◌<◌, Bool, true, false, List, length, Option, Some, None, if◌then◌else◌, refl, sym, ap, ◌∙◌}
+use Rattle.maint_registers.specs.Devices.{Device}
+use Rattle.maint_registers.specs.Access.{value_at, written_at}
+use Rattle.maint_packets.specs.declared.request.Request.{Request}
+use Rattle.maint_packets.specs.Requests.{names_second, in_half}
+use Rattle.maint_packets.specs.Answers as packets
+use Rattle.maint_packets.proofs.AnswerLaws.{answered_same}
+use Rattle.fabric_script.specs.declared.ports.PortRef.{PortRef}
+use Rattle.fabric_map.specs.Topology.{Topology}
+use Rattle.fabric_map.specs.Routes.{Registers, walk}
+use Rattle.fabric_map.specs.Plain.{topology_of, registers_of}
+use Rattle.host_enumerate.specs.declared.maint.Access.{Access}
+use Rattle.host_enumerate.specs.declared.maint.Access.TheVariants.{Read, Write}
+use Rattle.host_enumerate.specs.Accesses.{answered, after_read, after_write, offset_of, with_device, after_access, IsAnswered}
+use Rattle.fabric_ask.specs.Answered.{after_request, IsRoundTrip, response_home}
+use Rattle.fabric_maint.specs.Requests.{request_for, word_named, answer_in}
+use Rattle.fabric_maint.proofs.Tables.{registers_of-changed, topology_of-changed}
+
+-- ---- one device
+
+-- the word that an offset names is the one that was put there
+word_put : (offset value : ℕ) → word_named offset (Some (in_half offset value)) ≡ value
+word_put offset value = go (names_second offset)
+  where
+    go : (b : Bool) → (if b
+        then (let pair : ℕ × ℕ = (if b then (0, value) else (value, 0)) in pair.1)
+        else (let pair : ℕ × ℕ = (if b then (0, value) else (value, 0)) in pair.0)) ≡ value
+    go true = refl
+    go false = refl
+
+module _ (device : Device) (source tid dest hops port : ℕ) where
+  abbrev carried : Access → packets.Answered
+  carried access = packets.answered device (request_for source tid dest hops access) port
+
+  pub device_same : (access : Access)
+      → (carried access).device ≡ (answered device port access).device
+  device_same (Read offset) = go (value_at device offset port)
+    where
+      go : (o : Option ℕ)
+          → (packets.after_read device (request_for source tid dest hops (Read offset)) o).device
+          ≡ (after_read device o).device
+      go None = refl
+      go (Some value) = refl
+  device_same (Write offset value) = go (written_at device offset value)
+    where
+      go : (o : Option Device) → (packets.after_write device
+          (request_for source tid dest hops (Write offset value)) o).device
+          ≡ (after_write device o).device
+      go None = refl
+      go (Some next) = refl
+
+  pub answer_same : (access : Access)
+      → answer_in (carried access).response (offset_of access)
+      ≡ (answered device port access).answer
+  answer_same (Read offset) = go (value_at device offset port)
+    where
+      go : (o : Option ℕ) → answer_in (packets.after_read device
+          (request_for source tid dest hops (Read offset)) o).response offset
+          ≡ (after_read device o).answer
+      go None = refl
+      go (Some value) = ap (λ (n : ℕ). record { status = 0; value = n }) (word_put offset value)
+  answer_same (Write offset value) = go (written_at device offset value)
+    where
+      go : (o : Option Device) → answer_in (packets.after_write device
+          (request_for source tid dest hops (Write offset value)) o).response offset
+          ≡ (after_write device o).answer
+      go None = refl
+      go (Some next) = refl
+
+-- ---- the registers of a fabric
+
+module _ (registers : List Device) (links : List (PortRef × PortRef))
+    (host source tid dest hops : ℕ) (access : Access) (at : PortRef) (inside : at.node < length registers) where
+  abbrev request : Request
+  request = request_for source tid dest hops access
+
+  pub after_same : registers_of (after_request registers at request)
+      ≡ after_access (registers_of registers) at access
+  after_same =
+      registers_of-changed registers at.node (λ device. (packets.answered device request
+      at.port).device) inside
+      ∙ ap (λ d. with_device (registers_of registers) at.node d)
+      (device_same (registers_of registers at.node) source tid dest hops at.port access)
+
+  pub topology_same : topology_of (after_request registers at request) links host
+      ≡ topology_of registers links host
+  topology_same = topology_of-changed registers links host at.node
+      (λ device. (packets.answered device request at.port).device)
+      (λ device stands. answered_same device request at.port)
+
+  walk_same : walk (topology_of (after_request registers at request) links host)
+      (registers_of (after_request registers at request)) source 255 at
+      ≡ walk (topology_of registers links host)
+      (after_access (registers_of registers) at access) source 255 at
+  walk_same = ap (λ (t : Topology). walk t (registers_of (after_request registers at request))
+      source 255 at) topology_same
+      ∙ ap (λ (r : Registers). walk (topology_of registers links host) r source 255 at) after_same
+
+  -- an access that is answered goes there and back as a request
+  pub goes : source ≡ (registers_of registers host).base_id
+      → IsAnswered (topology_of registers links host) (registers_of registers) dest hops access at
+      → IsRoundTrip registers links host request at
+  goes from is = record {
+    ends = is.ends;
+    away = is.not_host;
+    returns = walk_same
+        ∙ ap (λ (id : ℕ). walk (topology_of registers links host)
+        (after_access (registers_of registers) at access) id 255 at) from ∙ is.returns;
+  }
+
+  -- and what goes there and back is answered
+  pub comes : source ≡ (registers_of registers host).base_id
+      → IsRoundTrip registers links host request at
+      → IsAnswered (topology_of registers links host) (registers_of registers) dest hops access at
+  comes from trip = record {
+    ends = trip.ends;
+    not_host = trip.away;
+    returns = ap (λ (id : ℕ). walk (topology_of registers links host)
+        (after_access (registers_of registers) at access) id 255 at) (sym from)
+        ∙ sym walk_same ∙ trip.returns;
+  }
+
+  -- the answer that the response brings home
+  pub brought : answer_in (response_home registers links host request at) (offset_of access)
+      ≡ (answered (registers_of registers at.node) at.port access).answer
+  brought = answer_same (registers_of registers at.node) source tid dest hops at.port access

@@ -1,0 +1,222 @@
+-- A host makes an ask that has no answer.
+use Rattle.std.proofs.Common.{◌≡◌, ℕ, ◌+◌, ◌-◌, ◌^◌, ◌<◌, ◌≤◌, ◌⊎◌, inl, inr, min, List, [], ◌++◌, Option, Some, IsSome, refl, sym, ap, ◌∙◌, subst, append-nil, arith}
+use Rattle.std.proofs.lemmas.Bool.{cases_lt}
+use Rattle.std.proofs.lemmas.Option.{same_Some}
+use Rattle.std.specs.Io.KnownBytes.{Appends}
+use Rattle.std.proofs.KnownBytes.{Appends-trans}
+use Rattle.rio_chars.specs.Faults.{Rose}
+use Rattle.maint_packets.specs.declared.request.Request.{Request}
+use Rattle.link_model.specs.declared.event.Event.{Event}
+use Rattle.link_wires.specs.declared.edits.Edit.{Edit}
+use Rattle.fabric_script.specs.declared.ports.PortRef.{PortRef}
+use Rattle.fabric_trace.specs.Known.{Seen}
+use Rattle.fabric_trace.specs.Lines.{TraceLine}
+use Rattle.fabric_trace.specs.Text.{trace_text}
+use Rattle.fabric_ask.specs.Asks.{IsAsk}
+use Rattle.fabric_ask.proofs.Resting.{AnswersNothing}
+use Rattle.fabric_ports.specs.declared.fabric.Fabric.{Fabric}
+use Rattle.fabric_ports.specs.Asking.{CanAsk, Lost, Misled, Broken, Unwritten, AskEnds}
+use Rattle.fabric_ports.specs.declared.asking.AskEnd.{AskEnd}
+use Rattle.fabric_ports.specs.declared.asking.AskEnd.TheVariants.{Unanswered, Undetected, WriteFault, NoMemory}
+use Rattle.host_enumerate.specs.declared.maint.Access.{Access}
+use Rattle.host_enumerate.specs.declared.maint.MaintEnd.{MaintEnd}
+use Rattle.host_enumerate.specs.declared.maint.MaintEnd.TheVariants as maint
+use Rattle.host_enumerate.specs.Causes.{IsCaused}
+use Rattle.host_enumerate.specs.Accesses.{offset_of, IsAnswered}
+use Rattle.fabric_maint.specs.AskEnds.{count_after, end_for}
+use Rattle.fabric_maint.specs.Going.{names_of, topology_in, registers_in, RestsAt, StandsWhole, Went, Followed, Partly, Left, Abandoned, HasMet}
+use Rattle.fabric_maint.specs.Requests.{request_for}
+use Rattle.fabric_maint.specs.declared.maint.FabricMaint.{FabricMaint}
+use Rattle.fabric_maint.proofs.Asking.{good_request, ask_of, trip_at, moved}
+use Rattle.fabric_maint.proofs.Leading.{ask_lines, made_more}
+use Rattle.fabric_maint.proofs.Told.{text_more}
+
+-- A front of the text of an ask was told.
+pub record ToldPart (names : List (List ℕ)) (before after : Option (List ℕ)) (host : ℕ)
+    (request : Request) (noise : List Edit) (t : Seen) : Type 0 where
+  pub block : List TraceLine
+  pub bytes : List ℕ
+  pub rest : List ℕ
+  pub is : IsAsk host request noise t block
+  pub told : Appends before after bytes
+  pub whole : trace_text names block ≡ bytes ++ rest
+
+module _ {names : List (List ℕ)} {before after : Option (List ℕ)} {host : ℕ} {request : Request}
+    {noise : List Edit} {t : Seen} where
+  pub of_misled : {port : PortRef} {event : Event}
+      → Misled names before after host request noise t [] port event
+      → ToldPart names before after host request noise t
+  of_misled misled = record {
+    block = misled.block;
+    bytes = trace_text names misled.block;
+    rest = [];
+    is = misled.is;
+    told = misled.told;
+    whole = sym (append-nil (trace_text names misled.block));
+  }
+
+  pub of_broken : Broken names before after host request noise t []
+      → ToldPart names before after host request noise t
+  of_broken broken = record {
+    block = broken.block;
+    bytes = trace_text names broken.front;
+    rest = trace_text names broken.rest;
+    is = broken.is;
+    told = broken.told;
+    whole = ap (trace_text names) broken.whole
+        ∙ sym (text_more names broken.front broken.rest);
+  }
+
+  pub of_unwritten : Unwritten names before after host request noise t []
+      → ToldPart names before after host request noise t
+  of_unwritten unwritten = record {
+    block = unwritten.block;
+    bytes = unwritten.told.front;
+    rest = unwritten.told.rest;
+    is = unwritten.is;
+    told = unwritten.told.told;
+    whole = unwritten.told.whole;
+  }
+
+-- each end is for one of these reasons, unless no response came
+pub of_end : (names : List (List ℕ)) (before after : Option (List ℕ)) (host : ℕ)
+    (request : Request) (noise : List Edit) (t : Seen) (end : AskEnd) → IsSome (end_for end)
+    → AskEnds names before after host request noise t [] end
+    → ToldPart names before after host request noise t
+of_end names before after host request noise t Unanswered some lost = absurd cc
+of_end names before after host request noise t (Undetected port event) some misled =
+    of_misled misled
+of_end names before after host request noise t WriteFault some unwritten = of_unwritten unwritten
+of_end names before after host request noise t NoMemory some broken = of_broken broken
+
+-- a count that goes up, or stands at its greatest
+rose : (before after : ℕ) → after ≡ min (before + 1) (2 ^ 64 - 1) → Rose before after
+rose before after is = go (cases_lt before 18446744073709551615)
+  where
+    go : (before < 18446744073709551615) ⊎ (18446744073709551615 ≤ before) → Rose before after
+    go (inl less) = inl (omega (arith, is, less))
+    go (inr most) = inr (omega (arith, is, most))
+
+module _ {N K : Type 0} (edits : N → List Edit) (written : K → Option (List ℕ))
+    (old : FabricMaint N K) (whole : StandsWhole old) (fabric : Fabric) (noise : N) (sink : K)
+    (undetected dest hops : ℕ) (access : Access)
+    (low : offset_of access < 2 ^ 24) (short : hops < 256) (at : PortRef)
+    (is : IsAnswered (topology_in old) (registers_in old) dest hops access at) (asked : Request)
+    (request_is : asked ≡ request_for (registers_in old old.host).base_id old.tid dest hops access)
+  where
+    abbrev request : Request
+    request = request_for (registers_in old old.host).base_id old.tid dest hops access
+
+    -- it may not be that no response comes
+    never_lost : (names : List (List ℕ)) (before after : Option (List ℕ)) (given : List Edit)
+        → Lost names before after old.host asked given whole.s [] → ⊥
+    never_lost names before after given lost =
+        let gone = subst (λ (r : Request). Lost names before after old.host r given whole.s [])
+        request_is lost in
+        gone.lost at (trip_at old whole dest hops access at is whole.s whole.rests.can)
+
+    -- so it ends for another reason
+    pub some_end : (names : List (List ℕ)) (before after : Option (List ℕ)) (given : List Edit)
+        (end : AskEnd) → AskEnds names before after old.host asked given whole.s [] end
+        → IsSome (end_for end)
+    some_end names before after given Unanswered lost =
+        absurd (never_lost names before after given lost)
+    some_end names before after given (Undetected port event) misled = refl
+    some_end names before after given WriteFault unwritten = refl
+    some_end names before after given NoMemory broken = refl
+
+    -- whatever came of the lines, they may stand where they do
+    lines_at : (given : List Edit) (t : Seen) (block : List TraceLine)
+        → CanAsk old.host t [] old.fabric → IsAsk old.host asked given t block
+        → AnswersNothing old.host t block
+    lines_at given t block can ask =
+        ask_lines old.host request given at t block old.fabric can short few
+        (good_request (registers_in old old.host).base_id old.tid dest hops access)
+        (trip_at old whole dest hops access at is t can)
+        (subst (λ (r : Request). IsAsk old.host r given t block) request_is ask)
+      where
+        few : 0 < 4
+        few = omega arith
+
+    leaves_off : (part : (t : Seen) → CanAsk old.host t [] old.fabric → ToldPart (names_of old)
+        (written old.sink.now) (written sink) old.host asked (edits old.noise.now) t)
+        → (s : Seen) (origin : FabricMaint N K)
+        → RestsAt origin.host s origin.fabric → Went edits written s origin old
+        → Left edits written s origin (moved old fabric noise sink undetected)
+    leaves_off part s origin rests went =
+        let own = part went.end went.rests.can in
+        let own_lines = lines_at (edits old.noise.now) went.end own.block went.rests.can own.is in
+        record {
+          lines = went.lines;
+          end = went.end;
+          tid = old.tid;
+          asked = went.asked;
+          leads = went.leads;
+          bytes = own.bytes;
+          told = Appends-trans (written origin.sink.now) (written old.sink.now)
+              (written sink) (trace_text (names_of old) went.lines) own.bytes went.told
+              own.told;
+          begun = Partly asked own.block own.rest
+              (ask_of old whole dest hops access edits old.noise.now went.end own.block asked
+              request_is low went.rests.can own.is)
+              (made_more old.host s went.end went.lines own.block rests.can.stands.ready went.leads
+              own_lines.never own_lines.made) own.whole;
+        }
+
+    -- whoever has followed so far leaves off here
+    pub abandons_at : ((t : Seen) → CanAsk old.host t [] old.fabric → ToldPart (names_of old)
+        (written old.sink.now) (written sink) old.host asked (edits old.noise.now) t)
+        → (origin : FabricMaint N K) → Followed edits written origin old
+        → Abandoned edits written origin (moved old fabric noise sink undetected)
+    abandons_at part origin followed = record {
+      same = record {
+        script = followed.same.script;
+        host = followed.same.host;
+        noise = followed.same.noise;
+        sink = followed.same.sink;
+      };
+      left = λ s rests. leaves_off part s origin rests (followed.went s rests);
+    }
+
+    pub meets : (port : PortRef) (event : Event)
+        → Misled (names_of old) (written old.sink.now) (written sink) old.host asked
+        (edits old.noise.now) whole.s [] port event
+        → HasMet edits written (moved old fabric noise sink undetected) port event
+    meets port event misled = record {
+      s = whole.s;
+      tid = old.tid;
+      request = asked;
+      block = misled.block;
+      ready = whole.rests.can.stands.ready;
+      sent = whole.rests.can.stands.sent;
+      quiet = whole.rests.quiet;
+      is = ask_of old whole dest hops access edits old.noise.now whole.s misled.block asked
+          request_is low whole.rests.can misled.is;
+      found = misled.found;
+      before = written old.sink.now;
+      told = misled.told;
+    }
+
+    -- no count changes but that of its cause
+    pub causes : (faults : K → ℕ) (end : AskEnd) (given : MaintEnd) → Some given ≡ end_for end
+        → undetected ≡ count_after old.undetected end
+        → AskEnds (names_of old) (written old.sink.now) (written sink) old.host asked
+        (edits old.noise.now) whole.s [] end
+        → (end ≡ WriteFault → Rose (faults old.sink.now) (faults sink))
+        → ((end ≡ WriteFault → ⊥) → faults sink ≡ faults old.sink.now)
+        → IsCaused (old.undetected, undetected) (faults old.sink.now, faults sink)
+        (HasMet edits written (moved old fabric noise sink undetected)) given
+    causes faults Unanswered given is count ends fault stays = absurd cc
+    causes faults (Undetected port event) given is count misled fault stays =
+        subst (IsCaused (old.undetected, undetected) (faults old.sink.now, faults sink)
+        (HasMet edits written (moved old fabric noise sink undetected)))
+        (sym (same_Some given (maint.Undetected port event) is))
+        (meets port event misled, rose old.undetected undetected count, stays (λ same. cc))
+    causes faults WriteFault given is count unwritten fault stays =
+        subst (IsCaused (old.undetected, undetected) (faults old.sink.now, faults sink)
+        (HasMet edits written (moved old fabric noise sink undetected)))
+        (sym (same_Some given maint.WriteFault is)) (fault refl, count)
+    causes faults NoMemory given is count broken fault stays =
+        subst (IsCaused (old.undetected, undetected) (faults old.sink.now, faults sink)
+        (HasMet edits written (moved old fabric noise sink undetected)))
+        (sym (same_Some given maint.NoMemory is)) (count, stays (λ same. cc))

@@ -1,0 +1,45 @@
+-- A fabric that a host can ask has a topology, which its registers show.
+use Rattle.std.proofs.Common.{ℕ, List, [], Option, refl, sym, subst, append-nil}
+use Rattle.std.specs.Io.KnownBytes.{Appends}
+use Rattle.maint_registers.specs.Devices.{Device}
+use Rattle.link_wires.specs.declared.edits.Edit.{Edit}
+use Rattle.fabric_map.specs.Topology.{IsTopology}
+use Rattle.fabric_map.specs.Fitting.{Fits}
+use Rattle.fabric_map.specs.Plain.{registers_of}
+use Rattle.host_enumerate.proofs.NewFabrics.{devised_fabric}
+use Rattle.fabric_trace.specs.Text.{trace_text}
+use Rattle.fabric_maint.specs.Going.{names_of, topology_in, registers_in, StandsWhole, Followed, Nothing, Abandoned}
+use Rattle.fabric_maint.specs.declared.maint.FabricMaint.{FabricMaint}
+
+pub has_topology : {N K : Type 0} (maint : FabricMaint N K) → StandsWhole maint
+    → IsTopology (topology_in maint)
+has_topology maint whole =
+    (devised_fabric (names_of maint) maint.script.now.lines.items maint.host whole.passes
+    whole.host).topology
+
+pub shows_kinds : {N K : Type 0} (maint : FabricMaint N K) → StandsWhole maint
+    → Fits (topology_in maint) (registers_in maint)
+shows_kinds maint whole =
+    subst (λ (devices : List Device). Fits (topology_in maint) (registers_of devices))
+    whole.rests.can.stands.shows.registers whole.fits
+
+-- whoever has come so far may leave off there
+pub abandons : {N K : Type 0} (edits : N → List Edit) (written : K → Option (List ℕ))
+    (origin maint : FabricMaint N K) → Followed edits written origin maint
+    → Abandoned edits written origin maint
+abandons edits written origin maint followed = record {
+  same = followed.same;
+  left = λ s rests.
+      let went = followed.went s rests in
+      record {
+        lines = went.lines;
+        end = went.end;
+        tid = maint.tid;
+        asked = went.asked;
+        leads = went.leads;
+        bytes = [];
+        told = subst (Appends (written origin.sink.now) (written maint.sink.now))
+            (sym (append-nil (trace_text (names_of maint) went.lines))) went.told;
+        begun = Nothing refl;
+      };
+}

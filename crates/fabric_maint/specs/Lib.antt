@@ -1,0 +1,6 @@
+pub mod Requests
+pub mod Asked
+pub mod AskEnds
+pub mod Going
+pub mod GoingLaws
+pub mod Enumerated
