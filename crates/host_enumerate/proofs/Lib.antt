@@ -36,3 +36,4 @@ pub mod Devised
 pub mod NewFabrics
 mod Changed
 pub mod LinesLeft
+pub mod HostLaws

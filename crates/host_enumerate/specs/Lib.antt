@@ -10,3 +10,5 @@ pub mod TakingIn
 pub mod Founds
 pub mod Ends
 pub mod Devised
+pub mod Hosts
+pub mod MapTexts

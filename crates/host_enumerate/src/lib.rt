@@ -11,7 +11,10 @@
 //! - [`enumerate`] answers the map of a fabric, or tells the [`EnumEnd`].
 //! - [`Maint`] carries an [`Access`] to a device and brings back the [`Answer`], or tells the [`MaintEnd`].
 //! - [`PlainMaint`] does so for registers and links that it holds itself, those of a script;
-//!   [`judge_host`] says which node of it can be the host, or tells the [`NoHost`].
+//!   [`judge_host`] says which node of it can be the host, and [`find_host`] which does so by its name,
+//!   or they tell the [`NoHost`].
+//! - [`write_map`] and [`write_locked`] write the lines of a map, and of a device that another host
+//!   holds.
 //! - [`a_pair_can_be_asked`] says so of the least fabric, and [`scripts_make_new_fabrics`] of what set-up lines make.
 //! - `walk` goes from port to port, `taking` takes a device in, `setting` writes its registers, and
 //!   `asking` makes single accesses.
@@ -24,8 +27,10 @@ mod checking_tests;
 mod devising;
 mod ends;
 mod examples;
+mod hosts;
 mod laws;
 mod maint;
+mod map_lines;
 mod offsets;
 mod plain;
 mod setting;
@@ -39,7 +44,9 @@ mod walk_tests;
 pub use devising::{NoHost, judge_host};
 pub use ends::EnumEnd;
 pub use examples::a_pair_can_be_asked;
+pub use hosts::find_host;
 pub use laws::scripts_make_new_fabrics;
 pub use maint::{Access, Answer, Maint, MaintEnd};
+pub use map_lines::{write_locked, write_map};
 pub use plain::PlainMaint;
 pub use walk::enumerate;

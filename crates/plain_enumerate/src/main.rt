@@ -6,15 +6,13 @@
 //!   standard streams.
 //! - `answer` and `Status`: what the words ask for is done, and how that ended.
 //! - `number_script`: the plain registers and links of a script are numbered.
-//! - `accepting` says which scripts are taken, `setting_up` finds the host, and `writing` writes maps
-//!   and refusals.
+//! - `accepting` says which scripts are taken, and `writing` writes maps and refusals.
 #![tactic(auto)]
 
 mod accepting;
 mod ends;
 mod numbering;
 mod program;
-mod setting_up;
 #[cfg(test)]
 mod tests;
 mod writing;

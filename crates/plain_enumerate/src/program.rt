@@ -5,11 +5,10 @@ ghost use Rattle.fabric_script.specs.Scripts.{Passes};
 use crate::accepting::accept;
 use crate::ends::{End, Status, status_number, status_of};
 use crate::numbering::number_script;
-use crate::setting_up::{find_node, reason_of};
 use crate::writing::write_answer;
 use fabric_map::Map;
 use fabric_script::{Reason, Refusal, Script, read_name};
-use host_enumerate::judge_host;
+use host_enumerate::find_host;
 use rio_chars::{NoMemory, Outbox, ReadEnd, Sink, Source, TextBuffer, read_all};
 use std::alloc::Global;
 
@@ -98,15 +97,12 @@ fn map_of_script(alloc: Global, bytes: &[u8], node: &[u8]) -> Result<Map, End>
 fn map_from(alloc: Global, script: &Script, node: &[u8]) -> Result<Result<Map, Reason>, End>
     requires { Passes script.now.names.items script.now.lines.items }
 {
-    let Some(host) = find_node(script.names.as_slice(), node) else {
-        return Ok(Err(Reason::UnknownNode));
-    };
-    match judge_host(alloc, script, host) {
-        Ok(Ok(())) => {
+    match find_host(alloc, script, node) {
+        Ok(Ok(host)) => {
             let map = number_script(alloc, script, host)?;
             Ok(Ok(map))
         }
-        Ok(Err(end)) => Ok(Err(reason_of(end))),
+        Ok(Err(end)) => Ok(Err(end.reason())),
         Err(NoMemory) => Err(End::NoMemory),
     }
 }

@@ -1,0 +1,10 @@
+use Rattle.std.proofs.Common.{take}
+use Rattle.std.specs.List.{flat_map}
+use Rattle.rio_chars.specs.Written.{Writes}
+use Rattle.host_enumerate.specs.MapTexts.{device_text}
+use Rattle.host_enumerate.proofs.map_lines.write_devices.Given as goal
+
+abbrev pub invariant-loop-device : goal.invariant-loop-device
+invariant-loop-device g l =
+    Writes g.K.Sink.written g.K.Sink.faults l.initial.outbox l.outbox
+    (flat_map device_text (take l.device-index l.devices))
