@@ -2,7 +2,6 @@ pub mod Accessed
 pub mod Frames
 pub mod PlainWalks
 mod Pairs
-pub mod Checked
 mod Counting
 mod Meeting
 mod Stepping

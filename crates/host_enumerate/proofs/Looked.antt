@@ -1,5 +1,5 @@
 -- What the call that tries a port of a switch knows.
-use Rattle.std.proofs.Common.{◌≡◌, ◌≢◌, ℕ, ◌+◌, ◌<◌, ◌≤◌, inl, inr, List, [], ◌∷◌, length, Contains, Option, Some, None, Result, Ok, Err, IfErr, arith, sym, ap, subst}
+use Rattle.std.proofs.Common.{◌≡◌, ◌≢◌, ℕ, ◌+◌, ◌<◌, ◌≤◌, List, [], ◌∷◌, length, Contains, Option, Some, None, Result, Ok, Err, IfErr, arith, sym, ap, subst}
 use Rattle.std.specs.Result.{IsErrAnd}
 use Rattle.link_model.specs.declared.event.Event.{Event}
 use Rattle.fabric_script.specs.declared.ports.PortRef.{PortRef}

@@ -1,36 +1,18 @@
 -- Devices of a fabric that is set up: what they are, and what stays of it when one of them is changed.
-use Rattle.std.proofs.Common.{◌≡◌, ◌≢◌, ℕ, zero, suc, ◌+◌, ◌/◌, ◌%◌, ◌^◌, ◌<◌, ◌≤◌, ◌||◌, nat_le, nat_lt, Bool, true, false, not, List, [], ◌∷◌, ◌++◌, map, length, length-append, length-set, slice_get, Option, Some, None, IsSome, is_some, option_map, option_and_then, unwrap_or, append-nil, ◌&&◌, if◌then◌else◌, arith, ◌⊎◌, inl, inr, refl, sym, ap, subst, ◌∙◌}
-use Rattle.std.specs.List.{list_any}
+use Rattle.std.proofs.Common.{◌≡◌, ◌≢◌, ℕ, zero, suc, ◌/◌, ◌%◌, ◌^◌, ◌<◌, ◌≤◌, ◌||◌, Bool, true, false, List, [], ◌∷◌, ◌++◌, length, length-set, slice_get, Option, Some, None, option_map, if◌then◌else◌, arith, ◌⊎◌, inl, inr, refl, sym, ap, subst, ◌∙◌}
 use Rattle.std.proofs.Math.Nat.{zero-div}
-use Rattle.std.proofs.lemmas.Bool.{or_parts, cases_eq, cases_lt, cases_Bool, false≢true}
-use Rattle.std.proofs.lemmas.Bool.Decides.{nat_tests}
-use Rattle.std.proofs.lemmas.List.{map-append, length-map}
-use Rattle.std.proofs.lemmas.List.Folds.{list_any-append}
-use Rattle.std.proofs.lemmas.Option.{same_Some, slice_get-map, slice_get-get_or, slice_get_past, slice_get_within}
-use Rattle.maint_registers.specs.Devices.{Device, IsDevice, is_switch, no_routes, new_endpoint, new_switch, with_link}
+use Rattle.std.proofs.lemmas.Bool.{cases_eq, cases_Bool}
+use Rattle.std.proofs.lemmas.Option.{same_Some}
+use Rattle.maint_registers.specs.Devices.{Device, IsDevice, new_endpoint, new_switch, with_link}
 use Rattle.maint_registers.specs.Changes.{with_device, linked_at, routed, defaulted, held_by}
-use Rattle.maint_registers.proofs.ChangeLaws.{device-changed, device-kept, map-with_device, length-with_device}
+use Rattle.maint_registers.proofs.ChangeLaws.{device-changed, device-kept}
 use Rattle.maint_registers.proofs.LinkLaws.{bit_set, bit_others}
 use Rattle.maint_registers.proofs.WithinLaws.{no_routes_long}
 use Rattle.fabric_script.specs.declared.ports.PortRef.{PortRef}
-use Rattle.fabric_script.specs.declared.known.Node.{Node}
-use Rattle.fabric_script.specs.declared.known.Node.TheVariants.{Endpoint as AnEndpoint, Switch as ASwitch}
-use Rattle.fabric_script.specs.declared.lines.Line.{Line}
-use Rattle.fabric_script.specs.declared.lines.Line.TheVariants.{Endpoint, Switch, Link, Buffers, Route, Default, Lock}
-use Rattle.fabric_script.specs.declared.lines.Numbered.{Numbered}
-use Rattle.fabric_script.specs.declared.reasons.Reason.TheVariants.{PortTaken, WrongKind, TooMuchWork}
-use Rattle.fabric_script.specs.Lines.{new_name}
-use Rattle.fabric_script.specs.Refusals.{makes_node, counts_work}
-use Rattle.fabric_script.specs.Known.{Known, of_script, nothing, known_after, names_after, nodes_after, links_after, cost_of, node_ports, ports_of, node_is_switch, is_switch as is_known_switch, same_port, is_linked}
-use Rattle.fabric_script.specs.Peers.{peer_in}
-use Rattle.fabric_script.specs.Reading.{MayBe, IsFree}
-use Rattle.fabric_script.specs.Scripts.{PassesFrom, Passes}
-use Rattle.fabric_script.proofs.PeerLaws.{port_is, same_port-refl, peer-linked, peer-before, peer-behind}
-use Rattle.fabric_map.specs.Topology.{Topology, IsTopology, IsPort, port_at, ports_of as ports_of_node}
-use Rattle.fabric_map.specs.Fitting.{Fits}
-use Rattle.fabric_map.specs.Plain.{ports_of_switch, topology_of, registers_of}
-use Rattle.host_enumerate.specs.Checking.{IsNewFabric}
-use Rattle.host_enumerate.specs.Devised.{IsHost, with_linked_end, devices_after, devices_after_all, links_after_all, devices_of, links_of}
+use Rattle.fabric_script.specs.Known.{same_port}
+use Rattle.fabric_script.proofs.PeerLaws.{port_is, same_port-refl}
+use Rattle.fabric_map.specs.Topology.{port_at}
+use Rattle.host_enumerate.specs.Devised.{with_linked_end}
 
 -- ---- one device
 

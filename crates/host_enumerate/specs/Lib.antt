@@ -12,3 +12,4 @@ pub mod Ends
 pub mod Devised
 pub mod Hosts
 pub mod MapTexts
+pub mod PeerTables

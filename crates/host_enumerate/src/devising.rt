@@ -45,6 +45,20 @@ pub fn judge_host(alloc: Global, script: &Script, node: u8) -> Result<Result<(),
     Ok(devised.judge(node))
 }
 
+/// The devices and links that the set-up lines of a script make, both in the order of their lines.
+/// The script passes.
+pub fn devise(
+    alloc: Global,
+    script: &Script,
+) -> Result<(Vec<Registers>, Vec<(PortRef, PortRef)>), NoMemory>
+    requires passes { Passes script.now.names.items script.now.lines.items }
+    ensures devices { IfOk result (λ made. made.0.items ≡ devices_of script.now.lines.items) }
+    ensures links { IfOk result (λ made. made.1.items ≡ links_of script.now.lines.items) }
+{
+    let devised = Devised::by(alloc, script)?;
+    Ok((devised.devices, devised.links))
+}
+
 impl Devised {
     /// What the set-up lines of a script make. The script passes.
     pub(crate) fn by(alloc: Global, script: &Script) -> Result<Devised, AllocError>

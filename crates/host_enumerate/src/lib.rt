@@ -11,8 +11,8 @@
 //! - [`enumerate`] answers the map of a fabric, or tells the [`EnumEnd`].
 //! - [`Maint`] carries an [`Access`] to a device and brings back the [`Answer`], or tells the [`MaintEnd`].
 //! - [`PlainMaint`] does so for registers and links that it holds itself, those of a script;
-//!   [`judge_host`] says which node of it can be the host, and [`find_host`] which does so by its name,
-//!   or they tell the [`NoHost`].
+//!   [`devise`] makes these alone. [`judge_host`] says which node of it can be the host, and
+//!   [`find_host`] which does so by its name, or they tell the [`NoHost`].
 //! - [`write_map`] and [`write_locked`] write the lines of a map, and of a device that another host
 //!   holds.
 //! - [`a_pair_can_be_asked`] says so of the least fabric, and [`scripts_make_new_fabrics`] of what set-up lines make.
@@ -21,9 +21,6 @@
 #![tactic(auto)]
 
 mod asking;
-mod checking;
-#[cfg(test)]
-mod checking_tests;
 mod devising;
 mod ends;
 mod examples;
@@ -38,10 +35,8 @@ mod taking;
 #[cfg(test)]
 mod tests;
 mod walk;
-#[cfg(test)]
-mod walk_tests;
 
-pub use devising::{NoHost, judge_host};
+pub use devising::{NoHost, devise, judge_host};
 pub use ends::EnumEnd;
 pub use examples::a_pair_can_be_asked;
 pub use hosts::find_host;

@@ -12,13 +12,14 @@ ghost use Rattle.host_enumerate.specs.Accesses.{answered};
 ghost use Rattle.host_enumerate.specs.Devised.{IsHost, devices_of, links_of};
 ghost use Rattle.host_enumerate.specs.Underway.{AreUntagged};
 ghost use Rattle.fabric_map.specs.Plain.{topology_of, registers_of};
+ghost use Rattle.host_enumerate.specs.PeerTables.{HasPeers};
 
 use crate::devising::Devised;
 use crate::maint::{Access, Answer, Maint, MaintEnd};
 use fabric_script::{PortRef, Script};
 use maint_registers::Registers;
 use rio_chars::NoMemory;
-use std::alloc::Global;
+use std::alloc::{AllocError, Global};
 
 /// The answer to an access that was not done.
 const FAILED: Answer = Answer {
@@ -29,9 +30,11 @@ const FAILED: Answer = Answer {
 /// The registers of devices and the links between them, and a host that is one of the endpoints.
 #[derive(Debug, Drop)]
 pub struct PlainMaint {
-    pub(crate) devices: Vec<Registers>,
-    pub(crate) links: Vec<(PortRef, PortRef)>,
-    pub(crate) host: u8,
+    devices: Vec<Registers>,
+    links: Vec<(PortRef, PortRef)>,
+    /// The other end of each port's link, at 16 times its node and its number.
+    peers: Vec<Option<PortRef>>,
+    host: u8,
 }
 
 impl PlainMaint {
@@ -53,29 +56,13 @@ impl PlainMaint {
             (⟦<PlainMaint as Maint>⟧.topology maint).host).base_id < 255) }
     {
         let devised = Devised::by(alloc, script)?;
+        let peers = peers_of(alloc, devised.links.as_slice(), devised.devices.len())?;
         Ok(PlainMaint {
             devices: devised.devices,
             links: devised.links,
+            peers,
             host,
         })
-    }
-
-    /// A fabric of these devices and links. It can be asked if each link joins two ports, the host
-    /// has one, and the devices show their links.
-    pub(crate) fn of_parts(
-        devices: Vec<Registers>,
-        links: Vec<(PortRef, PortRef)>,
-        host: u8,
-    ) -> PlainMaint
-        ensures devices { result.devices.items ≡ devices.items }
-        ensures links { result.links.items ≡ links.items }
-        ensures host { result.host ≡ host }
-    {
-        PlainMaint {
-            devices,
-            links,
-            host,
-        }
     }
 
     /// The registers of a device.
@@ -88,13 +75,14 @@ impl PlainMaint {
 
     /// Where a request ends that leaves a port.
     fn walk(&self, dest: u8, hops: u8, from: PortRef) -> Option<PortRef>
-        requires { IsTopology
+        requires topology { IsTopology
             (topology_of self.now.devices.items self.now.links.items self.now.host) }
+        requires peers { HasPeers self.now.links.items self.now.peers.items }
         ensures { result ≡ walk
             (topology_of self.now.devices.items self.now.links.items self.now.host)
             (registers_of self.now.devices.items) dest hops from }
     {
-        let at = peer_in(self.links.as_slice(), from)?;
+        let at = self.peer(from)?;
         if hops == 0 {
             return Some(at);
         }
@@ -109,10 +97,47 @@ impl PlainMaint {
         };
         self.walk(dest, hops - 1, next)
     }
+
+    /// The other end of a port's link.
+    fn peer(&self, port: PortRef) -> Option<PortRef>
+        requires { HasPeers self.now.links.items self.now.peers.items }
+        ensures { result ≡ peer_in self.now.links.items port }
+    {
+        if port.port >= 16 {
+            return peer_in(self.links.as_slice(), port);
+        }
+        match self
+            .peers
+            .get(16 * usize::from(port.node) + usize::from(port.port))
+        {
+            Some(peer) => *peer,
+            None => peer_in(self.links.as_slice(), port),
+        }
+    }
+}
+
+/// The other end of the link of each port of so many nodes.
+fn peers_of(
+    alloc: Global,
+    links: &[(PortRef, PortRef)],
+    nodes: usize,
+) -> Result<Vec<Option<PortRef>>, AllocError>
+    requires { nodes ≤ 256 }
+    ensures { IfOk result (λ peers. HasPeers links.now peers.items) }
+{
+    let mut peers = Vec::new(alloc);
+    for place in 0..16 * nodes {
+        let port = PortRef {
+            node: (place / 16) as u8,
+            port: (place % 16) as u8,
+        };
+        peers.push(peer_in(links, port))?;
+    }
+    Ok(peers)
 }
 
 /// Whether two ports are one.
-pub(crate) fn same_port(p: PortRef, q: PortRef) -> bool
+fn same_port(p: PortRef, q: PortRef) -> bool
     ensures { result ≡ same_port p q }
 {
     p.node == q.node && p.port == q.port
@@ -183,7 +208,8 @@ impl Maint for PlainMaint {
     ghost IsWhole = { λ maint.
         IsTopology (topology_of maint.devices.items maint.links.items maint.host)
         × Fits (topology_of maint.devices.items maint.links.items maint.host)
-        (registers_of maint.devices.items) };
+        (registers_of maint.devices.items)
+        × HasPeers maint.links.items maint.peers.items };
 
     ghost Follows = { λ _ _. Unit {0} };
 

@@ -1,4 +1,4 @@
-use Rattle.std.proofs.Common.{refl, ◌∙◌, arith}
+use Rattle.std.proofs.Common.{refl, ◌∙◌}
 use Rattle.host_enumerate.proofs.Clearing.{has_cleared-none, has_cleared-next, cleared_askable}
 use Rattle.host_enumerate.proofs.setting.clear_entries.Goals as goal
 

@@ -1,5 +1,4 @@
-use Rattle.std.proofs.Common.{rules, ◌∙◌, sym, ap}
-use Rattle.fabric_script.specs.Peers.{peer_in}
+use Rattle.std.proofs.Common.{rules, ◌∙◌, sym}
 use Rattle.host_enumerate.proofs.PlainWalks.{linked-inside, walk-endpoint, walk-discarded, walk-passed}
 use Rattle.host_enumerate.proofs.plain.PlainMaint.+walk.Goals as goal
 
@@ -14,8 +13,8 @@ returns-in_err-port t c =
     c.from_residual-in_err-port.ensures
     ∙ walk-discarded c.args.self.now.devices.items c.args.self.now.links.items
     c.args.self.now.host c.args.dest c.args.hops c.args.from c.in_ok-at.at
-    c.index-device.result.now c.requires (ap (λ l. peer_in l c.args.from) (sym c.as_slice.ensures.value)
-    ∙ (sym c.peer_in.ensures ∙ c.in_ok-at.was)) c.index-device.ensures
+    c.index-device.result.now c.requires.topology (sym c.peer.ensures ∙ c.in_ok-at.was)
+    c.index-device.ensures
     (sym c.if-not-is_switch.ensures) c.if-hops-eq0.false
     (sym c.next_port.ensures.value ∙ c.in_err-port.was)
 
@@ -24,7 +23,7 @@ returns t c =
     c.walk.ensures
     ∙ walk-passed c.args.self.now.devices.items c.args.self.now.links.items
     c.args.self.now.host c.args.dest c.args.hops c.in_ok-port.port c.args.from c.in_ok-at.at
-    c.index-device.result.now c.requires (ap (λ l. peer_in l c.args.from) (sym c.as_slice.ensures.value)
-    ∙ (sym c.peer_in.ensures ∙ c.in_ok-at.was)) c.index-device.ensures
+    c.index-device.result.now c.requires.topology (sym c.peer.ensures ∙ c.in_ok-at.was)
+    c.index-device.ensures
     (sym c.if-not-is_switch.ensures) c.if-hops-eq0.false
     (sym c.next_port.ensures.value ∙ c.in_ok-port.was)

@@ -1,3 +1,6 @@
+use Rattle.std.proofs.Common.{List, arith, subst}
+use Rattle.fabric_script.specs.declared.ports.PortRef.{PortRef}
+use Rattle.host_enumerate.specs.PeerTables.{HasPeers}
 use Rattle.host_enumerate.proofs.NewFabrics.{made_fabric}
 use Rattle.host_enumerate.proofs.plain.PlainMaint.new.Goals as goal
 
@@ -6,8 +9,12 @@ returns-clause-whole c =
     let is = made_fabric c.args.script.now.names.items c.args.script.now.lines.items
     c.in_ok-devised.devised.devices.items c.in_ok-devised.devised.links.items c.args.host
     c.requires.passes c.requires.host c.in_ok-devised.ensures.devices
-    c.in_ok-devised.ensures.links in
-    (is.topology, is.fits)
+    c.in_ok-devised.ensures.links in (
+      is.topology,
+      is.fits,
+      subst (λ (links : List (PortRef × PortRef)). HasPeers links c.in_ok-peers.peers.items)
+          c.as_slice.ensures.value c.in_ok-peers.ensures,
+    )
 
 pub returns-clause-untagged : goal.returns-clause-untagged
 returns-clause-untagged c =
@@ -22,3 +29,11 @@ returns-clause-host_has_id c =
     c.in_ok-devised.devised.devices.items c.in_ok-devised.devised.links.items c.args.host
     c.requires.passes c.requires.host c.in_ok-devised.ensures.devices
     c.in_ok-devised.ensures.links).host_has_id
+
+pub peers_of-requires : goal.peers_of-requires
+peers_of-requires c =
+    let most = (made_fabric c.args.script.now.names.items c.args.script.now.lines.items
+    c.in_ok-devised.devised.devices.items c.in_ok-devised.devised.links.items c.args.host
+    c.requires.passes c.requires.host c.in_ok-devised.ensures.devices
+    c.in_ok-devised.ensures.links).topology.most in
+    let count = c.len.ensures in omega (arith, most, count)
