@@ -1,5 +1,5 @@
 -- A host makes an ask that is answered.
-use Rattle.std.proofs.Common.{◌≡◌, ℕ, ◌+◌, ◌%◌, ◌^◌, ◌<◌, false, List, [], ◌++◌, length, Option, Some, option_map, slice_get, refl, sym, ap, ◌∙◌, subst}
+use Rattle.std.proofs.Common.{◌≡◌, ℕ, ◌+◌, ◌%◌, ◌^◌, ◌<◌, ◌≤◌, arith, false, List, [], ◌++◌, length, Option, Some, option_map, slice_get, refl, sym, ap, ◌∙◌, subst}
 use Rattle.std.proofs.lemmas.Option.{same_Some, slice_get-get_or}
 use Rattle.maint_registers.specs.Devices.{Device, new_endpoint}
 use Rattle.maint_registers.specs.Within.{IsWithin}
@@ -51,11 +51,11 @@ module _ {N K : Type 0} (old : FabricMaint N K) (whole : StandsWhole old) (dest 
 
   -- ---- from any state that the fabric stands for
 
-  devices_at : (t : Seen) → CanAsk old.host t [] old.fabric
-      → t.network.registers ≡ old.fabric.devices.items
+  devices_at : (t : Seen) → CanAsk old.host t [] old.fabric.now
+      → t.network.registers ≡ old.fabric.now.devices.items
   devices_at t can = can.stands.shows.registers
 
-  topology_at : (t : Seen) → CanAsk old.host t [] old.fabric
+  topology_at : (t : Seen) → CanAsk old.host t [] old.fabric.now
       → topology_of t.network.registers t.network.links old.host ≡ topology_in old
   topology_at t can =
       ap (λ (devices : List Device). topology_of devices t.network.links old.host)
@@ -64,7 +64,7 @@ module _ {N K : Type 0} (old : FabricMaint N K) (whole : StandsWhole old) (dest 
       old.host) (sym can.stands.shows.links ∙ whole.rests.can.stands.shows.links)
       ∙ whole.topology
 
-  source_at : (t : Seen) → CanAsk old.host t [] old.fabric
+  source_at : (t : Seen) → CanAsk old.host t [] old.fabric.now
       → source ≡ (registers_of t.network.registers old.host).base_id
   source_at t can = ap (λ (devices : List Device). (registers_of devices old.host).base_id)
       (sym (devices_at t can))
@@ -72,7 +72,7 @@ module _ {N K : Type 0} (old : FabricMaint N K) (whole : StandsWhole old) (dest 
   -- the lines of its ask are those of the access
   pub ask_of : (edits : N → List Edit) (noise : N) (t : Seen) (block : List TraceLine)
       (asked : Request) → asked ≡ request → offset_of access < 2 ^ 24
-      → CanAsk old.host t [] old.fabric → IsAsk old.host asked (edits noise) t block
+      → CanAsk old.host t [] old.fabric.now → IsAsk old.host asked (edits noise) t block
       → IsAskOf edits old.host t old.tid asked block
   ask_of edits noise t block asked is low can ask = record {
     noise = noise;
@@ -86,7 +86,7 @@ module _ {N K : Type 0} (old : FabricMaint N K) (whole : StandsWhole old) (dest 
 
   module _ (at : PortRef)
       (is : IsAnswered (topology_in old) (registers_in old) dest hops access at) where
-    answered_at : (t : Seen) → CanAsk old.host t [] old.fabric
+    answered_at : (t : Seen) → CanAsk old.host t [] old.fabric.now
         → IsAnswered (topology_of t.network.registers t.network.links old.host)
         (registers_of t.network.registers) dest hops access at
     answered_at t can =
@@ -95,7 +95,7 @@ module _ {N K : Type 0} (old : FabricMaint N K) (whole : StandsWhole old) (dest 
         (subst (λ (devices : List Device). IsAnswered (topology_in old) (registers_of devices)
         dest hops access at) (sym (devices_at t can)) is)
 
-    pub inside_at : (t : Seen) → CanAsk old.host t [] old.fabric
+    pub inside_at : (t : Seen) → CanAsk old.host t [] old.fabric.now
         → at.node < length t.network.registers
     inside_at t can = walk-inside
         (topology_of t.network.registers t.network.links old.host)
@@ -103,7 +103,7 @@ module _ {N K : Type 0} (old : FabricMaint N K) (whole : StandsWhole old) (dest 
         (subst IsTopology (sym (topology_at t can)) (has_topology old whole))
         (answered_at t can).ends
 
-    pub trip_at : (t : Seen) → CanAsk old.host t [] old.fabric
+    pub trip_at : (t : Seen) → CanAsk old.host t [] old.fabric.now
         → IsRoundTrip t.network.registers t.network.links old.host request at
     trip_at t can = goes t.network.registers t.network.links old.host source old.tid dest hops
         access at (inside_at t can) (source_at t can) (answered_at t can)
@@ -111,7 +111,7 @@ module _ {N K : Type 0} (old : FabricMaint N K) (whole : StandsWhole old) (dest 
     -- ---- the reply
 
     module _ (before after : Option (List ℕ)) (noise : List Edit) (t : Seen)
-        (can : CanAsk old.host t [] old.fabric) (fabric : Fabric) (response : Response)
+        (can : CanAsk old.host t [] old.fabric.now) (fabric : Fabric) (response : Response)
         (replied : Replied (names_of old) before after old.host request noise t [] fabric
         response) where
       one_port : replied.at ≡ at
@@ -193,7 +193,7 @@ module _ {N K : Type 0} (old : FabricMaint N K) (whole : StandsWhole old) (dest 
 -- the host behind an ask, with the next number
 abbrev pub moved : {N K : Type 0} → FabricMaint N K → Fabric → N → K → ℕ → FabricMaint N K
 moved old fabric noise sink undetected = record old {
-  fabric = fabric;
+  fabric = record old.fabric { now = fabric };
   noise = record old.noise { now = noise };
   sink = record old.sink { now = sink };
   tid = (old.tid + 1) % 256;
@@ -205,10 +205,10 @@ module _ {N K : Type 0} (edits : N → List Edit) (written : K → Option (List 
     (undetected dest hops : ℕ) (access : Access)
     (low : offset_of access < 2 ^ 24) (asked : Request) (response : Response)
     (request_is : asked ≡ request_for (registers_in old old.host).base_id old.tid dest hops access)
-    (replied : (t : Seen) → CanAsk old.host t [] old.fabric → Replied (names_of old)
+    (replied : (t : Seen) → CanAsk old.host t [] old.fabric.now → Replied (names_of old)
     (written old.sink.now) (written sink) old.host asked (edits old.noise.now) t []
     fabric response) where
-  by_request : (t : Seen) → CanAsk old.host t [] old.fabric → Replied (names_of old)
+  by_request : (t : Seen) → CanAsk old.host t [] old.fabric.now → Replied (names_of old)
       (written old.sink.now) (written sink) old.host
       (request_for (registers_in old old.host).base_id old.tid dest hops access)
       (edits old.noise.now) t [] fabric response
@@ -217,7 +217,7 @@ module _ {N K : Type 0} (edits : N → List Edit) (written : K → Option (List 
       (replied t can)
 
   goes_on : (s : Seen) (origin : FabricMaint N K)
-      → RestsAt origin.host s origin.fabric → Went edits written s origin old
+      → RestsAt origin.host s origin.fabric.now → Went edits written s origin old
       → Went edits written s origin (moved old fabric noise sink undetected)
   goes_on s origin rests went =
       let own = replied went.end went.rests.can in
@@ -238,16 +238,18 @@ module _ {N K : Type 0} (edits : N → List Edit) (written : K → Option (List 
       }
 
   -- whoever has followed so far follows on
-  pub asks_on : (origin : FabricMaint N K)
-      → Followed edits written origin old
-      → Followed edits written origin (moved old fabric noise sink undetected)
-  asks_on origin followed = record {
+  pub asks_on : (faults : K → ℕ) (origin : FabricMaint N K)
+      → faults old.sink.now ≤ faults sink → Followed edits written faults origin old
+      → Followed edits written faults origin (moved old fabric noise sink undetected)
+  asks_on faults origin more followed = record {
     same = record {
       script = followed.same.script;
       host = followed.same.host;
+      fabric = followed.same.fabric;
       noise = followed.same.noise;
       sink = followed.same.sink;
     };
+    never_falls = let before = followed.never_falls in omega (arith, before, more);
     went = λ s rests. goes_on s origin rests (followed.went s rests);
   }
 

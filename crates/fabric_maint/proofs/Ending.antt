@@ -127,10 +127,10 @@ module _ {N K : Type 0} (edits : N → List Edit) (written : K → Option (List 
 
     -- whatever came of the lines, they may stand where they do
     lines_at : (given : List Edit) (t : Seen) (block : List TraceLine)
-        → CanAsk old.host t [] old.fabric → IsAsk old.host asked given t block
+        → CanAsk old.host t [] old.fabric.now → IsAsk old.host asked given t block
         → AnswersNothing old.host t block
     lines_at given t block can ask =
-        ask_lines old.host request given at t block old.fabric can short few
+        ask_lines old.host request given at t block old.fabric.now can short few
         (good_request (registers_in old old.host).base_id old.tid dest hops access)
         (trip_at old whole dest hops access at is t can)
         (subst (λ (r : Request). IsAsk old.host r given t block) request_is ask)
@@ -138,10 +138,10 @@ module _ {N K : Type 0} (edits : N → List Edit) (written : K → Option (List 
         few : 0 < 4
         few = omega arith
 
-    leaves_off : (part : (t : Seen) → CanAsk old.host t [] old.fabric → ToldPart (names_of old)
+    leaves_off : (part : (t : Seen) → CanAsk old.host t [] old.fabric.now → ToldPart (names_of old)
         (written old.sink.now) (written sink) old.host asked (edits old.noise.now) t)
         → (s : Seen) (origin : FabricMaint N K)
-        → RestsAt origin.host s origin.fabric → Went edits written s origin old
+        → RestsAt origin.host s origin.fabric.now → Went edits written s origin old
         → Left edits written s origin (moved old fabric noise sink undetected)
     leaves_off part s origin rests went =
         let own = part went.end went.rests.can in
@@ -164,14 +164,18 @@ module _ {N K : Type 0} (edits : N → List Edit) (written : K → Option (List 
         }
 
     -- whoever has followed so far leaves off here
-    pub abandons_at : ((t : Seen) → CanAsk old.host t [] old.fabric → ToldPart (names_of old)
-        (written old.sink.now) (written sink) old.host asked (edits old.noise.now) t)
-        → (origin : FabricMaint N K) → Followed edits written origin old
-        → Abandoned edits written origin (moved old fabric noise sink undetected)
-    abandons_at part origin followed = record {
+    pub abandons_at : (faults : K → ℕ) → ((t : Seen) → CanAsk old.host t [] old.fabric.now
+        → ToldPart (names_of old) (written old.sink.now) (written sink) old.host asked
+        (edits old.noise.now) t)
+        → (origin : FabricMaint N K) → faults old.sink.now ≤ faults sink
+        → Followed edits written faults origin old
+        → Abandoned edits written faults origin (moved old fabric noise sink undetected)
+    abandons_at faults part origin more followed = record {
+      never_falls = let before = followed.never_falls in omega (arith, before, more);
       same = record {
         script = followed.same.script;
         host = followed.same.host;
+        fabric = followed.same.fabric;
         noise = followed.same.noise;
         sink = followed.same.sink;
       };

@@ -4,6 +4,7 @@ mod Carried
 mod Leading
 mod Agreeing
 pub mod Starting
+pub mod Meeting
 mod Making
 mod Owned
 mod Told

@@ -20,9 +20,10 @@ use Rattle.fabric_maint.proofs.Starting.{start_devices, start_links, rests_new}
 
 -- whoever has done nothing has followed
 pub follows_itself : {N K : Type 0} (edits : N → List Edit) (written : K → Option (List ℕ))
-    (maint : FabricMaint N K) → Followed edits written maint maint
-follows_itself edits written maint = record {
-  same = record { script = refl; host = refl; noise = refl; sink = refl };
+    (faults : K → ℕ) (maint : FabricMaint N K) → Followed edits written faults maint maint
+follows_itself edits written faults maint = record {
+  same = record { script = refl; host = refl; fabric = refl; noise = refl; sink = refl };
+  never_falls = omega arith;
   went = λ s rests. record {
     lines = [];
     end = s;
@@ -37,13 +38,13 @@ module _ {N K : Type 0} (maint : FabricMaint N K)
     (passes : Passes (names_of maint) maint.script.now.lines.items)
     (host : IsHost (devices_of maint.script.now.lines.items)
     (links_of maint.script.now.lines.items) maint.host)
-    (stands : Stands (start maint.script.now.lines.items) [] maint.fabric)
-    (named : length maint.fabric.devices.items ≡ length (names_of maint)) where
+    (stands : Stands (start maint.script.now.lines.items) [] maint.fabric.now)
+    (named : length maint.fabric.now.devices.items ≡ length (names_of maint)) where
   pub new_is : IsNewFabric (devices_of maint.script.now.lines.items)
       (links_of maint.script.now.lines.items) maint.host
   new_is = devised_fabric (names_of maint) maint.script.now.lines.items maint.host passes host
 
-  devices_are : maint.fabric.devices.items ≡ devices_of maint.script.now.lines.items
+  devices_are : maint.fabric.now.devices.items ≡ devices_of maint.script.now.lines.items
   devices_are = sym stands.shows.registers ∙ start_devices maint.script.now.lines.items
 
   pub registers_are : registers_in maint ≡ registers_of (devices_of maint.script.now.lines.items)
@@ -59,7 +60,7 @@ module _ {N K : Type 0} (maint : FabricMaint N K)
     named = omega (arith, count);
     few = let most = new_is.topology.most in omega (arith, count, most);
     s = start maint.script.now.lines.items;
-    rests = rests_new (names_of maint) maint.script.now.lines.items maint.host maint.fabric passes
+    rests = rests_new (names_of maint) maint.script.now.lines.items maint.host maint.fabric.now passes
         host stands;
     topology = ap (λ (devices : List Device). topology_of devices
         (start maint.script.now.lines.items).network.links maint.host)

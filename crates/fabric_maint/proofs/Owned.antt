@@ -42,7 +42,7 @@ module _ {N K : Type 0} (old : FabricMaint N K) (whole : StandsWhole old) where
   own_device = host_device old.host whole.s whole.rests.can.laid.host_is
 
   pub own_is : registers_in old old.host ≡ own_device.device
-  own_is = registers_at old.fabric.devices.items old.host own_device.device
+  own_is = registers_at old.fabric.now.devices.items old.host own_device.device
       (subst (λ (devices : List Device). slice_get devices old.host ≡ Some own_device.device)
       whole.rests.can.stands.shows.registers own_device.stands)
 
@@ -169,7 +169,7 @@ module _ (host : ℕ) (t : Seen) (old new : Fabric) (rests : RestsAt host t old)
 
 module _ {N K : Type 0} (old : FabricMaint N K) (whole : StandsWhole old) (fabric : Fabric)
     (offset value : ℕ) (answer : Bool)
-    (written : OwnWritten old.host (own_device old whole).device offset value whole.s [] old.fabric
+    (written : OwnWritten old.host (own_device old whole).device offset value whole.s [] old.fabric.now
     fabric answer) where
   abbrev host : ℕ
   host = old.host
@@ -182,7 +182,7 @@ module _ {N K : Type 0} (old : FabricMaint N K) (whole : StandsWhole old) (fabri
       ≡ after_access (registers_in old) (port_at old.host 0) access
   written_registers access is =
       sym (ap registers_of written.stands.shows.registers)
-      ∙ registers_on host whole.s old.fabric fabric whole.rests (own_device old whole) offset value
+      ∙ registers_on host whole.s old.fabric.now fabric whole.rests (own_device old whole) offset value
       answer written
       ∙ ap (λ (r : Registers). with_one r host (device_with device offset value))
       (ap registers_of whole.rests.can.stands.shows.registers)
@@ -192,34 +192,37 @@ module _ {N K : Type 0} (old : FabricMaint N K) (whole : StandsWhole old) (fabri
       (answered d 0 (Write offset value)).device) (sym (own_is old whole))
       ∙ ap (λ (a : Access). after_access (registers_in old) (port_at old.host 0) a) (sym is)
 
-  pub written_whole : StandsWhole (record old { fabric = fabric })
+  pub written_whole : StandsWhole (record old { fabric = record old.fabric { now = fabric } })
   written_whole = record {
     passes = whole.passes;
     host = whole.host;
     named = whole.named;
     few = whole.few;
     s = seen_with old.host device offset value whole.s;
-    rests = rests_on host whole.s old.fabric fabric whole.rests (own_device old whole) offset value
+    rests = rests_on host whole.s old.fabric.now fabric whole.rests (own_device old whole) offset value
         answer written;
-    topology = topology_on host whole.s old.fabric fabric whole.rests (own_device old whole) offset
+    topology = topology_on host whole.s old.fabric.now fabric whole.rests (own_device old whole) offset
         value answer written whole.s.network.links ∙ whole.topology;
-    fits = fits_on host whole.s old.fabric fabric whole.rests (own_device old whole) offset value
+    fits = fits_on host whole.s old.fabric.now fabric whole.rests (own_device old whole) offset value
         answer written (topology_in old) whole.fits;
   }
 
 -- whoever has followed so far follows on
 pub written_follows : {N K : Type 0} (edits : N → List Edit) (telling : K → Option (List ℕ))
-    (origin old : FabricMaint N K) (fabric : Fabric) (offset value : ℕ) (answer : Bool)
-    → ((t : Seen) (device : Device) → Stands t [] old.fabric
+    (faults : K → ℕ) (origin old : FabricMaint N K) (fabric : Fabric) (offset value : ℕ)
+    (answer : Bool)
+    → ((t : Seen) (device : Device) → Stands t [] old.fabric.now
     → slice_get t.network.registers old.host ≡ Some device
-    → OwnWritten old.host device offset value t [] old.fabric fabric answer)
-    → Followed edits telling origin old
-    → Followed edits telling origin (record old { fabric = fabric })
-written_follows {N} {K} edits telling origin old fabric offset value answer written followed =
+    → OwnWritten old.host device offset value t [] old.fabric.now fabric answer)
+    → Followed edits telling faults origin old
+    → Followed edits telling faults origin (record old { fabric = record old.fabric { now = fabric } })
+written_follows {N} {K} edits telling faults origin old fabric offset value answer written followed =
     record {
+      never_falls = followed.never_falls;
       same = record {
         script = followed.same.script;
         host = followed.same.host;
+        fabric = followed.same.fabric;
         noise = followed.same.noise;
         sink = followed.same.sink;
       };
@@ -227,7 +230,7 @@ written_follows {N} {K} edits telling origin old fabric offset value answer writ
     }
   where
     went_on : (s : Seen) → Went edits telling s origin old
-        → Went edits telling s origin (record old { fabric = fabric })
+        → Went edits telling s origin (record old { fabric = record old.fabric { now = fabric } })
     went_on s went =
         let own = host_device old.host went.end went.rests.can.laid.host_is in
         let wrote = written went.end own.device went.rests.can.stands own.stands in
@@ -235,15 +238,15 @@ written_follows {N} {K} edits telling origin old fabric offset value answer writ
           lines = went.lines;
           end = seen_with old.host own.device offset value went.end;
           asked = Owns went.end (device_with own.device offset value) went.asked
-              (next_kind old.host went.end old.fabric fabric went.rests own offset value answer
+              (next_kind old.host went.end old.fabric.now fabric went.rests own offset value answer
               wrote)
-              (next_within old.host went.end old.fabric fabric went.rests own offset value answer
+              (next_within old.host went.end old.fabric.now fabric went.rests own offset value answer
               wrote) refl;
           leads = leads_own old.host s went.end went.lines (device_with own.device offset value)
-              (next_kind old.host went.end old.fabric fabric went.rests own offset value answer
+              (next_kind old.host went.end old.fabric.now fabric went.rests own offset value answer
               wrote)
               went.leads;
           told = went.told;
-          rests = rests_on old.host went.end old.fabric fabric went.rests own offset value answer
+          rests = rests_on old.host went.end old.fabric.now fabric went.rests own offset value answer
               wrote;
         }

@@ -39,7 +39,7 @@ topology_in maint = topology_of (devices_of maint.script.now.lines.items)
 
 -- the registers of the fabric
 abbrev pub registers_in : {N K : Type 0} → FabricMaint N K → Registers
-registers_in maint = registers_of maint.fabric.devices.items
+registers_in maint = registers_of maint.fabric.now.devices.items
 
 -- The fabric stands for a state in which a host can ask: no packet is in the network, and all links
 -- are at rest.
@@ -56,16 +56,17 @@ pub record StandsWhole {N K : Type 0} (maint : FabricMaint N K) : Type 0 where
   pub named : (topology_in maint).nodes ≤ length (names_of maint)
   pub few : length (names_of maint) ≤ 256
   pub s : Seen
-  pub rests : RestsAt maint.host s maint.fabric
+  pub rests : RestsAt maint.host s maint.fabric.now
   pub topology : topology_of s.network.registers s.network.links maint.host ≡ topology_in maint
   pub fits : Fits (topology_in maint) (registers_of s.network.registers)
 
 -- ---- from one value to a later one
 
--- Script and host are the same, and so are the noise and the sink that are lent.
+-- Script and host are the same, and so are the fabric, the noise and the sink that are lent.
 pub record IsSame {N K : Type 0} (old new : FabricMaint N K) : Type 0 where
   pub script : new.script.now ≡ old.script.now
   pub host : new.host ≡ old.host
+  pub fabric : new.fabric.ghost_name ≡ old.fabric.ghost_name
   pub noise : new.noise.ghost_name ≡ old.noise.ghost_name
   pub sink : new.sink.ghost_name ≡ old.sink.ghost_name
 
@@ -89,13 +90,15 @@ pub record Went {N K : Type 0} (edits : N → List Edit) (written : K → Option
   pub leads : LeadsTo new.host s lines end
   pub told : Appends (written old.sink.now) (written new.sink.now)
       (trace_text (names_of new) lines)
-  pub rests : RestsAt new.host end new.fabric
+  pub rests : RestsAt new.host end new.fabric.now
 
--- From whatever state the first stands for, the host has come to the second.
+-- From whatever state the first stands for, the host has come to the second. The count of write
+-- faults of its sink has not fallen.
 pub record Followed {N K : Type 0} (edits : N → List Edit) (written : K → Option (List ℕ))
-    (old new : FabricMaint N K) : Type 0 where
+    (faults : K → ℕ) (old new : FabricMaint N K) : Type 0 where
   pub same : IsSame old new
-  pub went : (s : Seen) → RestsAt old.host s old.fabric → Went edits written s old new
+  pub never_falls : faults old.sink.now ≤ faults new.sink.now
+  pub went : (s : Seen) → RestsAt old.host s old.fabric.now → Went edits written s old new
 
 -- What was told of an ask that has no answer: nothing, or a front of the text of its lines, which
 -- may stand in a trace behind those before.
@@ -120,11 +123,13 @@ pub record Left {N K : Type 0} (edits : N → List Edit) (written : K → Option
       (trace_text (names_of new) lines ++ bytes)
   pub begun : Begun edits new.host (names_of new) s lines end tid bytes
 
--- From whatever state the first stands for, the host has left off at the second.
+-- From whatever state the first stands for, the host has left off at the second. The count of write
+-- faults of its sink has not fallen.
 pub record Abandoned {N K : Type 0} (edits : N → List Edit) (written : K → Option (List ℕ))
-    (old new : FabricMaint N K) : Type 0 where
+    (faults : K → ℕ) (old new : FabricMaint N K) : Type 0 where
   pub same : IsSame old new
-  pub left : (s : Seen) → RestsAt old.host s old.fabric → Left edits written s old new
+  pub never_falls : faults old.sink.now ≤ faults new.sink.now
+  pub left : (s : Seen) → RestsAt old.host s old.fabric.now → Left edits written s old new
 
 -- The last lines that the sink was told are those of an ask, from a state in which all links were
 -- at rest and every event that was acted on had been sent. In it this port acted on this event,

@@ -25,10 +25,11 @@ shows_kinds maint whole =
 
 -- whoever has come so far may leave off there
 pub abandons : {N K : Type 0} (edits : N → List Edit) (written : K → Option (List ℕ))
-    (origin maint : FabricMaint N K) → Followed edits written origin maint
-    → Abandoned edits written origin maint
-abandons edits written origin maint followed = record {
+    (faults : K → ℕ) (origin maint : FabricMaint N K) → Followed edits written faults origin maint
+    → Abandoned edits written faults origin maint
+abandons edits written faults origin maint followed = record {
   same = followed.same;
+  never_falls = followed.never_falls;
   left = λ s rests.
       let went = followed.went s rests in
       record {

@@ -30,7 +30,7 @@ const FAILED: Answer = Answer {
 /// and the lines of each ask go to a sink.
 #[derive(Drop)]
 pub struct FabricMaint<'a, N, K> {
-    fabric: Fabric,
+    fabric: &'a mut Fabric,
     script: &'a Script,
     host: u8,
     noise: &'a mut N,
@@ -46,7 +46,7 @@ impl<'a, N: Noise, K: Sink> FabricMaint<'a, N, K> {
     /// an ID below 255. It can be asked, and no device has a tag. The first request has the
     /// transaction number 0.
     pub fn new(
-        fabric: Fabric,
+        fabric: &'a mut Fabric,
         script: &'a Script,
         host: u8,
         noise: &'a mut N,
@@ -55,8 +55,8 @@ impl<'a, N: Noise, K: Sink> FabricMaint<'a, N, K> {
         requires passes { Passes script.now.names.items script.now.lines.items }
         requires host { IsHost (devices_of script.now.lines.items) (links_of script.now.lines.items)
             host }
-        requires stands { Stands (start script.now.lines.items) [] fabric }
-        requires named { length fabric.devices.items ≡ length script.now.names.items }
+        requires stands { Stands (start script.now.lines.items) [] fabric.old }
+        requires named { length fabric.old.devices.items ≡ length script.now.names.items }
         ensures topology { ⟦<FabricMaint<'a, N, K> as Maint>⟧.topology result
             ≡ topology_of (devices_of script.now.lines.items) (links_of script.now.lines.items)
             host }
@@ -67,10 +67,11 @@ impl<'a, N: Noise, K: Sink> FabricMaint<'a, N, K> {
             (⟦<FabricMaint<'a, N, K> as Maint>⟧.registers result) }
         ensures host_has_id { (⟦<FabricMaint<'a, N, K> as Maint>⟧.registers result
             (⟦<FabricMaint<'a, N, K> as Maint>⟧.topology result).host).base_id < 255 }
-        ensures rests { RestsAt host (start script.now.lines.items) result.fabric }
+        ensures rests { RestsAt host (start script.now.lines.items) result.fabric.now }
         ensures follows { ⟦<FabricMaint<'a, N, K> as Maint>⟧.Follows result result }
         ensures script { result.script.now ≡ script.now }
         ensures host_is { result.host ≡ host }
+        ensures fabric { result.fabric.ghost_name ≡ fabric.entry.ghost_name }
         ensures noise { result.noise.ghost_name ≡ noise.entry.ghost_name }
         ensures noise_is { result.noise.now ≡ noise.old }
         ensures sink { result.sink.ghost_name ≡ sink.entry.ghost_name }
@@ -124,11 +125,11 @@ impl<'a, N: Noise, K: Sink> Maint for FabricMaint<'a, N, K> {
 
     ghost IsWhole = { StandsWhole };
 
-    ghost Follows = { Followed N.edits K.written };
+    ghost Follows = { Followed N.edits K.written K.faults };
 
-    ghost Leaves = { Abandoned N.edits K.written };
+    ghost Leaves = { Abandoned N.edits K.written K.faults };
 
-    ghost follows_leaves = { abandons N.edits K.written };
+    ghost follows_leaves = { abandons N.edits K.written K.faults };
 
     ghost whole_is_proper = { has_topology };
 

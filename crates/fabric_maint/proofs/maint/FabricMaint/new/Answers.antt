@@ -59,7 +59,7 @@ returns-clause-host_has_id g c =
 pub returns-clause-rests : goal.returns-clause-rests
 returns-clause-rests g c =
     rests_new c.args.script.now.names.items c.args.script.now.lines.items c.args.host
-    c.args.fabric c.requires.passes c.requires.host c.requires.stands
+    c.args.fabric.now c.requires.passes c.requires.host c.requires.stands
 
 pub returns-clause-follows : goal.returns-clause-follows
 returns-clause-follows g c =
@@ -72,13 +72,16 @@ returns-clause-follows g c =
       tid = 0;
       undetected = 0;
     } in
-    follows_itself g.N.Noise.edits g.K.Sink.written maint
+    follows_itself g.N.Noise.edits g.K.Sink.written g.K.Sink.faults maint
 
 pub returns-clause-script : goal.returns-clause-script
 returns-clause-script g c = refl
 
 pub returns-clause-host_is : goal.returns-clause-host_is
 returns-clause-host_is g c = refl
+
+pub returns-clause-fabric : goal.returns-clause-fabric
+returns-clause-fabric g c = refl
 
 pub returns-clause-noise : goal.returns-clause-noise
 returns-clause-noise g c = refl

@@ -71,7 +71,7 @@ returns-in-Ok-clause-answer g c at answers =
     let old = c.args.self.now in
     let is = c.request_for-request.ensures.value
     ∙ ap (λ id. request_for id old.tid c.args.dest c.args.hops c.args.access) c.host_id.ensures in
-    let replied : (t : Seen) → CanAsk old.host t [] old.fabric → Replied (names_of old)
+    let replied : (t : Seen) → CanAsk old.host t [] old.fabric.now → Replied (names_of old)
     (g.K.Sink.written old.sink.now) (g.K.Sink.written c.ask-asked.new.sink) old.host
     c.request_for-request.result (g.N.Noise.edits old.noise.now) t [] c.ask-asked.new.self
     c.in-Ok.response = λ t can. subst (λ (names : List (List ℕ)). Replied names
@@ -89,7 +89,7 @@ returns-in-Ok-clause-registers g c at answers =
     let old = c.args.self.now in
     let is = c.request_for-request.ensures.value
     ∙ ap (λ id. request_for id old.tid c.args.dest c.args.hops c.args.access) c.host_id.ensures in
-    let replied : (t : Seen) → CanAsk old.host t [] old.fabric → Replied (names_of old)
+    let replied : (t : Seen) → CanAsk old.host t [] old.fabric.now → Replied (names_of old)
     (g.K.Sink.written old.sink.now) (g.K.Sink.written c.ask-asked.new.sink) old.host
     c.request_for-request.result (g.N.Noise.edits old.noise.now) t [] c.ask-asked.new.self
     c.in-Ok.response = λ t can. subst (λ (names : List (List ℕ)). Replied names
@@ -108,7 +108,7 @@ returns-in-Ok-clause-whole g c =
     let old = c.args.self.now in
     let is = c.request_for-request.ensures.value
     ∙ ap (λ id. request_for id old.tid c.args.dest c.args.hops c.args.access) c.host_id.ensures in
-    let replied : (t : Seen) → CanAsk old.host t [] old.fabric → Replied (names_of old)
+    let replied : (t : Seen) → CanAsk old.host t [] old.fabric.now → Replied (names_of old)
     (g.K.Sink.written old.sink.now) (g.K.Sink.written c.ask-asked.new.sink) old.host
     c.request_for-request.result (g.N.Noise.edits old.noise.now) t [] c.ask-asked.new.self
     c.in-Ok.response = λ t can. subst (λ (names : List (List ℕ)). Replied names
@@ -125,7 +125,7 @@ returns-in-Ok-clause-follows g c origin followed =
     let old = c.args.self.now in
     let is = c.request_for-request.ensures.value
     ∙ ap (λ id. request_for id old.tid c.args.dest c.args.hops c.args.access) c.host_id.ensures in
-    let replied : (t : Seen) → CanAsk old.host t [] old.fabric → Replied (names_of old)
+    let replied : (t : Seen) → CanAsk old.host t [] old.fabric.now → Replied (names_of old)
     (g.K.Sink.written old.sink.now) (g.K.Sink.written c.ask-asked.new.sink) old.host
     c.request_for-request.result (g.N.Noise.edits old.noise.now) t [] c.ask-asked.new.self
     c.in-Ok.response = λ t can. subst (λ (names : List (List ℕ)). Replied names
@@ -134,7 +134,8 @@ returns-in-Ok-clause-follows g c origin followed =
     c.in-Ok.response) c.as_slice.ensures.value (c.in-Ok.ensures.replied t [] can) in
     asks_on g.N.Noise.edits g.K.Sink.written old c.requires.whole c.ask-asked.new.self
     c.ask-asked.new.noise c.ask-asked.new.sink old.undetected c.args.dest c.args.hops c.args.access
-    c.requires.offset c.request_for-request.result c.in-Ok.response is replied origin followed
+    c.requires.offset c.request_for-request.result c.in-Ok.response is replied g.K.Sink.faults origin
+    c.ask-asked.ensures.never_falls followed
 
 pub returns-in-Ok-clause-undetected : goal.returns-in-Ok-clause-undetected
 returns-in-Ok-clause-undetected g c = refl
@@ -157,7 +158,7 @@ returns-in-Err-clause-leaves g c origin followed =
     c.request_for-request.result is c.as_slice.result.now (g.K.Sink.written old.sink.now)
     (g.K.Sink.written c.ask-asked.new.sink) (g.N.Noise.edits old.noise.now) c.in-Err.end
     (c.in-Err.ensures.ended c.requires.whole.s [] c.requires.whole.rests.can) in
-    let part : (t : Seen) → CanAsk old.host t [] old.fabric → ToldPart (names_of old)
+    let part : (t : Seen) → CanAsk old.host t [] old.fabric.now → ToldPart (names_of old)
     (g.K.Sink.written old.sink.now) (g.K.Sink.written c.ask-asked.new.sink) old.host
     c.request_for-request.result (g.N.Noise.edits old.noise.now) t = λ t can.
     of_end (names_of old) (g.K.Sink.written old.sink.now) (g.K.Sink.written c.ask-asked.new.sink)
@@ -169,7 +170,8 @@ returns-in-Err-clause-leaves g c origin followed =
     abandons_at g.N.Noise.edits g.K.Sink.written old c.requires.whole c.ask-asked.new.self
     c.ask-asked.new.noise c.ask-asked.new.sink c.count_after-self.result c.args.dest c.args.hops
     c.args.access c.requires.offset short c.requires.answered.0 c.requires.answered.1
-    c.request_for-request.result is part origin followed
+    c.request_for-request.result is g.K.Sink.faults part origin
+    c.ask-asked.ensures.never_falls followed
 
 pub returns-in-Err-clause-cause : goal.returns-in-Err-clause-cause
 returns-in-Err-clause-cause g c =

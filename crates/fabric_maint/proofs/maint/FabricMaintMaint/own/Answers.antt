@@ -58,7 +58,7 @@ returns-then-register_write-clause-whole g c =
 
 pub returns-then-register_write-clause-follows : goal.returns-then-register_write-clause-follows
 returns-then-register_write-clause-follows g c origin followed =
-    written_follows g.N.Noise.edits g.K.Sink.written origin c.args.self.now
+    written_follows g.N.Noise.edits g.K.Sink.written g.K.Sink.faults origin c.args.self.now
     c.register_write.new.self c.in-Write.offset c.in-Write.value c.register_write.result
     (λ t device stands at. c.register_write.ensures t [] device stands at) followed
 
@@ -90,6 +90,6 @@ returns-else-register_write-clause-whole g c =
 
 pub returns-else-register_write-clause-follows : goal.returns-else-register_write-clause-follows
 returns-else-register_write-clause-follows g c origin followed =
-    written_follows g.N.Noise.edits g.K.Sink.written origin c.args.self.now
+    written_follows g.N.Noise.edits g.K.Sink.written g.K.Sink.faults origin c.args.self.now
     c.register_write.new.self c.in-Write.offset c.in-Write.value c.register_write.result
     (λ t device stands at. c.register_write.ensures t [] device stands at) followed
