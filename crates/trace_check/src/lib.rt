@@ -45,3 +45,4 @@ pub use laws::{
 };
 pub use lines::{Lack, Step, TraceLine};
 pub use reading::read_trace_line;
+pub use splitting::count_lines;

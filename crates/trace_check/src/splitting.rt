@@ -30,6 +30,21 @@ pub(crate) fn split_input(bytes: &[u8]) -> (&[u8], Option<&[u8]>, u32)
     (bytes, None, lines)
 }
 
+/// How many lines the bytes have. The last may lack its line feed.
+pub fn count_lines(bytes: &[u8]) -> u32
+    requires { length bytes.now ≤ 16777216 }
+    ensures count { result ≡ length (texts_of bytes.now) }
+    ensures few { result ≤ length bytes.now }
+{
+    let mut left = bytes;
+    let mut lines: u32 = 0;
+    while let Some((_, behind)) = next_line(left) {
+        left = behind;
+        lines += 1;
+    }
+    lines
+}
+
 /// The first line without its line feed, and what stands behind it; None if there is no line.
 pub(crate) fn next_line(bytes: &[u8]) -> Option<(&[u8], &[u8])>
     ensures texts { MatchOption result (bytes.now ≡ [])
