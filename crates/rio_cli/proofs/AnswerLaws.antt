@@ -4,20 +4,16 @@ use Rattle.std.specs.Io.KnownBytes.{Appends, Consumes, IsAtEnd, Keeps}
 use Rattle.rio_chars.specs.Faults.{Rose}
 use Rattle.rio_chars.specs.Fronts.{AppendsFront}
 use Rattle.rio_chars.specs.Takings.{ConsumesJust, ConsumesUpTo}
-use Rattle.fabric_script.specs.Known.{of_script, of_set_up}
-use Rattle.fabric_script.proofs.ScriptLaws.{not_refused, refused_once}
 use Rattle.rio_cli.specs.declared.command.Command.{Command}
-use Rattle.rio_cli.specs.declared.command.Command.TheVariants.{Replay, Decode, Check}
-use Rattle.rio_cli.specs.Words.{Asks, AsksSoak}
+use Rattle.rio_cli.specs.declared.command.Command.TheVariants.{Check}
+use Rattle.rio_cli.specs.Words.{Asks}
 use Rattle.rio_cli.specs.declared.refusal.Refusal.{Refusal}
-use Rattle.rio_cli.proofs.WordLaws.{no_bad_word, bad_word_once}
 use Rattle.rio_cli.specs.declared.status.Status.{Status}
 use Rattle.rio_cli.specs.declared.status.Status.TheVariants.{Done, Words, Script, ReadFault, WriteFault, NoMemory, Undetected, TooLong, Locked, Unlawful}
 use Rattle.rio_cli.specs.Inputs.{most_input}
-use Rattle.rio_cli.specs.Outputs.{IsAccepted, IsRefused, IsUnlawful, IsHit, Completes, Exposes, RunsOut, Declines, Gave, OfInput, verdict_text}
+use Rattle.rio_cli.specs.Outputs.{IsRefused, IsUnlawful, IsHit, Completes, Exposes, Meets, RunsOut, Declines, Gave, OfInput, verdict_text}
 use Rattle.trace_check.specs.Outcomes.{HasLawful}
-use Rattle.rio_cli.specs.Checking.{HasTrace, lawful_text}
-use Rattle.trace_check.specs.Inputs.{IsRefused as IsRefusedInput, Hit, NoTrace, set_up_bytes}
+use Rattle.rio_cli.specs.Checking.{lawful_text}
 use Rattle.rio_cli.specs.Messages.{Explains}
 use Rattle.rio_cli.specs.Answers.{Answers, SaysOfBytes, SaysOfInput, IsOther, IsToldOf, TellsRefusal, Refuses, RefusesInput, RefusesBytes}
 
@@ -62,7 +58,8 @@ module _ (command : Command) (l l2 : Option (List ℕ)) (r r' : ℕ) (w : Option
   pub accepts : (answer : Status) → SaysOfInput command answer l l2 r r' w f w' f2
       → (bytes : List ℕ) → l ≡ Some bytes → length bytes ≤ most_input
       → (Declines Script command bytes w w' → ⊥) → ¬ Rose r r' → ¬ Rose f f2
-      → (answer ≡ Done) ⊎ ((answer ≡ Undetected) ⊎ ((answer ≡ Unlawful) ⊎ (answer ≡ NoMemory)))
+      → (answer ≡ Done) ⊎ ((answer ≡ Undetected) ⊎ ((answer ≡ Locked) ⊎ ((answer ≡ Unlawful)
+      ⊎ (answer ≡ NoMemory))))
   accepts Done h bytes e fits never calm calm2 = inl refl
   accepts Words h bytes e fits never calm calm2 = absurd h
   accepts Script h bytes e fits never calm calm2 =
@@ -71,34 +68,36 @@ module _ (command : Command) (l l2 : Option (List ℕ)) (r r' : ℕ) (w : Option
       (subst (λ b. Declines Script command b w w') (gave_all bytes h.bytes l l2 e h.gave) h.holds))
   accepts ReadFault h bytes e fits never calm calm2 = absurd (calm h.0)
   accepts WriteFault h bytes e fits never calm calm2 = absurd (calm2 h.0)
-  accepts NoMemory h bytes e fits never calm calm2 = inr (inr (inr refl))
+  accepts NoMemory h bytes e fits never calm calm2 = inr (inr (inr (inr refl)))
   accepts Undetected h bytes e fits never calm calm2 = inr (inl refl)
   accepts TooLong h bytes e fits never calm calm2 =
       let more = took_more bytes l l2 e h.0 in absurd (omega arith)
-  accepts Locked h bytes e fits never calm calm2 = absurd h
-  accepts Unlawful h bytes e fits never calm calm2 = inr (inr (inl refl))
+  accepts Locked h bytes e fits never calm calm2 = inr (inr (inl refl))
+  accepts Unlawful h bytes e fits never calm calm2 = inr (inr (inr (inl refl)))
 
   -- an input that is not to be carried out
   pub refuses : (answer : Status) → SaysOfInput command answer l l2 r r' w f w' f2
       → (bytes : List ℕ) → l ≡ Some bytes → length bytes ≤ most_input
       → (Completes command bytes w w' → ⊥) → (Exposes command bytes w w' → ⊥)
-      → (Declines Unlawful command bytes w w' → ⊥)
+      → (Meets command bytes w w' → ⊥) → (Declines Unlawful command bytes w w' → ⊥)
       → ¬ Rose r r' → ¬ Rose f f2 → (answer ≡ Script) ⊎ (answer ≡ NoMemory)
-  refuses Done h bytes e fits never either lawful calm calm2 =
+  refuses Done h bytes e fits never either free lawful calm calm2 =
       absurd
       (never (subst (λ b. Completes command b w w') (gave_all bytes h.bytes l l2 e h.gave) h.holds))
-  refuses Words h bytes e fits never either lawful calm calm2 = absurd h
-  refuses Script h bytes e fits never either lawful calm calm2 = inl refl
-  refuses ReadFault h bytes e fits never either lawful calm calm2 = absurd (calm h.0)
-  refuses WriteFault h bytes e fits never either lawful calm calm2 = absurd (calm2 h.0)
-  refuses NoMemory h bytes e fits never either lawful calm calm2 = inr refl
-  refuses Undetected h bytes e fits never either lawful calm calm2 =
+  refuses Words h bytes e fits never either free lawful calm calm2 = absurd h
+  refuses Script h bytes e fits never either free lawful calm calm2 = inl refl
+  refuses ReadFault h bytes e fits never either free lawful calm calm2 = absurd (calm h.0)
+  refuses WriteFault h bytes e fits never either free lawful calm calm2 = absurd (calm2 h.0)
+  refuses NoMemory h bytes e fits never either free lawful calm calm2 = inr refl
+  refuses Undetected h bytes e fits never either free lawful calm calm2 =
       absurd
       (either (subst (λ b. Exposes command b w w') (gave_all bytes h.bytes l l2 e h.gave) h.holds))
-  refuses TooLong h bytes e fits never either lawful calm calm2 =
+  refuses TooLong h bytes e fits never either free lawful calm calm2 =
       let more = took_more bytes l l2 e h.0 in absurd (omega arith)
-  refuses Locked h bytes e fits never either lawful calm calm2 = absurd h
-  refuses Unlawful h bytes e fits never either lawful calm calm2 =
+  refuses Locked h bytes e fits never either free lawful calm calm2 =
+      absurd
+      (free (subst (λ b. Meets command b w w') (gave_all bytes h.bytes l l2 e h.gave) h.holds))
+  refuses Unlawful h bytes e fits never either free lawful calm calm2 =
       absurd
       (lawful
       (subst (λ b. Declines Unlawful command b w w') (gave_all bytes h.bytes l l2 e h.gave) h.holds))
@@ -120,7 +119,7 @@ module _ (command : Command) (l l2 : Option (List ℕ)) (r r' : ℕ) (w : Option
   lengthy NoMemory h bytes e long calm calm2 = inr refl
   lengthy Undetected h bytes e long calm calm2 = absurd (is_too_long bytes h.bytes e long h.gave)
   lengthy TooLong h bytes e long calm calm2 = inl refl
-  lengthy Locked h bytes e long calm calm2 = absurd h
+  lengthy Locked h bytes e long calm calm2 = absurd (is_too_long bytes h.bytes e long h.gave)
   lengthy Unlawful h bytes e long calm calm2 = absurd (is_too_long bytes h.bytes e long h.gave)
 
 -- memory ran out before anything was written, or while the input was carried out

@@ -1,4 +1,7 @@
 pub mod AnswerLaws
+pub mod HostLaws
+pub mod AskLaws
+pub mod NumberingLaws
 pub mod CommandLaws
 pub mod RefusalLaws
 pub mod LineLaws

@@ -1,5 +1,5 @@
 -- A line among the lines of an input.
-use Rattle.std.proofs.Common.{◌≡◌, ℕ, ◌-◌, ◌<◌, ◌+◌, ◌≤◌, zero, suc, true, false, ltb, List, [], ◌∷◌, ◌++◌, codes, map, take, length, get_or, Result, Ok, Err, OnOk, is_ok, if◌then◌else◌, refl, sym, ap, ◌∙◌, subst, append-nil, append_assoc, arith}
+use Rattle.std.proofs.Common.{◌≡◌, ℕ, ◌-◌, ◌<◌, ◌+◌, ◌≤◌, zero, suc, true, false, ltb, List, [], ◌∷◌, ◌++◌, codes, map, take, length, get_or, Result, Ok, Err, OnOk, is_ok, if◌then◌else◌, refl, sym, ap, ◌∙◌, append-nil, append_assoc, arith}
 use Rattle.std.proofs.lemmas.Bool.{le-ltb, lt-ltb}
 use Rattle.rio_chars.specs.Lines.{lines_of}
 use Rattle.rio_cli.specs.Messages.{line_text, excerpt_of, shown_byte}

@@ -10,7 +10,7 @@ use Rattle.rio_cli.specs.declared.command.Command.{Command}
 use Rattle.rio_cli.specs.declared.status.Status.{Status}
 use Rattle.rio_cli.specs.declared.status.Status.TheVariants.{Done, Words, Script, ReadFault, WriteFault, NoMemory, Undetected, TooLong, Locked, Unlawful}
 use Rattle.rio_cli.specs.Inputs.{most_input, Offers, IsFaultless}
-use Rattle.rio_cli.specs.Outputs.{IsAccepted, IsRefused, Completes, Exposes, RunsOut, IsHit, Declines, Breaks, OfInput, refused_words, refused_length, verdict_text}
+use Rattle.rio_cli.specs.Outputs.{IsAccepted, IsRefused, Completes, Exposes, Meets, RunsOut, IsHit, Declines, Breaks, OfInput, refused_words, refused_length, verdict_text}
 use Rattle.rio_cli.specs.Messages.{Explains}
 use Rattle.rio_cli.specs.Soaking.{Soaks, SoaksInto, SoaksFront}
 use Rattle.rio_cli.specs.Words.{Asks, AsksSoak, AreUnknown}
@@ -35,9 +35,9 @@ pub record Ended {S : Type 0} {K : Type 0} (asked : List (List ℕ)) (status : S
   pub other_words : AreUnknown asked → (source_after ≡ source)
       × ((status ≡ Words) ⊎ ((status ≡ WriteFault)
       × AppendsFront (written sink) (written sink_after) refused_words))
-  -- The input was read to its end and carried out, and all was written: to the end, or to the first event that a port
-  -- acted on and that was not sent. Or it is refused or not lawful, and a line says so. A soak reads
-  -- nothing.
+  -- The input was read to its end and carried out, and all was written: to the end, to the first
+  -- event that a port acted on and that was not sent, or to the first device that another host
+  -- holds. Or it is refused or not lawful, and a line says so. A soak reads nothing.
   pub done : status ≡ Done → ((command : Command) × Asks command asked
       × OfInput (left source) (left source_after)
       (λ bytes. Completes command bytes (written sink) (written sink_after)))
@@ -48,6 +48,9 @@ pub record Ended {S : Type 0} {K : Type 0} (asked : List (List ℕ)) (status : S
       (λ bytes. Exposes command bytes (written sink) (written sink_after)))
       ⊎ OfSoak asked source source_after
       (λ seed. SoaksInto seed (written sink) (written sink_after))
+  pub locked : status ≡ Locked → (command : Command) × Asks command asked
+      × OfInput (left source) (left source_after)
+      (λ bytes. Meets command bytes (written sink) (written sink_after))
   pub script : status ≡ Script → (command : Command) × Asks command asked
       × OfInput (left source) (left source_after)
       (λ bytes. Declines Script command bytes (written sink) (written sink_after))
@@ -81,13 +84,13 @@ pub record Ended {S : Type 0} {K : Type 0} (asked : List (List ℕ)) (status : S
   pub no_memory : status ≡ NoMemory → Keeps (written sink) (written sink_after)
       ⊎ ((command : Command) × Asks command asked × OfInput (left source) (left source_after)
       (λ bytes. RunsOut command bytes (written sink) (written sink_after)))
-  pub never : status ≢ Locked
   -- With words that ask for a command and no fault the input decides, unless memory runs out.
   pub accepted : (command : Command) (bytes : List ℕ) → Asks command asked
       → Offers (left source) bytes → IsAccepted command bytes
       → IsFaultless (read_faults source) (read_faults source_after) (write_faults sink)
       (write_faults sink_after)
-      → (status ≡ Done) ⊎ ((status ≡ Undetected) ⊎ ((status ≡ Unlawful) ⊎ (status ≡ NoMemory)))
+      → (status ≡ Done) ⊎ ((status ≡ Undetected) ⊎ ((status ≡ Locked) ⊎ ((status ≡ Unlawful)
+      ⊎ (status ≡ NoMemory))))
   pub refused : (command : Command) (bytes : List ℕ) (line reason : ℕ) → Asks command asked
       → Offers (left source) bytes → IsRefused command bytes line reason
       → IsFaultless (read_faults source) (read_faults source_after) (write_faults sink)
@@ -148,7 +151,8 @@ SaysOfBytes command NoMemory bytes written faults written_after faults_after =
 SaysOfBytes command Undetected bytes written faults written_after faults_after =
     Exposes command bytes written written_after
 SaysOfBytes command TooLong bytes written faults written_after faults_after = ⊥
-SaysOfBytes command Locked bytes written faults written_after faults_after = ⊥
+SaysOfBytes command Locked bytes written faults written_after faults_after =
+    Meets command bytes written written_after
 SaysOfBytes command Unlawful bytes written faults written_after faults_after =
     Declines Unlawful command bytes written written_after
 
@@ -196,7 +200,7 @@ SaysOfInput command TooLong left left_after read read_after written faults writt
     × Appends written written_after refused_length
 SaysOfInput command Locked left left_after read read_after written faults written_after faults_after
     =
-    ⊥
+    OfInput left left_after (λ bytes. Meets command bytes written written_after)
 SaysOfInput command Unlawful left left_after read read_after written faults written_after
     faults_after =
     OfInput left left_after (λ bytes. Declines Unlawful command bytes written written_after)

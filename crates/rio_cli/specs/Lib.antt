@@ -1,5 +1,6 @@
 pub mod Words
 pub mod Inputs
+pub mod Numbering
 pub mod Outputs
 pub mod Statuses
 pub mod Soaking

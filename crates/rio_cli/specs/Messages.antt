@@ -7,6 +7,7 @@ use Rattle.fabric_script.specs.declared.advice.Advice.{Advice}
 use Rattle.rio_cli.specs.declared.answer.Answer.{Answer}
 use Rattle.rio_cli.specs.declared.refusal.Refusal.{Refusal}
 use Rattle.rio_cli.specs.declared.command.Command.{Command}
+use Rattle.rio_cli.specs.declared.command.Command.TheVariants.{Enumerate}
 use Rattle.rio_cli.specs.declared.status.Status.{Status}
 use Rattle.rio_cli.specs.declared.status.Status.TheVariants.{Done, Words, Script, ReadFault, WriteFault, NoMemory, Undetected, TooLong, Locked, Unlawful}
 use Rattle.rio_cli.specs.Texts.{advice_text, reason_text}
@@ -25,6 +26,11 @@ excerpt_of [] = []
 excerpt_of (byte ∷ bytes) = codes ": " ++ map shown_byte (take 80 (byte ∷ bytes))
     ++ (if ltb 80 (length (byte ∷ bytes)) then codes " ..." else [])
 
+-- The same for a command. A host is refused at a line behind the last, whose text the words give.
+abbrev pub citation_of : Command → List ℕ → List ℕ
+citation_of (Enumerate node) [] = codes ": enumerate " ++ node
+citation_of command text = excerpt_of text
+
 -- What is said of a text that is refused for this reason: what in it is to blame, or the reason.
 pub record IsWhy (command : Command) (text : List ℕ) (reason : ℕ) (why : List ℕ) : Type 0 where
   pub advice : Advice
@@ -37,13 +43,13 @@ pub record Explains (command : Command) (bytes : List ℕ) (line reason : ℕ) (
   pub why : List ℕ
   pub is_why : IsWhy command (line_text bytes line) reason why
   pub says : message ≡ codes "rio: line " ++ decimal line ++ codes ": " ++ why
-      ++ excerpt_of (line_text bytes line) ++ codes "\n"
+      ++ citation_of command (line_text bytes line) ++ codes "\n"
 
 -- what is said if no line is refused
 abbrev pub status_text : Status → List ℕ
 status_text Done = []
 status_text Words = codes
-    "rio: usage: rio replay < SCRIPT, rio decode < CHARACTERS, rio check < TRACE, or rio soak NUMBER\n"
+    "rio: usage: rio replay < SCRIPT, rio decode < CHARACTERS, rio check < TRACE, rio enumerate NODE < SCRIPT, or rio soak NUMBER\n"
 status_text Script = codes "rio: the input is refused\n"
 status_text Unlawful = codes "rio: the trace is not lawful\n"
 status_text ReadFault = codes "rio: standard input cannot be read\n"

@@ -12,12 +12,13 @@ use Rattle.rio_chars.specs.declared.chars.Char.{Char}
 use Rattle.trace_check.specs.Inputs.{IsRefused as IsRefusedInput}
 use Rattle.trace_check.specs.Outcomes.{HasUnlawful}
 use Rattle.rio_cli.specs.Checking.{HasTrace, Checks, ChecksFront}
+use Rattle.rio_cli.specs.Numbering.{HasHost, IsRefusedFor, Numbers, FindsLock, NumbersFront}
 use Rattle.rio_cli.specs.Decoding.{SpellsChars, BadWordAt, Decodes, DecodesFront}
 use Rattle.rio_cli.specs.declared.status.Status.{Status}
 use Rattle.rio_cli.specs.declared.status.Status.TheVariants.{Script, Unlawful}
 use Rattle.rio_cli.specs.Inputs.{most_input}
 use Rattle.rio_cli.specs.declared.command.Command.{Command}
-use Rattle.rio_cli.specs.declared.command.Command.TheVariants.{Replay, Decode, Check}
+use Rattle.rio_cli.specs.declared.command.Command.TheVariants.{Replay, Decode, Check, Enumerate}
 
 -- the line that refuses an input, or says that it is not lawful
 abbrev pub verdict_word : Status → List ℕ
@@ -73,12 +74,14 @@ abbrev pub IsAccepted : Command → List ℕ → Type 0
 IsAccepted Replay = SpellsScript
 IsAccepted Decode = λ bytes. (chars : List Char) × SpellsChars bytes chars
 IsAccepted Check = HasTrace
+IsAccepted (Enumerate node) = HasHost node
 
 -- the input is refused, at this line and for this reason
 abbrev pub IsRefused : Command → List ℕ → ℕ → ℕ → Type 0
 IsRefused Replay = RefusedAt
 IsRefused Decode = λ bytes line reason. BadWordAt bytes line × (reason ≡ 1)
 IsRefused Check = IsRefusedInput
+IsRefused (Enumerate node) = IsRefusedFor node
 
 -- the input is carried out, and is not lawful, at this line and for this reason
 abbrev pub IsUnlawful : Command → List ℕ → ℕ → ℕ → Type 0
@@ -96,12 +99,14 @@ abbrev pub Completes : Command → List ℕ → Option (List ℕ) → Option (Li
 Completes Replay = Traces
 Completes Decode = Decodes
 Completes Check = Checks
+Completes (Enumerate node) = Numbers node
 
 -- the input is carried out, and a front of that was written
 abbrev pub CompletesFront : Command → List ℕ → Option (List ℕ) → Option (List ℕ) → Type 0
 CompletesFront Replay = TracesFront
 CompletesFront Decode = DecodesFront
 CompletesFront Check = ChecksFront
+CompletesFront (Enumerate node) = NumbersFront node
 
 -- the input is carried out up to an event that a port acted on and that was not sent, and all was written that the
 -- command writes then
@@ -109,9 +114,16 @@ abbrev pub Exposes : Command → List ℕ → Option (List ℕ) → Option (List
 Exposes Replay = TracesUnsent
 Exposes _ = λ bytes written written_after. ⊥
 
+-- the input is carried out up to a device that another host holds, and all was written that the
+-- command writes then
+abbrev pub Meets : Command → List ℕ → Option (List ℕ) → Option (List ℕ) → Type 0
+Meets (Enumerate node) = FindsLock node
+Meets _ = λ bytes written written_after. ⊥
+
 -- memory ran out while the input was carried out, and so much was written
 abbrev pub RunsOut : Command → List ℕ → Option (List ℕ) → Option (List ℕ) → Type 0
 RunsOut Replay = TracesFront
+RunsOut (Enumerate node) = NumbersFront node
 RunsOut _ = λ bytes written written_after. Keeps written written_after
 
 -- ---- what is the same for all commands

@@ -6,7 +6,7 @@ use Rattle.fabric_script.specs.declared.advice.Advice.TheVariants.{Nothing, Carr
 use Rattle.fabric_script.specs.declared.advice.WordKind.{WordKind}
 use Rattle.fabric_script.specs.declared.advice.WordKind.TheVariants as Kinds
 use Rattle.rio_cli.specs.declared.command.Command.{Command}
-use Rattle.rio_cli.specs.declared.command.Command.TheVariants.{Replay, Decode, Check}
+use Rattle.rio_cli.specs.declared.command.Command.TheVariants.{Replay, Decode, Check, Enumerate}
 
 -- why a line of a script is refused, by the number of the reason, from 0 on; there is no reason 0
 abbrev pub script_reasons : List (List ℕ)
@@ -53,6 +53,7 @@ abbrev pub reason_text : Command → ℕ → List ℕ
 reason_text Replay reason = script_reason reason
 reason_text Decode reason = codes "a word of this line is not a character"
 reason_text Check reason = trace_reason reason
+reason_text (Enumerate node) reason = script_reason reason
 
 -- how a word is spelled
 abbrev pub kind_text : WordKind → List ℕ

@@ -1,20 +1,27 @@
 -- The words after the program's name, each as the bytes of its text.
-use Rattle.std.specs.Prelude.{◌≡◌, ◌<◌, ◌^◌, ℕ, List, [], ◌∷◌, codes}
+use Rattle.std.specs.Prelude.{◌≡◌, ◌<◌, ◌^◌, ℕ, true, List, [], ◌∷◌, codes, ⊤}
 use Rattle.std.specs.Fmt.{decimal}
+use Rattle.fabric_script.specs.Names.{is_name}
 use Rattle.rio_cli.specs.declared.command.Asked.{Asked}
 use Rattle.rio_cli.specs.declared.command.Asked.TheVariants.{Input, Soak}
 use Rattle.rio_cli.specs.declared.command.Command.{Command}
-use Rattle.rio_cli.specs.declared.command.Command.TheVariants.{Replay, Decode, Check}
+use Rattle.rio_cli.specs.declared.command.Command.TheVariants.{Replay, Decode, Check, Enumerate}
 
 -- the words that ask for a command: a row for each
 abbrev pub words_for : Command → List (List ℕ)
 words_for Replay = codes "replay" ∷ []
 words_for Decode = codes "decode" ∷ []
 words_for Check = codes "check" ∷ []
+words_for (Enumerate node) = codes "enumerate" ∷ node ∷ []
+
+-- a node is spelled as a name
+abbrev pub IsNamed : Command → Type 0
+IsNamed (Enumerate node) = is_name node ≡ true
+IsNamed _ = ⊤
 
 -- the words ask for this to be done with the input
 abbrev pub Asks : Command → List (List ℕ) → Type 0
-Asks command words = words ≡ words_for command
+Asks command words = (words ≡ words_for command) × IsNamed command
 
 -- the words that ask for the soak of a number
 abbrev pub soak_words : ℕ → List (List ℕ)

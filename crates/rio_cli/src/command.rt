@@ -1,13 +1,14 @@
 //! What the words after the program's name ask for.
-ghost use Rattle.std.specs.Prelude.{◌≡◌, ◌↔◌, ◌∷◌, [], ℕ, IsTrue, MatchOption, map};
+ghost use Rattle.std.specs.Prelude.{◌≡◌, ◌↔◌, ◌∷◌, [], ℕ, List, IsTrue, MatchOption, map};
 ghost use Rattle.std.specs.String.{string_bytes};
 ghost use Rattle.rio_cli.specs.Words.{AreUnknown, Asks, AsksFor, AsksSoak};
 ghost use Rattle.rio_cli.specs.declared.command.Command.{Command as ACommand};
+ghost use Rattle.rio_cli.specs.declared.command.Command.TheVariants as Commands;
 
-use fabric_script::read_number;
+use fabric_script::{Name, read_name, read_number};
 
 /// What is done with the input.
-#[derive(Clone, Copy, Debug, PartialEq, Eq)]
+#[derive(Debug, Drop)]
 pub enum Command {
     /// A script is carried out.
     Replay,
@@ -15,10 +16,12 @@ pub enum Command {
     Decode,
     /// A trace is checked.
     Check,
+    /// The node of this name numbers the fabric of a script.
+    Enumerate(Name),
 }
 
 /// What the program is asked for.
-#[derive(Clone, Copy, Debug, PartialEq, Eq)]
+#[derive(Debug, Drop)]
 pub(crate) enum Asked {
     /// The input is read, and this is done with it.
     Input(Command),
@@ -50,6 +53,32 @@ fn command_of(words: &[String]) -> Option<Command>
         Some(Command::Decode)
     } else if is_one(words, "check") {
         Some(Command::Check)
+    } else {
+        let node = host_of(words)?;
+        Some(Command::Enumerate(node))
+    }
+}
+
+/// The name of the host that the words ask to number a fabric, if they ask for that.
+fn host_of(words: &[String]) -> Option<Name>
+    ensures { MatchOption result
+        ((node : List ℕ) → ¬ Asks (Commands.Enumerate node) (map string_bytes words.now))
+        (λ node. Asks (Commands.Enumerate node) (map string_bytes words.now)) }
+{
+    match words {
+        [word, node] => host_in(word.as_str(), node.as_str()),
+        _ => None,
+    }
+}
+
+/// The name of the host, if these are the two words of an enumeration.
+fn host_in(word: &str, node: &str) -> Option<Name>
+    ensures { MatchOption result
+        ((name : List ℕ) → ¬ Asks (Commands.Enumerate name) (word.now ∷ node.now ∷ []))
+        (λ name. Asks (Commands.Enumerate name) (word.now ∷ node.now ∷ [])) }
+{
+    if word == "enumerate" {
+        read_name(node.as_bytes())
     } else {
         None
     }

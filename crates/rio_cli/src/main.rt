@@ -20,6 +20,7 @@ mod decode;
 mod laws;
 mod lines;
 mod messages;
+mod numbering;
 mod program;
 mod refusal;
 mod soaking;

@@ -1,6 +1,6 @@
 //! The line of an input that is refused or not lawful, and what is said of it.
 ghost use Rattle.std.specs.Prelude.{◌≡◌, ◌++◌, ℕ, List, IfOk, OnOk, map, take};
-ghost use Rattle.rio_cli.specs.Messages.{line_text, excerpt_of, shown_byte as shown_byte_of, IsWhy, Explains};
+ghost use Rattle.rio_cli.specs.Messages.{line_text, excerpt_of, citation_of, shown_byte as shown_byte_of, IsWhy, Explains};
 
 use crate::command::Command;
 use crate::texts::{push_advice, push_number, reason_text};
@@ -40,8 +40,8 @@ impl Refusal {
         message.extend_from_slice(b"rio: line ")?;
         push_number(&mut message, line)?;
         message.extend_from_slice(b": ")?;
-        push_why(alloc, &mut message, command, text, reason)?;
-        push_excerpt(&mut message, text)?;
+        push_why(alloc, &mut message, &command, text, reason)?;
+        push_citation(&mut message, &command, text)?;
         message.extend_from_slice(b"\n")?;
         Ok(Refusal {
             command,
@@ -56,15 +56,15 @@ impl Refusal {
 fn push_why(
     alloc: Global,
     message: &mut Vec<u8>,
-    command: Command,
+    command: &Command,
     text: &[u8],
     reason: u8,
 ) -> Result<(), AllocError>
-    ensures { OnOk result ((why : List ℕ) × IsWhy command text.now reason why
+    ensures { OnOk result ((why : List ℕ) × IsWhy command.now text.now reason why
         × (message.new.items ≡ message.old.items ++ why)) }
 {
     let advice = match command {
-        Command::Replay | Command::Check => advise(alloc, text, reason),
+        Command::Replay | Command::Check | Command::Enumerate(_) => advise(alloc, text, reason),
         Command::Decode => Advice::Nothing,
     };
     push_advice(message, advice, reason_text(command, reason))
@@ -82,6 +82,20 @@ fn line_at(bytes: &[u8], line: u32) -> &[u8]
         left -= 1;
     }
     b""
+}
+
+/// Adds what is shown of a line: its first bytes, or the words that name a host.
+fn push_citation(message: &mut Vec<u8>, command: &Command, text: &[u8]) -> Result<(), AllocError>
+    ensures { OnOk result
+        (message.new.items ≡ message.old.items ++ citation_of command.now text.now) }
+{
+    match command {
+        Command::Enumerate(node) if text.is_empty() => {
+            message.extend_from_slice(b": enumerate ")?;
+            message.extend_from_slice(node.as_slice())
+        }
+        _ => push_excerpt(message, text),
+    }
 }
 
 /// Adds what is shown of a line, behind a colon: its first bytes.

@@ -21,7 +21,7 @@ pub enum Status {
     Undetected,
     /// The input is too long.
     TooLong,
-    /// A device is locked by another host. It never comes yet.
+    /// A device is locked by another host.
     Locked,
     /// The trace is not lawful.
     Unlawful,

@@ -11,11 +11,11 @@ use rio_chars::write_decimal;
 use std::alloc::AllocError;
 
 /// Why a line is refused, by the number of the reason.
-pub(crate) fn reason_text(command: Command, reason: u8) -> &'static [u8]
-    ensures { result.now ≡ reason_text_of command reason }
+pub(crate) fn reason_text(command: &Command, reason: u8) -> &'static [u8]
+    ensures { result.now ≡ reason_text_of command.now reason }
 {
     match command {
-        Command::Replay => script_reason(reason),
+        Command::Replay | Command::Enumerate(_) => script_reason(reason),
         Command::Decode => b"a word of this line is not a character",
         Command::Check => trace_reason(reason),
     }

@@ -4,7 +4,7 @@ ghost use Rattle.std.specs.String.{string_bytes};
 ghost use Rattle.std.specs.Io.KnownBytes.{Appends, Keeps};
 ghost use Rattle.rio_chars.specs.Takings.{ConsumesUpTo};
 ghost use Rattle.rio_cli.specs.Inputs.{most_input};
-ghost use Rattle.rio_cli.specs.declared.command.Command.TheVariants.{Replay, Decode, Check};
+ghost use Rattle.rio_cli.specs.declared.command.Command.TheVariants.{Replay, Decode, Check, Enumerate};
 ghost use Rattle.rio_cli.specs.declared.status.Status.TheVariants.{Script, Unlawful};
 ghost use Rattle.rio_cli.specs.Checking.{lawful_text};
 ghost use Rattle.rio_cli.specs.Outputs.{verdict_text};
@@ -13,15 +13,17 @@ ghost use Rattle.rio_cli.specs.Answers.{Ended, Refuses, Answers, SaysOfBytes, Sa
 use crate::answer::Answer;
 use crate::command::{Asked, Command, asked_by};
 use crate::decode::{DecodeEnd, decode_chars};
+use crate::numbering::number;
 use crate::refusal::Refusal;
 use crate::soaking::soak;
 use crate::status::Status;
 use crate::words::{CharsEnd, read_chars};
 use fabric_replay::{ReplayEnd, replay};
-use fabric_script::{ScriptEnd, parse};
-use rio_chars::{ReadEnd, Sink, Source, read_all, write_all};
+use fabric_script::{Name, ScriptEnd, parse, parse_set_up};
+use host_enumerate::find_host;
+use rio_chars::{NoMemory, ReadEnd, Sink, Source, read_all, write_all};
 use std::alloc::Global;
-use trace_check::{CheckEnd, check_trace};
+use trace_check::{CheckEnd, check_trace, count_lines};
 
 /// The most bytes of input.
 const MOST_INPUT: usize = 4_194_304;
@@ -114,6 +116,7 @@ fn run_bytes<K: Sink>(alloc: Global, command: Command, bytes: &[u8], sink: &mut 
         Command::Replay => replay_bytes(alloc, bytes, sink),
         Command::Decode => decode_bytes(alloc, bytes, sink),
         Command::Check => check_bytes(alloc, bytes, sink),
+        Command::Enumerate(node) => enumerate_bytes(alloc, node, bytes, sink),
     }
 }
 
@@ -186,6 +189,35 @@ fn check_bytes<K: Sink>(alloc: Global, bytes: &[u8], sink: &mut K) -> Answer
             condemn_line(alloc, command, bytes, unlawful.line, unlawful.reason, sink)
         }
         Err(CheckEnd::NoMemory) => Answer::ended(Status::NoMemory),
+    }
+}
+
+/// Lets the node of a name number the fabric of the set-up lines that the bytes spell.
+fn enumerate_bytes<K: Sink>(alloc: Global, node: Name, bytes: &[u8], sink: &mut K) -> Answer
+    requires { length bytes.now ≤ most_input }
+    ensures says { SaysOfBytes (Enumerate node) result.status bytes.now
+        (K.written sink.old) (K.faults sink.old) (K.written sink.new) (K.faults sink.new) }
+    ensures refuses { RefusesBytes (Enumerate node) result bytes.now
+        (K.written sink.old) (K.written sink.new) }
+    ensures sink { K.faults sink.old ≤ K.faults sink.new }
+    ensures writes { result.status ≢ Status.WriteFault → K.faults sink.new ≡ K.faults sink.old }
+{
+    let script = match parse_set_up(alloc, bytes) {
+        Ok(script) => script,
+        Err(ScriptEnd::Refused(refusal)) => {
+            let command = Command::Enumerate(node);
+            return refuse_line(alloc, command, bytes, refusal.line, refusal.reason, sink);
+        }
+        Err(ScriptEnd::NoMemory) => return Answer::ended(Status::NoMemory),
+    };
+    match find_host(alloc, &script, node.as_slice()) {
+        Ok(Ok(host)) => Answer::ended(number(alloc, &script, host, sink)),
+        Ok(Err(end)) => {
+            let command = Command::Enumerate(node);
+            let line = count_lines(bytes) + 1;
+            refuse_line(alloc, command, bytes, line, end.reason().number(), sink)
+        }
+        Err(NoMemory) => Answer::ended(Status::NoMemory),
     }
 }
 

@@ -1,4 +1,4 @@
-use Rattle.std.proofs.Common.{◌≡◌, length, map, sym, ap, ◌∙◌, rules, tests, arith}
+use Rattle.std.proofs.Common.{length, sym, ap, ◌∙◌, rules, tests}
 use Rattle.std.proofs.lemmas.List.{length-map}
 use Rattle.std.proofs.lemmas.Iterator.Consumers.{YieldsList-turn, YieldsList-end}
 use Rattle.rio_cli.proofs.WordLaws.{lines-road}

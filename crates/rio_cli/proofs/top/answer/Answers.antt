@@ -4,7 +4,7 @@ use Rattle.rio_cli.specs.declared.command.Command.{Command}
 use Rattle.rio_cli.specs.declared.status.Status.TheVariants.{Done, Words, Script, ReadFault, WriteFault, NoMemory, Undetected, TooLong, Locked, Unlawful}
 use Rattle.rio_cli.specs.Answers.{Ended, SaysOfInput}
 use Rattle.rio_cli.proofs.AnswerLaws.{says_at, accepts, refuses, lengthy, no_other, refusal_told, refusal_failed, refusal_either, took_none, ran_out, Refuses-input}
-use Rattle.rio_cli.proofs.CommandLaws.{same_command, accepted_stays, refused_stays, refused_is_not_exposed, refused_is_not_unlawful, reads_or_soaks}
+use Rattle.rio_cli.proofs.CommandLaws.{same_command, accepted_stays, refused_stays, refused_is_not_exposed, refused_is_not_met, refused_is_not_unlawful, reads_or_soaks}
 use Rattle.rio_cli.specs.Words.{AsksFor}
 use Rattle.rio_cli.proofs.SoakLaws.{soak_at, soak_ends}
 use Rattle.rio_cli.proofs.top.answer.Goals as goal
@@ -31,6 +31,7 @@ returns-in-Some-Input g c =
         done = λ e. inl (command, known, says_at command _ _ _ _ _ _ _ _ answer Done h e);
         undetected =
             λ e. inl (command, known, says_at command _ _ _ _ _ _ _ _ answer Undetected h e);
+        locked = λ e. (command, known, says_at command _ _ _ _ _ _ _ _ answer Locked h e);
         script = λ e. (command, known, says_at command _ _ _ _ _ _ _ _ answer Script h e);
         unlawful = λ e. (command, known, says_at command _ _ _ _ _ _ _ _ answer Unlawful h e);
         too_long =
@@ -46,7 +47,6 @@ returns-in-Some-Input g c =
         never_falls = (c.run_input.ensures.source, c.run_input.ensures.sink);
         no_memory = λ e. ran_out command words _ _ _ _ known
             (says_at command _ _ _ _ _ _ _ _ answer NoMemory h e);
-        never = λ e. says_at command _ _ _ _ _ _ _ _ answer Locked h e;
         accepted =
             λ k bytes is has ok calm. accepts k _ _ _ _ _ _ _ _ answer
             (subst As (same_command command k words known is) h) bytes has.told has.within
@@ -56,6 +56,7 @@ returns-in-Some-Input g c =
             (subst As (same_command command k words known is) h) bytes has.told has.within
             (refused_stays k bytes line reason w w' not_ok)
             (refused_is_not_exposed k bytes line reason w w' not_ok)
+            (refused_is_not_met k bytes line reason w w' not_ok)
             (refused_is_not_unlawful k bytes line reason w w' not_ok) calm.reads calm.writes;
         longer =
             λ k bytes is e long calm. lengthy command _ _ _ _ _ _ _ _ answer h bytes e long
@@ -92,6 +93,7 @@ returns-in-Some-Soak g c =
         unread = refl;
         holds = soak_at seed _ _ _ _ status Undetected h e;
       });
+      locked = λ e. absurd (soak_at seed _ _ _ _ status Locked h e);
       script = λ e. absurd (soak_at seed _ _ _ _ status Script h e);
       unlawful = λ e. absurd (soak_at seed _ _ _ _ status Unlawful h e);
       too_long = λ e. absurd (soak_at seed _ _ _ _ status TooLong h e);
@@ -105,7 +107,6 @@ returns-in-Some-Soak g c =
       writes_counted = c.soak.ensures.writes;
       never_falls = (omega arith, c.soak.ensures.sink);
       no_memory = λ e. inl (soak_at seed _ _ _ _ status NoMemory h e);
-      never = λ e. soak_at seed _ _ _ _ status Locked h e;
       accepted = λ k bytes is. absurd (reads_or_soaks k seed words is known);
       refused = λ k bytes line reason is. absurd (reads_or_soaks k seed words is known);
       longer = λ k bytes is. absurd (reads_or_soaks k seed words is known);
@@ -133,6 +134,7 @@ returns-in-None g c =
       other_words = λ u. (refl, refusal_either _ _ _ _ _ _ _ h);
       done = λ e. absurd (no_other _ _ _ _ _ _ _ Done (λ t. cc) (λ t. cc) h e);
       undetected = λ e. absurd (no_other _ _ _ _ _ _ _ Undetected (λ t. cc) (λ t. cc) h e);
+      locked = λ e. absurd (no_other _ _ _ _ _ _ _ Locked (λ t. cc) (λ t. cc) h e);
       script = λ e. absurd (no_other _ _ _ _ _ _ _ Script (λ t. cc) (λ t. cc) h e);
       unlawful = λ e. absurd (no_other _ _ _ _ _ _ _ Unlawful (λ t. cc) (λ t. cc) h e);
       too_long = λ e. absurd (no_other _ _ _ _ _ _ _ TooLong (λ t. cc) (λ t. cc) h e);
@@ -144,7 +146,6 @@ returns-in-None g c =
       writes_counted = c.write_answer.ensures.writes;
       never_falls = (omega arith, c.write_answer.ensures.sink);
       no_memory = λ e. absurd (no_other _ _ _ _ _ _ _ NoMemory (λ t. cc) (λ t. cc) h e);
-      never = λ e. no_other _ _ _ _ _ _ _ Locked (λ t. cc) (λ t. cc) h e;
       accepted = λ k bytes is. absurd (other.0 k is);
       refused = λ k bytes line reason is. absurd (other.0 k is);
       longer = λ k bytes is. absurd (other.0 k is);
