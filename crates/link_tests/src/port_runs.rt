@@ -2,7 +2,6 @@
 //! answer alike afterwards. Nothing is compared with a table here; the other tests do that.
 ghost use Rattle.std.specs.Prelude.{◌<◌};
 
-use crate::port::put;
 use arrayvec::ArrayVec;
 use link_model::{end_of_packet, link_request, packet_accepted, packet_retry, start_of_packet};
 use link_port::{OutKind, Port, PortFace, Taken};
@@ -58,6 +57,14 @@ fn a_run_does_what_its_characters_do_wherever_it_is_cut(rt: HostRuntime) {
             run.sent.as_slice() == one.sent.as_slice(),
             "sent after {cut}"
         );
+    }
+}
+
+/// A packet is to be sent.
+fn put(port: &mut Port) {
+    let packet = Packet::default();
+    if port.out_room(packet.prio()) {
+        port.out_put(packet);
     }
 }
 
