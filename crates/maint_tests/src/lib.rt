@@ -1,0 +1,10 @@
+//! A host that numbers a ring over links whose wires are changed, as tests: each tries public calls
+//! of `fabric_maint` and of crates below it. The expected values are worked by hand, and come from
+//! outside code too.
+//!
+//! They stand apart from the crates that they try, since the prover takes the code of a crate once
+//! more with the tests that stand in it.
+#![tactic(auto)]
+
+#[cfg(test)]
+mod noise;
