@@ -32,14 +32,14 @@ fn numbered(alloc: Global, edits: Vec<Edit>) -> Result<Result<Map, EnumEnd>, Fai
     let Ok(Ok(host)) = find_host(alloc, &script, b"H") else {
         return Err(Fail::from("no host"));
     };
-    let Ok(fabric) = Fabric::new(alloc, &script) else {
+    let Ok(mut fabric) = Fabric::new(alloc, &script) else {
         return Err(Fail::from("no memory"));
     };
     let Ok(mut sink) = MemSink::new(alloc, 4_000_000, 65_536, Vec::new(alloc)) else {
         return Err(Fail::from("no memory"));
     };
     let mut noise = ListNoise::new(edits);
-    let mut maint = FabricMaint::new(fabric, &script, host, &mut noise, &mut sink);
+    let mut maint = FabricMaint::new(&mut fabric, &script, host, &mut noise, &mut sink);
     Ok(enumerate(alloc, &mut maint))
 }
 
