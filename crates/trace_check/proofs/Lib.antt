@@ -27,3 +27,5 @@ pub mod Reaching
 pub mod LineIn
 pub mod Once
 pub mod Telling
+pub mod ExpectLaws
+pub mod LackLaws

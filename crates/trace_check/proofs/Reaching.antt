@@ -12,21 +12,13 @@ use Rattle.fabric_trace.specs.Wires.{WireChars}
 use Rattle.fabric_trace.proofs.Keeping.{steps_of-append}
 use Rattle.trace_check.specs.Checks.{freed, HasCome, IsAllowed, IsStep, MaySend, net_after, OnWires, Passes}
 use Rattle.trace_check.specs.Lawful.{Fault, NoStep, NotAllowed, NotCome, NotThere, OffWire, Stands}
+use Rattle.trace_check.specs.Reaches.{IsRun, Reaches}
 use Rattle.trace_check.specs.Running.{MayFree, MayHold, PortRun}
 use Rattle.trace_check.specs.States.{FreeMayBe, HoldMayBe, reached_after, Reached, StandsAt, unreached}
-use Rattle.trace_check.specs.Wires.{are_short, told_wires, wires_after}
+use Rattle.trace_check.specs.Wires.{are_short, told_wires}
 use Rattle.trace_check.proofs.Behind.{wires_on}
 use Rattle.trace_check.proofs.Exclusive.{wires_alike}
-use Rattle.trace_check.proofs.Running.{HoldsFit, IsRun, may_hold, new_is, run_on}
-
--- So much is reached behind these lines, with others behind them.
-pub record Reaches (nodes : ℕ) (net : Network) (before behind : List TraceLine) (r : Reached) :
-    Type 0 where
-  pub nodes_are : r.nodes ≡ nodes
-  pub net_is : r.net ≡ net_after net before
-  pub links_are : r.net.links ≡ net.links
-  pub wires_are : r.wires ≡ wires_after net.links (λ p. []) before behind
-  pub runs_are : (p : PortRef) → IsRun p before (r.runs p)
+use Rattle.trace_check.proofs.Running.{HoldsFit, may_hold, new_is, run_on}
 
 pub start_behind : (nodes : ℕ) (net : Network) (behind : List TraceLine)
     → Reaches nodes net [] behind (unreached nodes net)

@@ -21,8 +21,9 @@ use Rattle.fabric_trace.specs.Frees.{frees_by}
 use Rattle.fabric_trace.proofs.Coming.{numbered-append}
 use Rattle.fabric_trace.proofs.Folding.{says_none}
 use Rattle.fabric_trace.proofs.HoldsRead.{got-append, holds-append}
-use Rattle.fabric_trace.specs.Allowance.{allowance, raised_all}
+use Rattle.fabric_trace.specs.Allowance.{raised_all}
 use Rattle.trace_check.specs.Checks.{freed, unheld, HasCome}
+use Rattle.trace_check.specs.Reaches.{IsRun}
 use Rattle.trace_check.specs.Running.{Come, packets_of, behind_packet, PortRun, new_run, hears, holds_one, frees_one, port_after, MayHold}
 use Rattle.fabric_trace.proofs.Raising.{raised-append}
 
@@ -50,15 +51,6 @@ behind_is ack packet (Pkt b q ∷ events) =
     ]
 
 -- ---- of a port, after lines
-
-pub record IsRun (p : PortRef) (before : List TraceLine) (run : PortRun) : Type 0 where
-  pub place : run.place ≡ place_after start (got p before)
-  pub next : run.next ≡ length (holds p before) % 32
-  pub freed_is : run.freed ≡ freed p before
-  pub allowed : run.allowed ≡ allowance (got p before)
-  pub left : List Event
-  pub found : unheld p before ≡ Some left
-  pub packets : run.unheld ≡ packets_of left
 
 pub new_is : (p : PortRef) → IsRun p [] new_run
 new_is p = record {

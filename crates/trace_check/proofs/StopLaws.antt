@@ -10,12 +10,13 @@ use Rattle.trace_check.specs.Checks.{Passes, PassAll}
 use Rattle.trace_check.specs.Inputs.{texts_ahead, texts_of}
 use Rattle.trace_check.specs.Lawful.{as_behind, Behind, Fault, fault_number, Hits, HitsNext, is_last, IsLawful, IsUnlawful, NoForm, NotCome, PassFront, SpellAll, SpellFront}
 use Rattle.trace_check.specs.Outcomes.{Reads}
+use Rattle.trace_check.specs.Reaches.{Reaches}
 use Rattle.trace_check.specs.States.{fault_of, IsReached, reached_after, Reached, StandsAt, unreached}
 use Rattle.trace_check.specs.Wires.{are_short}
 use Rattle.trace_check.specs.Words.{SpellsLine}
 use Rattle.trace_check.proofs.Behind.{text_short}
 use Rattle.trace_check.proofs.Fronts.{pass_more}
-use Rattle.trace_check.proofs.Reaching.{Reaches, on_behind, other_behind, passes_so, stands_by, stands_so, start_behind}
+use Rattle.trace_check.proofs.Reaching.{on_behind, other_behind, passes_so, stands_by, stands_so, start_behind}
 
 -- how many bytes are left, and one more if a line is there
 abbrev pub left_ahead : Option (Bor (List ℕ) × Bor (List ℕ)) → ℕ

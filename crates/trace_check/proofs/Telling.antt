@@ -74,7 +74,7 @@ same_lines number known (text ∷ texts) a b end end' orderly one other =
     one other
 
 module _ (bytes : List ℕ) where
-  accepted_orderly : (lines : List Numbered) (known : Known) → IsAccepted bytes lines known
+  pub accepted_orderly : (lines : List Numbered) (known : Known) → IsAccepted bytes lines known
       → IsOrderly known
   accepted_orderly lines known is =
       let end = spelled_orderly 1 (nothing_in of_set_up) (pieces_of (set_up_bytes bytes)) lines
@@ -101,7 +101,7 @@ module _ (bytes : List ℕ) where
       (same.0, same.1, cc)
 
   -- what is so of one input is so of the other
-  moved : (Of : List Numbered → Known → List (List ℕ) → Type 0) (lines lines' : List Numbered)
+  pub moved : (Of : List Numbered → Known → List (List ℕ) → Type 0) (lines lines' : List Numbered)
       (known known' : Known) (texts texts' : List (List ℕ)) → IsInput bytes lines known texts
       → IsInput bytes lines' known' texts' → Of lines' known' texts' → Of lines known texts
   moved Of lines lines' known known' texts texts' one other so =
@@ -146,7 +146,7 @@ module _ (bytes : List ℕ) where
       not_refused of_set_up (set_up_bytes bytes) is.end.names lines line reason
       (is.end, refl, is.spelled) refused
 
-  not_input : (line reason : ℕ) (lines : List Numbered) (known : Known) (texts : List (List ℕ))
+  pub not_input : (line reason : ℕ) (lines : List Numbered) (known : Known) (texts : List (List ℕ))
       → IsRefused bytes line reason → IsInput bytes lines known texts → ⊥
   not_input line reason lines known texts (Hit refused) input =
       not_hit lines known line reason input.accepted refused

@@ -8,6 +8,8 @@ pub mod Reads
 pub mod Inputs
 pub mod Tables
 pub mod States
+pub mod Reaches
+pub mod Expecting
 pub mod Networks
 pub mod Sending
 pub mod Starting

@@ -51,6 +51,13 @@ impl Checker {
         self.steps
     }
 
+    /// What the lines left.
+    pub(crate) fn state(&self) -> &State
+        ensures { result.now ≡ self.now.state }
+    {
+        &self.state
+    }
+
     /// Takes a line in, and tells the least reason that hits it, apart from its form. `short` tells
     /// whether the next line says that a wire is too short. After a fault no further line is to be
     /// taken in.

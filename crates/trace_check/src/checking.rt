@@ -126,7 +126,7 @@ fn check_lines(alloc: Global, set_up: &SetUp, bytes: &[u8], first: u32) -> Resul
 }
 
 /// Whether a line says that a wire is too short.
-fn is_short(line: Option<(&[u8], &[u8])>) -> bool
+pub(crate) fn is_short(line: Option<(&[u8], &[u8])>) -> bool
     ensures { result ≡ are_short (as_behind (texts_ahead line.entry)) }
 {
     match line {
@@ -152,7 +152,7 @@ fn number_of(fault: Option<Fault>) -> Option<u8>
 impl Checker {
     /// Takes the text of a line in, and tells the least reason that hits it. `short` tells whether
     /// the next line says that a wire is too short.
-    fn read(
+    pub(crate) fn read(
         &mut self,
         alloc: Global,
         set_up: &SetUp,

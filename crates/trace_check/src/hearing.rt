@@ -5,6 +5,7 @@ ghost use Rattle.rio_symbols.specs.Fields.{Fields};
 ghost use Rattle.link_model.specs.declared.event.Event.{Event as AnEvent};
 ghost use Rattle.link_model.specs.declared.event.Event.TheVariants.{Ctl as ACtl};
 ghost use Rattle.fabric_trace.specs.Allowance.{raised};
+ghost use Rattle.trace_check.specs.Expecting.{first_with};
 ghost use Rattle.trace_check.specs.Running.{new_run, run_of, hears, notes, told_events, packet_in, MayHold, MayFree, holds_one, frees_one};
 
 use rio_chars::Char;
@@ -84,6 +85,31 @@ impl Hearing {
             }
         }
         false
+    }
+
+    /// The ackID of the next packet to be held.
+    pub(crate) fn next(&self) -> u8
+        ensures { result ≡ (run_of self.now).next }
+    {
+        self.next
+    }
+
+    /// The first packet that came with this ackID behind the last one held.
+    pub(crate) fn first(&self) -> Option<Packet>
+        ensures { result ≡ first_with (run_of self.now).next (run_of self.now).unheld }
+    {
+        let next = self.next;
+        match self.unheld.iter().find(|came| came.0 == next) {
+            Some((_, packet)) => Some(packet.copy()),
+            None => None,
+        }
+    }
+
+    /// How many packets the port may free in all.
+    pub(crate) fn allowed(&self) -> u64
+        ensures { result ≡ (run_of self.now).allowed }
+    {
+        self.allowed
     }
 
     /// The port frees a packet, if it may.

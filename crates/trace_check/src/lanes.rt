@@ -49,6 +49,17 @@ impl Lanes {
         self.lanes[usize::from(prio)].pop_front()
     }
 
+    /// The first packet of a priority.
+    pub(crate) fn first(&self, prio: u8) -> Option<Packet>
+        requires { prio < 4 }
+        ensures { result ≡ slice_get (list_at self.now prio) 0 }
+    {
+        match self.lanes[usize::from(prio)].front() {
+            Some(packet) => Some(packet.copy()),
+            None => None,
+        }
+    }
+
     /// Takes a packet away that is the first of its priority, and tells whether it is.
     pub(crate) fn take_first(&mut self, packet: &Packet) -> bool
         ensures first { IsTrue result

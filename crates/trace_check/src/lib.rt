@@ -3,13 +3,15 @@
 //! Promised: what a lawful trace is, apart from any code, and laws of it. Every trace of a script
 //! is lawful, but for its form; the steps of a lawful trace are legal; a text spells one line at
 //! most. And what is lawful is decided: [`check_trace`] tells the steps of a trace exactly if it is
-//! lawful, and else the first line that a reason hits, with the least reason that hits it.
+//! lawful, and else the first line that a reason hits, with the least reason that hits it. Then
+//! [`expect`] tells what would have been lawful there.
 //!
 //! - `Words`, in `specs`: the words of each line of a trace, and which lines there are;
 //! - `Checks`, `Wires`: what holds at each line, by the lines before it and the one behind;
 //! - `Lawful`: which texts are a lawful trace, and which line of others a reason first hits;
 //! - `Running`, `States`: what is enough to be known of a port, and of all behind the lines before;
-//! - `Outcomes`: what is told of an input.
+//! - `Outcomes`: what is told of an input;
+//! - `Reaches`, `Expecting`: what the lines before a line reach, and what they let it be.
 //!
 //! [`check_trace`] checks a script of set-up lines and a trace. It takes memory for the lines of
 //! set-up, the ports, the packets and characters that are on their way, and the packets that came
@@ -19,6 +21,7 @@
 mod building;
 mod checker;
 mod checking;
+mod expecting;
 mod fields;
 mod hearing;
 mod keywords;
@@ -33,11 +36,10 @@ mod reading;
 mod sending;
 mod splitting;
 mod state;
-#[cfg(test)]
-mod tests;
 mod undetected;
 
 pub use checking::{CheckEnd, Unlawful, check_trace};
+pub use expecting::{Expected, expect};
 pub use fields::LineEnd;
 pub use laws::{
     every_trace_is_lawful, lawful_or_unlawful, lawful_traces_are_legal, one_trace_line,

@@ -5,6 +5,7 @@ ghost use Rattle.link_wires.specs.Wires.{fits};
 ghost use Rattle.fabric_trace.specs.Fold.{changed};
 ghost use Rattle.rio_chars.specs.declared.chars.Char.{Char as AChar};
 
+use arrayvec::ArrayVec;
 use link_wires::Edit;
 use rio_chars::Char;
 use std::alloc::{AllocError, Global};
@@ -42,6 +43,24 @@ impl CharQueue {
         ensures some { result ≡ false → self.now ≡ [] → ⊥ }
     {
         self.chars.is_empty()
+    }
+
+    /// How many characters there are.
+    pub(crate) fn len(&self) -> usize
+        ensures { result ≡ length self.now }
+    {
+        self.chars.len()
+    }
+
+    /// The first characters, at most eight.
+    pub(crate) fn front(&self) -> ArrayVec<Char, 8>
+        ensures { result.items ≡ take 8 self.now }
+    {
+        let mut front = ArrayVec::new();
+        for i in 0..self.chars.len().min(8) {
+            front.push(self.chars[i]);
+        }
+        front
     }
 
     /// Puts characters at the end.

@@ -1,11 +1,16 @@
 //! What the lines of a trace leave of a fabric, and which of its steps and signs may follow.
 
-ghost use Rattle.std.specs.Prelude.{◌≡◌, ◌↔◌, [], false, Bool, IfOk, IsTrue};
-ghost use Rattle.fabric_trace.specs.Fold.{edit_of};
+ghost use Rattle.std.specs.Prelude.{◌≡◌, ◌↔◌, [], false, option_map, unwrap_or, Bool, Some, IfOk, IsTrue, MatchOption};
+ghost use Rattle.std.specs.Option.{option_copied};
+ghost use Rattle.fabric_model.specs.Network.{first_packet};
+ghost use Rattle.fabric_trace.specs.Fold.{edit_of, says};
 ghost use Rattle.fabric_trace.specs.Lines.{Begun, Fired as AFired, Got as AGot, Sent as ASent, Signed, Stepped};
+ghost use Rattle.trace_check.specs.Checks.{MaySend};
+ghost use Rattle.trace_check.specs.Expecting.{OneIsLacked, wire_to};
 ghost use Rattle.trace_check.specs.Lawful.{fault_number};
 ghost use Rattle.trace_check.specs.Networks.{IsStepOf};
 ghost use Rattle.trace_check.specs.Reads.{step_of};
+ghost use Rattle.trace_check.specs.Running.{run_of};
 ghost use Rattle.trace_check.specs.Starting.{IsBegun, net_of, nodes_of};
 ghost use Rattle.trace_check.specs.States.{Checks, fault_of, Frees, Holds, IsEditIn, IsLeast, IsReached, Reached, StandsAt, unreached};
 ghost use Rattle.trace_check.specs.Tables.{IsIn};
@@ -135,6 +140,44 @@ impl State {
         }
     }
 
+    /// The wire of a port.
+    pub(crate) fn wire(&self, port: PortRef) -> Option<&CharQueue>
+        ensures { (r : Reached) → IsReached r self.now → IsIn r.nodes port
+            → option_copied result ≡ Some (r.wires port) }
+    {
+        self.wires.get(place_of(port))
+    }
+
+    /// The wire to a port.
+    pub(crate) fn wire_to(&self, port: PortRef) -> Option<&CharQueue>
+        ensures { (r : Reached) → IsReached r self.now → IsIn r.nodes port
+            → unwrap_or (option_copied result) [] ≡ wire_to r port }
+    {
+        match self.links.peer(port) {
+            Some(peer) => self.wire(peer),
+            None => None,
+        }
+    }
+
+    /// What a port has got.
+    pub(crate) fn hearing(&self, port: PortRef) -> Option<&Hearing>
+        ensures { (r : Reached) → IsReached r self.now → IsIn r.nodes port
+            → option_map run_of (option_copied result) ≡ Some (r.runs port) }
+    {
+        self.hearings.get(place_of(port))
+    }
+
+    /// The priority of a packet in characters that a port does not have to send, and the first
+    /// packet of this priority that waits there.
+    pub(crate) fn lacking(&self, port: PortRef, chars: &[Char]) -> Option<(u8, Option<Packet>)>
+        ensures { (r : Reached) → IsReached r self.now → IsIn r.nodes port
+            → MatchOption result (MaySend r.net (Signed (ASent port chars.now)))
+            (λ found. OneIsLacked r.net port found.0 (says chars.now)
+            × (found.1 ≡ first_packet (r.net.waiting port found.0))) }
+    {
+        self.network.lacking(port, chars)
+    }
+
     /// Whether no character is on the wire of a port.
     fn is_empty(&self, port: PortRef) -> bool
         ensures { (r : Reached) → IsReached r self.now → IsIn r.nodes port
@@ -194,7 +237,7 @@ impl State {
 }
 
 /// The change that an event line makes of the wire of a port.
-fn edit_of(line: &Line) -> Option<(PortRef, Edit)>
+pub(crate) fn edit_of(line: &Line) -> Option<(PortRef, Edit)>
     ensures { result ≡ edit_of line.now }
 {
     match line {

@@ -1,4 +1,3 @@
-use Rattle.std.proofs.Common.{ℕ}
 use Rattle.trace_check.proofs.NewState.{AreNew}
 use Rattle.trace_check.proofs.state.State.new.Given as goal
 

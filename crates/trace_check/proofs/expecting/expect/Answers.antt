@@ -1,0 +1,59 @@
+use Rattle.std.proofs.Common.{◌+◌, ℕ, Err, List, option_map, sym, ap, ◌∙◌, subst}
+use Rattle.fabric_script.specs.Known.{of_set_up}
+use Rattle.fabric_script.specs.Scripts.{RefusedIn}
+use Rattle.fabric_trace.specs.Runs.{bare, set_up_all}
+use Rattle.trace_check.specs.Inputs.{Hit, IsInput, texts_of}
+use Rattle.trace_check.specs.Lawful.{IsUnlawful}
+use Rattle.trace_check.proofs.ExpectLaws.{if_some_map}
+use Rattle.trace_check.proofs.InputLaws.{accepted_by}
+use Rattle.trace_check.proofs.NetworkLaws.{if_ok_map}
+use Rattle.trace_check.proofs.Telling.{moved, not_input}
+use Rattle.trace_check.proofs.expecting.expect.Goals as goal
+
+pub returns-in-Ok-clause-told : goal.returns-in-Ok-clause-told
+returns-in-Ok-clause-told c =
+    let split = c.split_input-lines.ensures in
+    let set_up = c.in-Ok.set_up in
+    let texts = texts_of c.in-Some.trace.now in
+    let input : IsInput c.args.bytes.now set_up.lines set_up.known texts = record {
+      accepted = accepted_by c.args.bytes.now c.split_input-lines.result.0.now set_up.lines
+          set_up.known split.set_up c.in-Ok.ensures.spelled;
+      trace = sym split.trace
+          ∙ ap (λ o. option_map (λ trace. texts_of trace.now) o) c.in-Some.is;
+    } in
+    if_ok_map c.expect_in.result c.expect_in.ensures.told (λ expected told.
+    if_some_map expected told (λ e so. record {
+      set_up = set_up.lines;
+      known = set_up.known;
+      texts = texts;
+      input = input;
+      place = so.0;
+      at = so.1 ∙ ap (λ n. n + 2 + so.0) split.lines;
+      so = so.2;
+    }))
+
+pub returns-in-Ok-clause-some : goal.returns-in-Ok-clause-some
+returns-in-Ok-clause-some c =
+    let split = c.split_input-lines.ensures in
+    let set_up = c.in-Ok.set_up in
+    let texts = texts_of c.in-Some.trace.now in
+    let input : IsInput c.args.bytes.now set_up.lines set_up.known texts = record {
+      accepted = accepted_by c.args.bytes.now c.split_input-lines.result.0.now set_up.lines
+          set_up.known split.set_up c.in-Ok.ensures.spelled;
+      trace = sym split.trace
+          ∙ ap (λ o. option_map (λ trace. texts_of trace.now) o) c.in-Some.is;
+    } in
+    if_ok_map c.expect_in.result c.expect_in.ensures.some (λ expected some reason hit explained.
+    some hit.place reason (hit.at ∙ ap (λ n. n + 2 + hit.place) (sym split.lines))
+    (moved c.args.bytes.now (λ l k t. IsUnlawful k (set_up_all bare l) t hit.place reason)
+    set_up.lines hit.set_up set_up.known hit.known texts hit.texts input hit.input hit.unlawful)
+    explained)
+
+pub returns-in-Err-Refused-clause-some : goal.returns-in-Err-Refused-clause-some
+returns-in-Err-Refused-clause-some c = λ reason hit explained.
+    let end = c.in-Err-Refused in
+    let refusal = end.field-0-0 in
+    absurd (not_input c.args.bytes.now refusal.line refusal.reason hit.set_up hit.known hit.texts
+    (Hit (subst (λ (b : List ℕ). RefusedIn of_set_up b refusal.line refusal.reason)
+    c.split_input-lines.ensures.set_up (end.ensures.refused refusal (ap Err end.field-0-is))))
+    hit.input)

@@ -1,0 +1,256 @@
+//! What would have been lawful at a line of a trace that is not.
+
+ghost use Rattle.std.specs.Prelude.{◌≡◌, ◌+◌, ◌≤◌, ℕ, Bool, List, length, false, true, IfOk, IfSome, IsSome, IsSomeAnd, MatchOption};
+ghost use Rattle.fabric_script.specs.SetUps.{IsReady};
+ghost use Rattle.fabric_trace.specs.Fold.{edit_of};
+ghost use Rattle.fabric_trace.specs.Lines.{Begun, Fired as AFired, Got as AGot, Sent as ASent, Signed, Stepped, TraceLine as ALine};
+ghost use Rattle.fabric_model.specs.Steps.{Free, Hold, Linked};
+ghost use Rattle.rio_chars.specs.declared.chars.Char.{Char as AChar};
+ghost use Rattle.trace_check.specs.Checks.{MaySend};
+ghost use Rattle.trace_check.specs.Expecting.{HasExpected, IsExpected, IsExplained, IsSo, IsToBeTold, TellsLine};
+ghost use Rattle.trace_check.specs.Inputs.{texts_of};
+ghost use Rattle.trace_check.specs.Lawful.{Fault, fault_number, IsUnlawful};
+ghost use Rattle.trace_check.specs.Outcomes.{HasUnlawful};
+ghost use Rattle.trace_check.specs.Reads.{line_of, step_of};
+ghost use Rattle.trace_check.specs.Starting.{IsBegun, net_of, nodes_of};
+ghost use Rattle.trace_check.specs.States.{IsEditIn, IsLineIn, IsReached, Reached, StandsAt};
+ghost use Rattle.trace_check.specs.Networks.{IsStepOf};
+ghost use Rattle.trace_check.specs.Tables.{IsIn};
+ghost use Rattle.trace_check.specs.Words.{SpellsLine};
+
+use crate::checker::Checker;
+use crate::checking::is_short;
+use crate::fields::LineEnd;
+use crate::lines::{Step, TraceLine};
+use crate::reading::read_trace_line;
+use crate::splitting::{next_line, split_input};
+use crate::state::{State, edit_of};
+use arrayvec::ArrayVec;
+use fabric_script::{Line, PortRef, ScriptEnd, SetUp, read_set_up};
+use rio_chars::Char;
+use rio_packets::Packet;
+use std::alloc::{AllocError, Global};
+
+/// What would have been lawful at a line, as far as one sentence can say it.
+#[derive(Debug, Drop)]
+pub enum Expected {
+    /// The next characters of the wire to the port: eight, or all if there are fewer.
+    Front(ArrayVec<Char, 8>),
+    /// How many characters are on the wire that the edit names.
+    OnWire(usize),
+    /// How many characters are on the wire of the port whose time-out fired, or, if none is, on the
+    /// wire to it.
+    OnLink(usize),
+    /// The ackID of the next packet that the port holds, and the first packet that came with it
+    /// behind the one held before, if one did.
+    Came(u8, Option<Packet>),
+    /// How many packets the port may free in all.
+    Freed(u64),
+    /// The priority of a packet that is sent and that the port does not have, and the first packet
+    /// of this priority that waits there, if one does.
+    Waiting(u8, Option<Packet>),
+}
+
+/// What would have been lawful at a line of a trace that is not lawful there. The bytes are those
+/// that `check_trace` takes, and the line is the one that it tells, counted from 1. There is an
+/// answer for each line that it tells with the reason 22, 24, 25 or 26, and none for a line that is
+/// lawful or stands behind one that is not.
+pub fn expect(alloc: Global, bytes: &[u8], line: u32) -> Result<Option<Expected>, AllocError>
+    requires { length bytes.now ≤ 16777216 }
+    // What is told is so.
+    ensures told { IfOk result (λ expected. IfSome expected (HasExpected bytes.now line)) }
+    // And it is told of each line that is hit.
+    ensures some { IfOk result (λ expected. (reason : ℕ) → HasUnlawful bytes.now line reason
+        → IsExplained reason → IsSome expected) }
+{
+    let (script, trace, lines) = split_input(bytes);
+    let Some(trace) = trace else {
+        return Ok(None);
+    };
+    match read_set_up(alloc, script) {
+        Ok(set_up) => expect_in(alloc, &set_up, trace, lines + 2, line),
+        Err(ScriptEnd::Refused(_)) => Ok(None),
+        Err(ScriptEnd::NoMemory) => Err(AllocError),
+    }
+}
+
+/// What would have been lawful at the line with this number, of the lines of a trace of which the
+/// first has the other number.
+fn expect_in(
+    alloc: Global,
+    set_up: &SetUp,
+    bytes: &[u8],
+    first: u32,
+    wanted: u32,
+) -> Result<Option<Expected>, AllocError>
+    requires ready { IsReady set_up.now.known }
+    requires begun { IsBegun set_up.now }
+    requires few { first + length bytes.now ≤ 16777218 }
+    ensures told { IfOk result (λ expected. IfSome expected (λ e. (place : ℕ)
+        × (wanted ≡ first + place)
+        × IsExpected set_up.now.known (net_of set_up.now) (texts_of bytes.now) place e)) }
+    ensures some { IfOk result (λ expected. (place reason : ℕ) → wanted ≡ first + place
+        → IsUnlawful set_up.now.known (net_of set_up.now) (texts_of bytes.now) place reason
+        → IsExplained reason → IsSome expected) }
+{
+    let mut checker = Checker::new(alloc, set_up)?;
+    let mut number = first;
+    let mut ahead = next_line(bytes);
+    while let Some((text, left)) = ahead {
+        ahead = next_line(left);
+        let expected = checker.expected(alloc, set_up, text, number == wanted)?;
+        let hit = checker.read(alloc, set_up, text, is_short(ahead))?;
+        if let Some(_) = hit {
+            return Ok(expected);
+        }
+        number += 1;
+    }
+    Ok(None)
+}
+
+impl Checker {
+    /// What would have been lawful in place of a text, if that is asked.
+    fn expected(
+        &self,
+        alloc: Global,
+        set_up: &SetUp,
+        text: &[u8],
+        asked: bool,
+    ) -> Result<Option<Expected>, AllocError>
+        requires { IsReady set_up.now.known }
+        ensures told { IfOk result (λ expected. IfSome expected
+            (λ e. (asked ≡ true) × (self.now.ended ≡ false)
+            × ((r : Reached) → IsReached r self.now.state → r.nodes ≡ nodes_of set_up.now
+            → TellsLine set_up.now.known r text.now e))) }
+        ensures some { IfOk result (λ expected. asked ≡ true → self.now.ended ≡ false
+            → (r : Reached) → IsReached r self.now.state → r.nodes ≡ nodes_of set_up.now
+            → IsToBeTold set_up.now.known r text.now → IsSome expected) }
+    {
+        if !asked || self.has_ended() {
+            return Ok(None);
+        }
+        match read_trace_line(alloc, set_up, text) {
+            Ok(line) => Ok(self.state().expected(&line)),
+            Err(LineEnd::NoForm) => Ok(None),
+            Err(LineEnd::NoMemory) => Err(AllocError),
+        }
+    }
+}
+
+impl State {
+    /// What would have been lawful in place of a line.
+    fn expected(&self, line: &TraceLine) -> Option<Expected>
+        ensures told { IfSome result (λ e. (r : Reached) → IsReached r self.now
+            → IsLineIn r.nodes (line_of line.now) → IsSo r (line_of line.now) e) }
+        ensures some { (r : Reached) (short : Bool) (fault : Fault) → IsReached r self.now
+            → IsLineIn r.nodes (line_of line.now) → IsExplained (fault_number fault)
+            → (StandsAt r (line_of line.now) short fault → ⊥) → IsSome result }
+    {
+        match line {
+            TraceLine::Begun(line) => self.on_wire(line),
+            TraceLine::Stepped(step) => self.expected_step(step),
+            TraceLine::Sent(port, chars) => self.waiting(*port, chars.as_slice()),
+            TraceLine::Got(port, _) => Some(self.front_to(*port)),
+            TraceLine::Fired(port) => Some(self.on_link(*port)),
+            TraceLine::Lacked(_) => None,
+            TraceLine::Ended => None,
+            TraceLine::Undetected(..) => None,
+        }
+    }
+
+    /// The same, of a step.
+    fn expected_step(&self, step: &Step) -> Option<Expected>
+        ensures told { IfSome result (λ e. (r : Reached) → IsReached r self.now
+            → IsStepOf r.nodes (step_of step.now) → IsSo r (Stepped (step_of step.now)) e) }
+        ensures some { (r : Reached) (short : Bool) (fault : Fault) → IsReached r self.now
+            → IsStepOf r.nodes (step_of step.now) → IsExplained (fault_number fault)
+            → (StandsAt r (Stepped (step_of step.now)) short fault → ⊥) → IsSome result }
+    {
+        match step {
+            Step::Hold(port, _) => self.next_to_hold(*port),
+            Step::Free(port, _) => self.freed(*port),
+            Step::Take(..) => None,
+            Step::Leave(..) => None,
+            Step::Move(..) => None,
+            Step::Drop(..) => None,
+            Step::Answer(..) => None,
+        }
+    }
+
+    /// How many characters are on the wire that an event line edits, if it edits one.
+    fn on_wire(&self, line: &Line) -> Option<Expected>
+        ensures told { IfSome result (λ e. (r : Reached) → IsReached r self.now
+            → IsEditIn r.nodes (edit_of line.now) → IsSo r (Begun line.now) e) }
+        ensures some { IsSome (edit_of line.now) → IsSome result }
+    {
+        let (port, _) = edit_of(line)?;
+        Some(Expected::OnWire(self.chars_on(port)))
+    }
+
+    /// How many characters are on the wire of a port.
+    fn chars_on(&self, port: PortRef) -> usize
+        ensures { (r : Reached) → IsReached r self.now → IsIn r.nodes port
+            → result ≡ length (r.wires port) }
+    {
+        match self.wire(port) {
+            Some(wire) => wire.len(),
+            None => 0,
+        }
+    }
+
+    /// The next characters of the wire to a port.
+    fn front_to(&self, port: PortRef) -> Expected
+        ensures { (r : Reached) (chars : List AChar) → IsReached r self.now → IsIn r.nodes port
+            → IsSo r (Signed (AGot port chars)) result }
+    {
+        Expected::Front(match self.wire_to(port) {
+            Some(wire) => wire.front(),
+            None => ArrayVec::new(),
+        })
+    }
+
+    /// How many characters are on the wire of a port, or, if none is, on the wire to it.
+    fn on_link(&self, port: PortRef) -> Expected
+        ensures { (r : Reached) → IsReached r self.now → IsIn r.nodes port
+            → IsSo r (Signed (AFired port)) result }
+    {
+        let own = self.chars_on(port);
+        let left = if own > 0 {
+            own
+        } else {
+            match self.wire_to(port) {
+                Some(wire) => wire.len(),
+                None => 0,
+            }
+        };
+        Expected::OnLink(left)
+    }
+
+    /// The ackID of the next packet that a port holds, and the first that came with it.
+    fn next_to_hold(&self, port: PortRef) -> Option<Expected>
+        ensures { (r : Reached) (packet : List ℕ) → IsReached r self.now → IsIn r.nodes port
+            → IsSomeAnd result (IsSo r (Stepped (Linked (Hold port packet)))) }
+    {
+        let hearing = self.hearing(port)?;
+        Some(Expected::Came(hearing.next(), hearing.first()))
+    }
+
+    /// How many packets a port may free in all.
+    fn freed(&self, port: PortRef) -> Option<Expected>
+        ensures { (r : Reached) (packet : List ℕ) → IsReached r self.now → IsIn r.nodes port
+            → IsSomeAnd result (IsSo r (Stepped (Linked (Free port packet)))) }
+    {
+        let hearing = self.hearing(port)?;
+        Some(Expected::Freed(hearing.allowed()))
+    }
+
+    /// The priority of a packet that a port does not have, and the first of it that waits there.
+    fn waiting(&self, port: PortRef, chars: &[Char]) -> Option<Expected>
+        ensures { (r : Reached) → IsReached r self.now → IsIn r.nodes port
+            → MatchOption result (MaySend r.net (Signed (ASent port chars.now)))
+            (IsSo r (Signed (ASent port chars.now))) }
+    {
+        let (prio, packet) = self.lacking(port, chars)?;
+        Some(Expected::Waiting(prio, packet))
+    }
+}
