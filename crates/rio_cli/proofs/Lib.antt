@@ -9,3 +9,4 @@ pub mod NumberLaws
 pub mod WordLaws
 pub mod DecodeLaws
 pub mod SoakLaws
+pub mod HintLaws

@@ -1,15 +1,19 @@
 -- What the program says of an answer in words: one line of standard error, or nothing.
-use Rattle.std.specs.Prelude.{◌≡◌, ℕ, ◌-◌, ◌&&◌, leb, ltb, Option, Some, None, List, [], ◌∷◌, ◌++◌, codes, length, map, take, slice_index_or, if◌then◌else◌}
+use Rattle.std.specs.Prelude.{◌≡◌, ℕ, ◌-◌, ◌&&◌, leb, ltb, Option, Some, None, List, [], ◌∷◌, ◌++◌, codes, length, map, take, slice_index_or, MatchOption, if◌then◌else◌}
 use Rattle.std.specs.Fmt.{decimal}
 use Rattle.rio_chars.specs.Lines.{lines_of}
 use Rattle.fabric_script.specs.Advice.{IsTrueOf}
 use Rattle.fabric_script.specs.declared.advice.Advice.{Advice}
+use Rattle.trace_check.specs.declared.expecting.Expected.{Expected}
+use Rattle.trace_check.specs.Expecting.{HasExpected, IsExplained}
+use Rattle.trace_check.specs.Outcomes.{HasUnlawful}
 use Rattle.rio_cli.specs.declared.answer.Answer.{Answer}
 use Rattle.rio_cli.specs.declared.refusal.Refusal.{Refusal}
 use Rattle.rio_cli.specs.declared.command.Command.{Command}
-use Rattle.rio_cli.specs.declared.command.Command.TheVariants.{Enumerate}
+use Rattle.rio_cli.specs.declared.command.Command.TheVariants.{Check, Enumerate}
 use Rattle.rio_cli.specs.declared.status.Status.{Status}
 use Rattle.rio_cli.specs.declared.status.Status.TheVariants.{Done, Words, Script, ReadFault, WriteFault, NoMemory, Undetected, TooLong, Locked, Unlawful}
+use Rattle.rio_cli.specs.Hints.{hint_text}
 use Rattle.rio_cli.specs.Texts.{advice_text, reason_text}
 
 -- the text of a line of an input, counted from 1, and nothing for a line that is not there
@@ -37,13 +41,24 @@ pub record IsWhy (command : Command) (text : List ℕ) (reason : ℕ) (why : Lis
   pub so : IsTrueOf text advice
   pub says : why ≡ advice_text (reason_text command reason) advice
 
--- The line of text that is said of a refusal cites the line that is refused.
+-- What would have been lawful at the line is told of a trace, exactly if it is not lawful there for
+-- a reason that explains itself so.
+abbrev pub IsExpectedBy : Command → List ℕ → ℕ → ℕ → Option Expected → Type 0
+IsExpectedBy Check bytes line reason expected = MatchOption expected
+    (HasUnlawful bytes line reason → IsExplained reason → ⊥)
+    (λ told. IsExplained reason × HasExpected bytes line told)
+IsExpectedBy _ bytes line reason expected = expected ≡ None
+
+-- The line of text that is said of a refusal says what would have been lawful, and cites the line
+-- that is refused.
 pub record Explains (command : Command) (bytes : List ℕ) (line reason : ℕ) (message : List ℕ) :
     Type 0 where
   pub why : List ℕ
   pub is_why : IsWhy command (line_text bytes line) reason why
+  pub expected : Option Expected
+  pub is_expected : IsExpectedBy command bytes line reason expected
   pub says : message ≡ codes "rio: line " ++ decimal line ++ codes ": " ++ why
-      ++ citation_of command (line_text bytes line) ++ codes "\n"
+      ++ hint_text expected ++ citation_of command (line_text bytes line) ++ codes "\n"
 
 -- what is said if no line is refused
 abbrev pub status_text : Status → List ℕ

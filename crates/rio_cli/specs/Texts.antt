@@ -37,7 +37,7 @@ trace_reasons =
     codes "this is no line of a trace, or it stands after the last, or the last is missing"
     ∷ codes "these characters are not at the front of the wire, or the edit is not within it"
     ∷ codes "no such step can be made here"
-    ∷ codes "no packet came with the ackID whose turn it is, after the one held before"
+    ∷ codes "this packet did not come with the ackID whose turn it is, after the one held before"
     ∷ codes "more packets are freed than were acknowledged"
     ∷ codes "a packet is sent that neither waits at the port nor is lent"
     ∷ []

@@ -17,6 +17,7 @@
 mod answer;
 mod command;
 mod decode;
+mod hints;
 mod laws;
 mod lines;
 mod messages;

@@ -1,11 +1,14 @@
 //! The line of an input that is refused or not lawful, and what is said of it.
-ghost use Rattle.std.specs.Prelude.{◌≡◌, ◌++◌, ℕ, List, IfOk, OnOk, map, take};
-ghost use Rattle.rio_cli.specs.Messages.{line_text, excerpt_of, citation_of, shown_byte as shown_byte_of, IsWhy, Explains};
+ghost use Rattle.std.specs.Prelude.{◌≡◌, ◌≤◌, ◌++◌, ℕ, List, IfOk, OnOk, length, map, take};
+ghost use Rattle.rio_cli.specs.Inputs.{most_input};
+ghost use Rattle.rio_cli.specs.Messages.{line_text, excerpt_of, citation_of, shown_byte as shown_byte_of, IsExpectedBy, IsWhy, Explains};
 
 use crate::command::Command;
+use crate::hints::push_hint;
 use crate::texts::{push_advice, push_number, reason_text};
 use fabric_script::{Advice, advise};
 use std::alloc::{AllocError, Global};
+use trace_check::{Expected, expect};
 
 /// How many bytes of a line are shown.
 const MOST_SHOWN: usize = 80;
@@ -29,6 +32,7 @@ impl Refusal {
         line: u32,
         reason: u8,
     ) -> Result<Refusal, AllocError>
+        requires { length bytes.now ≤ most_input }
         ensures command { IfOk result (λ refusal. refusal.command ≡ command) }
         ensures line { IfOk result (λ refusal. refusal.line ≡ line) }
         ensures reason { IfOk result (λ refusal. refusal.reason ≡ reason) }
@@ -36,11 +40,13 @@ impl Refusal {
             Explains command bytes.now line reason refusal.message.items) }
     {
         let text = line_at(bytes, line);
+        let expected = expected_at(alloc, &command, bytes, line, reason)?;
         let mut message = Vec::new(alloc);
         message.extend_from_slice(b"rio: line ")?;
         push_number(&mut message, line)?;
         message.extend_from_slice(b": ")?;
         push_why(alloc, &mut message, &command, text, reason)?;
+        push_hint(alloc, &mut message, &expected)?;
         push_citation(&mut message, &command, text)?;
         message.extend_from_slice(b"\n")?;
         Ok(Refusal {
@@ -50,6 +56,41 @@ impl Refusal {
             message,
         })
     }
+}
+
+/// What would have been lawful at a line, of a trace that is not lawful there.
+fn expected_at(
+    alloc: Global,
+    command: &Command,
+    bytes: &[u8],
+    line: u32,
+    reason: u8,
+) -> Result<Option<Expected>, AllocError>
+    requires { length bytes.now ≤ most_input }
+    ensures { IfOk result (IsExpectedBy command.now bytes.now line reason) }
+{
+    match command {
+        Command::Replay => Ok(None),
+        Command::Decode => Ok(None),
+        Command::Enumerate(_) => Ok(None),
+        Command::Check => expected_in_trace(alloc, bytes, line, reason),
+    }
+}
+
+/// The same, by the reason.
+fn expected_in_trace(
+    alloc: Global,
+    bytes: &[u8],
+    line: u32,
+    reason: u8,
+) -> Result<Option<Expected>, AllocError>
+    requires { length bytes.now ≤ most_input }
+    ensures { IfOk result (IsExpectedBy Command.Check bytes.now line reason) }
+{
+    if reason <= 21 || reason == 23 {
+        return Ok(None);
+    }
+    expect(alloc, bytes, line)
 }
 
 /// Adds why a line is refused: what in it is to blame, if its text alone shows that.

@@ -30,7 +30,8 @@ fn trace_reason(reason: u8) -> &'static [u8]
         21 => b"this is no line of a trace, or it stands after the last, or the last is missing",
         22 => b"these characters are not at the front of the wire, or the edit is not within it",
         23 => b"no such step can be made here",
-        24 => b"no packet came with the ackID whose turn it is, after the one held before",
+        24 =>
+            b"this packet did not come with the ackID whose turn it is, after the one held before",
         25 => b"more packets are freed than were acknowledged",
         26 => b"a packet is sent that neither waits at the port nor is lent",
         _ => script_reason(reason),

@@ -245,6 +245,7 @@ fn condemn_line<K: Sink>(
     reason: u8,
     sink: &mut K,
 ) -> Answer
+    requires { length bytes.now ≤ most_input }
     ensures unlawful { Answers result.status Status.Unlawful (verdict_text Unlawful line reason)
         (K.written sink.old) (K.faults sink.old) (K.written sink.new) (K.faults sink.new)
         ⊎ ((result.status ≡ Status.NoMemory) × Keeps (K.written sink.old) (K.written sink.new)) }
@@ -271,6 +272,7 @@ fn refuse_line<K: Sink>(
     reason: u8,
     sink: &mut K,
 ) -> Answer
+    requires { length bytes.now ≤ most_input }
     ensures refused { Answers result.status Status.Script (verdict_text Script line reason)
         (K.written sink.old) (K.faults sink.old) (K.written sink.new) (K.faults sink.new)
         ⊎ ((result.status ≡ Status.NoMemory) × Keeps (K.written sink.old) (K.written sink.new)) }
