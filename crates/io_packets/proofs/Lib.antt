@@ -1,0 +1,10 @@
+pub mod SizeLaws
+pub mod ReadLaws
+pub mod FormLaws
+pub mod FieldLaws
+pub mod LayoutLaws
+pub mod RequestLaws
+pub mod StreamLaws
+pub mod ReplyLaws
+pub mod WriteLaws
+pub mod MemoryLaws
