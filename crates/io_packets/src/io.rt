@@ -53,7 +53,7 @@ impl Load {
     }
 
     /// Data of these bytes, of which there are at most 64.
-    pub(crate) fn of_bytes(bytes: &[u8]) -> Load
+    pub fn of_bytes(bytes: &[u8]) -> Load
         requires { length bytes.now ≤ 64 }
         ensures { result ≡ bytes.now }
     {
