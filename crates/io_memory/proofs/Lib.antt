@@ -1,1 +1,2 @@
 pub mod MeetLaws
+pub mod AnswerLaws

@@ -1,7 +1,13 @@
--- Laws of packets that come to a memory, one after another.
-use Rattle.std.specs.Prelude.{◌≡◌, ℕ, ◌+◌, List, length, take, slice_get, slice_range, Some}
-use Rattle.io_memory.specs.declared.meeting.Met.TheVariants.{Read}
-use Rattle.io_memory.specs.Meeting.{met_in_turn, held}
+-- Laws of packets that come to a memory, and of the answers to them.
+use Rattle.std.specs.Prelude.{◌≡◌, ℕ, ◌+◌, ◌<◌, List, length, take, slice_get, slice_range, Option, Some}
+use Rattle.rio_packets.specs.LinkForm.{LinkForm}
+use Rattle.rio_packets.specs.Fields.{ftype_of}
+use Rattle.io_packets.specs.declared.io.Io.TheVariants.{Reply}
+use Rattle.io_packets.specs.Reading.{io_of}
+use Rattle.io_packets.specs.Writing.{io_body}
+use Rattle.io_packets.specs.Serving.{answer_to}
+use Rattle.io_memory.specs.declared.meeting.Met.TheVariants.{Read, Done}
+use Rattle.io_memory.specs.Meeting.{met_of, met_without, met_in_turn, held}
 
 -- The bytes that are read are those that the writes before left.
 abbrev pub ReadsAreHeld : Type 0
@@ -9,3 +15,13 @@ ReadsAreHeld = (memory : List ℕ) (packets : List (List ℕ)) (k addr : ℕ) (l
     → slice_get (met_in_turn memory packets) k ≡ Some (Read addr load)
     → load ≡ slice_range (held memory (take k (met_in_turn memory packets)))
     addr (addr + length load)
+
+-- The packet of an answer is a response wherever it comes, with the number, the status and the data
+-- that it was made of.
+abbrev pub AnswersAreDone : Type 0
+AnswersAreDone = (memory packet : List ℕ) (prio dest source status tid : ℕ)
+    (load : Option (List ℕ)) (answer : List ℕ)
+    → answer_to memory (io_of packet) ≡ Some (Reply status tid load) → prio < 4
+    → LinkForm (io_body prio dest source (Reply status tid load)) answer
+    → ((other : List ℕ) → met_of other answer ≡ Done tid status load)
+    × (met_without (ftype_of answer) (io_of answer) ≡ Done tid status load)
