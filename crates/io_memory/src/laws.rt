@@ -1,4 +1,5 @@
-//! Laws of packets that come to a memory and of their answers, for whoever states something of reads and writes.
+//! Laws of packets that come to a memory and of their answers, for whoever states something of
+//! reads and writes.
 ghost use Rattle.io_memory.specs.Laws.{AnswersAreDone, ReadsAreHeld};
 
 /// If packets come to a memory one after another, the bytes of each read are those that the writes

@@ -1,5 +1,5 @@
-//! Lines, and packets at a memory of 64 bytes, whose bytes and CRCs were made outside this project (the CRCs
-//! by Python's `binascii.crc_hqx`).
+//! Lines, and packets at a memory of 64 bytes, whose bytes and CRCs were made outside this project
+//! (the CRCs by Python's `binascii.crc_hqx`).
 use crate::{Meeting, Met, meet, meet_without, write_met};
 use io_packets::{Load, write_io};
 use rio_chars::{MemSink, Outbox, TextBuffer};
