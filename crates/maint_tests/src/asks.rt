@@ -48,7 +48,9 @@ fn asked(
 
 /// How many lines of a text begin with this word.
 fn count(text: &[u8], word: &[u8]) -> usize {
-    text.split(|byte| *byte == b'\n').filter(|line| line.starts_with(word)).count()
+    text.split(|byte| *byte == b'\n')
+        .filter(|line| line.starts_with(word))
+        .count()
 }
 
 /// No response comes, and so many packets were moved, answered, dropped and left.
