@@ -1,0 +1,83 @@
+-- What a read leaves and tells, and what a write leaves.
+use Rattle.std.proofs.Common.{◌≡◌, ◌≢◌, ℕ, ◌%◌, ◌<◌, ◌==◌, Bool, true, false, eqb, List, [], ◌∷◌, Option, Some, None, arith, ◌⊎◌, inl, inr, subst, sym, refl, ap, ◌∙◌, if◌then◌else◌, eq-eqb, ne_eqb}
+use Rattle.std.proofs.lemmas.Bool.{cases_eq}
+use Rattle.fabric_script.specs.declared.ports.PortRef.{PortRef}
+use Rattle.maint_registers.specs.Devices.{Device}
+use Rattle.maint_registers.specs.Access.{value_at, written_at, locked}
+use Rattle.maint_registers.proofs.AccessLaws.{lock-read, tag-read, lock-written, tag-written}
+use Rattle.maint_registers.proofs.BesideLaws.{lock-stays, tag-stays}
+use Rattle.fabric_map.specs.Routes.{Registers}
+use Rattle.host_enumerate.specs.declared.maint.Access.TheVariants.{Read, Write}
+use Rattle.host_enumerate.specs.Accesses.{after_read, after_write, answered, with_device, after_access}
+use Rattle.host_enumerate.proofs.Frames.{with_device-itself}
+
+read_leaves : (device : Device) (o : Option ℕ) → (after_read device o).device ≡ device
+read_leaves device (Some value) = refl
+read_leaves device None = refl
+
+pub read-same : (old : Registers) (at : PortRef) (offset : ℕ)
+    → after_access old at (Read offset) ≡ old
+read-same old at offset =
+    ap (λ d. with_device old at.node d)
+    (read_leaves (old at.node) (value_at (old at.node) offset at.port))
+    ∙ with_device-itself old at.node
+
+pub lock_told : (device : Device) (port : ℕ)
+    → (answered device port (Read 0x68)).answer.value ≡ device.lock
+lock_told device port = ap (λ o. (after_read device o).answer.value) (lock-read device port)
+
+pub tag_told : (device : Device) (port : ℕ)
+    → (answered device port (Read 0x6c)).answer.value ≡ device.tag
+tag_told device port = ap (λ o. (after_read device o).answer.value) (tag-read device port)
+
+pub write_keeps_lock : (device : Device) (port offset value : ℕ) → offset ≢ 0x68
+    → (answered device port (Write offset value)).device.lock ≡ device.lock
+write_keeps_lock device port offset value other = go (written_at device offset value) refl
+  where
+    go : (o : Option Device) → written_at device offset value ≡ o
+        → (after_write device o).device.lock ≡ device.lock
+    go None is = refl
+    go (Some next) is = lock-stays device next offset value is other
+
+pub tag_given : (device : Device) (port offset value : ℕ) → offset ≡ 0x6c
+    → (answered device port (Write offset value)).device.tag ≡ value
+tag_given device port offset value is =
+    ap (λ n. (answered device port (Write n value)).device.tag) is
+    ∙ ap (λ o. (after_write device o).device.tag) (tag-written device value)
+
+pub write_keeps_tag : (device : Device) (port offset value : ℕ) → (offset ≡ 0x6c → value ≢ 0)
+    → device.tag ≢ 0 → (answered device port (Write offset value)).device.tag ≢ 0
+write_keeps_tag device port offset value some tagged none = at (cases_eq offset 0x6c)
+  where
+    beside : (o : Option Device) → written_at device offset value ≡ o → offset ≢ 0x6c
+        → (after_write device o).device.tag ≡ device.tag
+    beside None is other = refl
+    beside (Some next) is other = tag-stays device next offset value is other
+
+    at : (offset ≡ 0x6c) ⊎ (offset ≢ 0x6c) → ⊥
+    at (inl is) = some is (sym (tag_given device port offset value is) ∙ none)
+    at (inr other) =
+        tagged (sym (beside (written_at device offset value) refl other) ∙ none)
+
+-- a lock after an ID was written to it
+pub lock_left : (device : Device) (port id : ℕ)
+    → (answered device port (Write 0x68 id)).device
+    ≡ record device { lock = locked device.lock (id % 0x10000) }
+lock_left device port id = ap (λ o. (after_write device o).device) (lock-written device id)
+
+pub locked-free : (lock id : ℕ) → lock ≡ 0xffff → id < 0xff → locked lock (id % 0x10000) ≡ id
+locked-free lock id free fits =
+    ap (λ n. locked n (id % 0x10000)) free ∙ omega (arith, fits)
+
+pub locked-own : (lock id : ℕ) → lock ≡ id → id < 0xff → locked lock (id % 0x10000) ≡ 0xffff
+locked-own lock id own fits =
+    let small : id % 0x10000 ≡ id = omega (arith, fits) in
+    ap (λ n. locked lock n) small ∙ (ap (λ n. locked n id) own
+    ∙ (rw (ne_eqb id 0xffff (λ e. omega (arith, e, fits)), eq-eqb id id refl) refl))
+
+pub locked-other : (lock id : ℕ) → lock ≢ 0xffff → lock ≢ id → id < 0xff
+    → locked lock (id % 0x10000) ≡ lock
+locked-other lock id some other fits =
+    let small : id % 0x10000 ≡ id = omega (arith, fits) in
+    ap (λ n. locked lock n) small
+    ∙ (rw (ne_eqb lock 0xffff some, ne_eqb lock id other) refl)

@@ -1,0 +1,5 @@
+use Rattle.contest_machine.proofs.Apart.{turns_keep_apart}
+use Rattle.contest_machine.proofs.laws.each_turn_keeps_apart.Goals as goal
+
+pub returns : goal.returns
+returns c = turns_keep_apart

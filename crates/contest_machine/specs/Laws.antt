@@ -1,0 +1,64 @@
+-- What holds after each turn of two walkers.
+use Rattle.std.specs.Prelude.{◌≡◌, ◌≢◌, ℕ, ◌<◌, ◌≤◌, List, [], length}
+use Rattle.fabric_map.specs.Routes.{Registers}
+use Rattle.link_watch.specs.declared.side.Side.{Side}
+use Rattle.contest_machine.specs.declared.stages.Stage.{Stage}
+use Rattle.contest_machine.specs.declared.stages.Stage.TheVariants.{Ask, Claim, Check, Test, Features, Information, Status, Free, Done, Lost}
+use Rattle.contest_machine.specs.Machine.{Walker, kept, stepped}
+use Rattle.contest_machine.specs.Turns.{Both, after_turns}
+use Rattle.contest_machine.specs.Contest.{Keeps, AreOnce, IsLockOfNone}
+use Rattle.contest_machine.specs.Within.{IsWithin}
+
+-- a walker at its start
+pub record IsNew (w : Walker) : Type 0 where
+  pub devices : w.devices ≡ []
+  pub tried : w.tried ≡ []
+  pub todo : w.todo ≡ []
+  pub path : w.path ≡ []
+  pub stage : w.stage ≡ Ask
+
+-- No device is kept by both. What is kept bears the ID of its host. The lock of any other is free,
+-- as it first was, or was written by the last turn of a host.
+pub record KeepsApart (before : Registers) (both : Both) : Type 0 where
+  pub apart : (node : ℕ) → Keeps both.first node → ¬ Keeps both.second node
+  pub first : (node : ℕ) → Keeps both.first node
+      → (both.registers node).lock ≡ both.first.id
+  pub second : (node : ℕ) → Keeps both.second node
+      → (both.registers node).lock ≡ both.second.id
+  pub others : (node : ℕ) → ¬ Keeps both.first node → ¬ Keeps both.second node
+      → IsLockOfNone both.first both.second before both.registers node
+
+abbrev pub TurnsKeepApart : Type 0
+TurnsKeepApart = (both : Both) (turns : List Side)
+    → IsNew both.first → IsNew both.second
+    → both.first.id ≢ both.second.id → both.first.id < 0xff → both.second.id < 0xff
+    → KeepsApart both.registers (after_turns both turns)
+
+-- it does not give up what it keeps
+abbrev pub HoldsOn : Stage → Type 0
+HoldsOn Ask = Unit {0}
+HoldsOn Claim = Unit {0}
+HoldsOn Check = Unit {0}
+HoldsOn Test = Unit {0}
+HoldsOn Features = Unit {0}
+HoldsOn Information = Unit {0}
+HoldsOn Status = Unit {0}
+HoldsOn Free = ⊥
+HoldsOn Done = Unit {0}
+HoldsOn Lost = ⊥
+
+-- The walker with the greater ID is never lost, if nothing is locked at first.
+abbrev pub GreaterHoldsOn : Type 0
+GreaterHoldsOn = (both : Both) (turns : List Side)
+    → IsNew both.first → IsNew both.second
+    → both.second.id < both.first.id → both.first.id < 0xff
+    → ((node : ℕ) → (both.registers node).lock ≡ 0xffff)
+    → HoldsOn (after_turns both turns).first.stage
+
+-- An access leaves a walker within its bounds.
+abbrev pub StaysWithin : Type 0
+StaysWithin = (w : Walker) (old : Registers) → IsWithin w → IsWithin (stepped w old).walker
+
+-- No more devices are kept than there are.
+abbrev pub KeepsFew : Type 0
+KeepsFew = (w : Walker) → IsWithin w → AreOnce w.view (kept w) → length (kept w) ≤ w.view.nodes
