@@ -215,7 +215,7 @@ step_holds o before w old contest =
     contest-stays w (stepped w old).walker o before old (stepped w old).registers contest
     leaves.0 leaves.1
 
-begun_mine : (w : Walker) (now : Registers) → IsMine w now
+pub begun_mine : (w : Walker) (now : Registers) → IsMine w now
     → IsMine (record w { begun = true }) now
 begun_mine w now mine = record {
   locks = mine.locks;

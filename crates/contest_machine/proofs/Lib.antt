@@ -1,10 +1,10 @@
-mod Lists
-mod Frame
+pub mod Lists
+pub mod Frame
 mod Reading
-mod Turning
+pub mod Turning
 mod Stepped
 mod Staged
-mod Apart
-mod Greater
+pub mod Apart
+pub mod Greater
 pub mod Few
 pub mod Bounding

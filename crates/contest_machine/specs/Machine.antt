@@ -195,13 +195,13 @@ wants_at w Free = Some (asked (last_path w.devices) (Write 0x68 w.id))
 wants_at w Done = None
 wants_at w Lost = None
 
--- the next access of a walker, if it has not ended
+abbrev pub wants_with : Walker → List Pending → Option Asked
+wants_with w [] = wants_at w w.stage
+wants_with w (p ∷ rest) = Some (asked p.path (Write p.offset p.value))
+
+-- the next access of a walker, if it has not ended: the first write that is left, or by its stage
 abbrev pub wants : Walker → Option Asked
-wants w = first w.todo
-  where
-    first : List Pending → Option Asked
-    first [] = wants_at w w.stage
-    first (p ∷ rest) = Some (asked p.path (Write p.offset p.value))
+wants w = wants_with w w.todo
 
 abbrev pub told_at : Walker → ℕ → Stage → Walker
 told_at w value Ask = if value == w.id then record w { stage = Test } else judged w value
@@ -221,13 +221,13 @@ abbrev pub settled : Walker → List Pending → Stage → List ℕ → Walker
 settled w [] Features [] = numbered (record w { todo = [] }) []
 settled w rest stage path = record w { todo = rest }
 
+abbrev pub told_with : Walker → ℕ → List Pending → Walker
+told_with w value [] = told_at w value w.stage
+told_with w value (p ∷ rest) = settled w rest w.stage w.path
+
 -- the walker after this answer
 abbrev pub told : Walker → ℕ → Walker
-told w value = rest_of w.todo
-  where
-    rest_of : List Pending → Walker
-    rest_of [] = told_at w value w.stage
-    rest_of (p ∷ rest) = settled w rest w.stage w.path
+told w value = told_with w value w.todo
 
 -- a walker, and the registers of all devices
 pub record State : Type 0 where
@@ -242,10 +242,11 @@ reached w registers ask (Some at) = record {
   registers = after_access registers at ask.access;
 }
 
+-- what it asks is answered by the device to which its path leads
+abbrev pub reaches : Walker → Registers → Option Asked → State
+reaches w registers None = record { walker = w; registers = registers }
+reaches w registers (Some ask) = reached w registers ask (entered w.view ask.path)
+
 -- One access, which the device on the path answers.
 abbrev pub stepped : Walker → Registers → State
-stepped w registers = by (wants w)
-  where
-    by : Option Asked → State
-    by None = record { walker = w; registers = registers }
-    by (Some ask) = reached w registers ask (entered w.view ask.path)
+stepped w registers = reaches w registers (wants w)

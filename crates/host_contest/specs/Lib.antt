@@ -1,0 +1,4 @@
+pub mod Machines
+pub mod Plain
+pub mod Steps
+pub mod Walkers
