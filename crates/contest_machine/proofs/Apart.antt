@@ -21,7 +21,8 @@ use Rattle.contest_machine.proofs.Frame.{Nothing, IsTurn, turn_and_quiet, contes
 use Rattle.contest_machine.proofs.Reading.{read-same, lock_told, tag_told}
 use Rattle.contest_machine.proofs.Turning.{Leaves}
 use Rattle.contest_machine.proofs.Stepped.{at_stage, write_leaves, ask_leaves, check_leaves, test_leaves, claim_leaves}
-use Rattle.contest_machine.proofs.Staged.{host_less, host_more, host_mine, features_leaves, information_leaves, status_leaves, free_leaves}
+use Rattle.contest_machine.proofs.Staged.{host_less, host_more, host_mine, features_leaves, information_leaves, status_leaves}
+use Rattle.contest_machine.proofs.Freed.{free_leaves}
 
 idle_leaves : (w : Walker) (old : Registers) → IsMine w old → Leaves w old w old
 idle_leaves w old mine = (
@@ -71,7 +72,8 @@ settled_leaves w old fits p [] Lost path new leaves = leaves
 module _ (w : Walker) (old : Registers) (fits : w.id < 0xff) where
   reached_leaves : (w0 : Walker) (ask : Asked) → IsMine w0 old
       → ((at : PortRef) → entered w0.view ask.path ≡ Some at
-      → Leaves w0 old (reached w0 old ask (Some at)).walker (reached w0 old ask (Some at)).registers)
+      → Leaves w0 old (reached w0 old ask (Some at)).walker (reached w0 old ask
+      (Some at)).registers)
       → Leaves w0 old (reached w0 old ask (entered w0.view ask.path)).walker
       (reached w0 old ask (entered w0.view ask.path)).registers
   reached_leaves w0 ask mine some = go (entered w0.view ask.path) some
@@ -83,7 +85,8 @@ module _ (w : Walker) (old : Registers) (fits : w.id < 0xff) where
       go None some = idle_leaves w0 old mine
       go (Some at) some = some at refl
 
-  status_step : (tried : List Tried) → w.tried ≡ tried → IsMine (at_stage (record w { tried = tried }) Status) old
+  status_step : (tried : List Tried) → w.tried ≡ tried → IsMine
+      (at_stage (record w { tried = tried }) Status) old
       → Leaves (at_stage (record w { tried = tried }) Status) old
       (stepped (at_stage (record w { tried = tried }) Status) old).walker
       (stepped (at_stage (record w { tried = tried }) Status) old).registers

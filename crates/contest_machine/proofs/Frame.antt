@@ -96,7 +96,11 @@ module _ (w after o : Walker) (old new : Registers) (turn : IsTurn w after old n
     tags = λ path node listed leads none.
         theirs.tags path node listed leads
         (ap (λ (d : Device). d.tag)
-        (sym (kept_stays node (path, Contains-append_left (paths_of o.devices) _ path listed, leads)))
+        (sym (kept_stays node (
+          path,
+          Contains-append_left (paths_of o.devices) _ path listed,
+          leads,
+        )))
         ∙ none);
     once = theirs.once;
     own = theirs.own;

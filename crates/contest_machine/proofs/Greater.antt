@@ -116,51 +116,54 @@ module _ (w : Walker) (value : ℕ) where
   told_holds Done on small = tt
   told_holds Lost on small = absurd on
 
-module _ (w : Walker) (old : Registers) (small : (node : ℕ) → IsNoGreater w.id (old node).lock) where
-  reached_holds : (w0 : Walker) (ask : Asked) → HoldsOn w0.stage
-      → ((at : PortRef) → HoldsOn (told w0 (answered (old at.node) at.port ask.access).answer.value).stage)
-      → HoldsOn (reached w0 old ask (entered w0.view ask.path)).walker.stage
-  reached_holds w0 ask on some = go (entered w0.view ask.path)
-    where
-      go : (o : Option PortRef) → HoldsOn (reached w0 old ask o).walker.stage
-      go None = on
-      go (Some at) = some at
+module _ (w : Walker) (old : Registers) (small : (node : ℕ) → IsNoGreater w.id (old node).lock)
+  where
+    reached_holds : (w0 : Walker) (ask : Asked) → HoldsOn w0.stage
+        → ((at : PortRef) → HoldsOn (told w0
+        (answered (old at.node) at.port ask.access).answer.value).stage)
+        → HoldsOn (reached w0 old ask (entered w0.view ask.path)).walker.stage
+    reached_holds w0 ask on some = go (entered w0.view ask.path)
+      where
+        go : (o : Option PortRef) → HoldsOn (reached w0 old ask o).walker.stage
+        go None = on
+        go (Some at) = some at
 
-  abbrev between : Stage → Walker
-  between stage = record w { todo = []; stage = stage }
+    abbrev between : Stage → Walker
+    between stage = record w { todo = []; stage = stage }
 
-  status_holds : (tried : List Tried)
-      → HoldsOn (stepped (record w { todo = []; stage = Status; tried = tried }) old).walker.stage
-  status_holds [] = tt
-  status_holds (top ∷ rest) =
-      reached_holds (record w { todo = []; stage = Status; tried = top ∷ rest })
-      (asked top.path (Read (0x158 + 0x20 * top.port))) tt
-      (λ at. told_holds (record w { todo = []; tried = top ∷ rest }) _ Status tt
-      (inr ((λ e. cc), (λ e. cc))))
+    status_holds : (tried : List Tried)
+        → HoldsOn (stepped (record w { todo = []; stage = Status; tried = tried }) old).walker.stage
+    status_holds [] = tt
+    status_holds (top ∷ rest) =
+        reached_holds (record w { todo = []; stage = Status; tried = top ∷ rest })
+        (asked top.path (Read (0x158 + 0x20 * top.port))) tt
+        (λ at. told_holds (record w { todo = []; tried = top ∷ rest }) _ Status tt
+        (inr ((λ e. cc), (λ e. cc))))
 
-  stage_holds : (stage : Stage) → HoldsOn stage → HoldsOn (stepped (between stage) old).walker.stage
-  stage_holds Ask on =
-      reached_holds (between Ask) (asked w.path (Read 0x68)) tt
-      (λ at. told_holds (record w { todo = [] }) _ Ask tt
-      (inl (subst (IsNoGreater w.id) (sym (lock_told (old at.node) at.port)) (small at.node))))
-  stage_holds Claim on =
-      reached_holds (between Claim) (asked w.path (Write 0x68 w.id)) tt (λ at. tt)
-  stage_holds Check on =
-      reached_holds (between Check) (asked w.path (Read 0x68)) tt
-      (λ at. told_holds (record w { todo = [] }) _ Check tt
-      (inl (subst (IsNoGreater w.id) (sym (lock_told (old at.node) at.port)) (small at.node))))
-  stage_holds Test on =
-      reached_holds (between Test) (asked w.path (Read 0x6c)) tt
-      (λ at. told_holds (record w { todo = [] }) _ Test tt (inr ((λ e. cc), (λ e. cc))))
-  stage_holds Features on =
-      reached_holds (between Features) (asked w.path (Read 0x10)) tt
-      (λ at. told_holds (record w { todo = [] }) _ Features tt (inr ((λ e. cc), (λ e. cc))))
-  stage_holds Information on =
-      reached_holds (between Information) (asked w.path (Read 0x14)) tt (λ at. tt)
-  stage_holds Status on = status_holds w.tried
-  stage_holds Free on = absurd on
-  stage_holds Done on = tt
-  stage_holds Lost on = absurd on
+    stage_holds : (stage : Stage) → HoldsOn stage → HoldsOn (stepped (between stage)
+        old).walker.stage
+    stage_holds Ask on =
+        reached_holds (between Ask) (asked w.path (Read 0x68)) tt
+        (λ at. told_holds (record w { todo = [] }) _ Ask tt
+        (inl (subst (IsNoGreater w.id) (sym (lock_told (old at.node) at.port)) (small at.node))))
+    stage_holds Claim on =
+        reached_holds (between Claim) (asked w.path (Write 0x68 w.id)) tt (λ at. tt)
+    stage_holds Check on =
+        reached_holds (between Check) (asked w.path (Read 0x68)) tt
+        (λ at. told_holds (record w { todo = [] }) _ Check tt
+        (inl (subst (IsNoGreater w.id) (sym (lock_told (old at.node) at.port)) (small at.node))))
+    stage_holds Test on =
+        reached_holds (between Test) (asked w.path (Read 0x6c)) tt
+        (λ at. told_holds (record w { todo = [] }) _ Test tt (inr ((λ e. cc), (λ e. cc))))
+    stage_holds Features on =
+        reached_holds (between Features) (asked w.path (Read 0x10)) tt
+        (λ at. told_holds (record w { todo = [] }) _ Features tt (inr ((λ e. cc), (λ e. cc))))
+    stage_holds Information on =
+        reached_holds (between Information) (asked w.path (Read 0x14)) tt (λ at. tt)
+    stage_holds Status on = status_holds w.tried
+    stage_holds Free on = absurd on
+    stage_holds Done on = tt
+    stage_holds Lost on = absurd on
 
 settled_holds : (w : Walker) (rest : List Pending) (stage : Stage) (path : List ℕ)
     → HoldsOn stage → HoldsOn (settled (record w { stage = stage }) rest stage path).stage
@@ -232,7 +235,8 @@ module _ (o : Walker) (before : Registers) (free : (node : ℕ) → (before node
         (begun_contest w o before old contest, less, on)
 
 -- the other's ID is the same after its turn
-other_id : (w : Walker) (before : Registers) (o : Walker) (old : Registers) → IsContest o w before old
+other_id : (w : Walker) (before : Registers) (o : Walker) (old : Registers) → IsContest o w before
+    old
     → (turned o old).walker.id ≡ o.id
 other_id w before o old contest =
     (turned_by (λ state. IsContest state.walker w before state.registers

@@ -4,7 +4,9 @@ mod Reading
 pub mod Turning
 mod Stepped
 mod Staged
+mod Freed
 pub mod Apart
 pub mod Greater
 pub mod Few
+mod Between
 pub mod Bounding

@@ -140,7 +140,8 @@ module _ (w : Walker) (old : Registers) (p : Pending) (rest : List Pending)
 
 module _ (w : Walker) (old : Registers) where
   -- a port was tried, and nothing else
-  pub gone_leaves : (w0 : Walker) (todo : List Pending) (stage : Stage) → w0.view ≡ w.view → w0.id ≡ w.id
+  pub gone_leaves : (w0 : Walker) (todo : List Pending) (stage : Stage) → w0.view ≡ w.view → w0.id
+      ≡ w.id
       → ((node : ℕ) → Leads w.view (paths_of w.devices ++ []) node → Keeps w0 node)
       → ((node : ℕ) → Keeps w0 node → Leads w.view (paths_of w.devices ++ []) node)
       → ((node : ℕ) → ¬ HasClaimed w0 old node)
@@ -152,7 +153,8 @@ module _ (w : Walker) (old : Registers) where
       → AreOwnWrites (paths_of w.devices ++ []) todo
       → Leaves w0 old (gone_on (record w { todo = todo; stage = stage }) w.tried) old
   gone_leaves w0 todo stage view id less more none locks tags once tried own =
-      gone-cases (λ after. Leaves w0 old after old) (record w { todo = todo; stage = stage }) w.tried
+      gone-cases (λ after. Leaves w0 old after old) (record w { todo = todo; stage = stage })
+      w.tried
       tried
       (λ t listed. (
         quiet w0 old (record w { todo = todo; tried = t; stage = Status }) (sym id) less more none,
@@ -245,7 +247,8 @@ module _ (w : Walker) (old : Registers) (fits : w.id < 0xff) (at : PortRef)
           → Keeps (at_stage w stage) node ⊎ ((old node).lock ≡ w.id)
       grown node path leads (inl found) =
           inl (less node (path, Contains-append_left (paths_of w.devices) [] path found, leads))
-      grown node path leads (inr found) = inr (here path node leads (Contains-cases w.path [] path found))
+      grown node path leads (inr found) = inr (here path node leads
+          (Contains-cases w.path [] path found))
 
   -- the lock is read
   pub ask_leaves : IsMine (at_stage w Ask) old
@@ -291,8 +294,12 @@ module _ (w : Walker) (old : Registers) (fits : w.id < 0xff) (at : PortRef)
             taken_turn Check held (λ node k. k) (λ node k. k),
             taken_mine w old fits mine.locks mine.tags mine.once mine.tried at enters held
                 (λ path listed same.
-                mine.knows.1 at.node leads_here
-                (path, Contains-append_left (paths_of w.devices) [] path listed, same ∙ leads_here)),
+                mine.knows.1 at.node leads_here (
+                  path,
+                  Contains-append_left (paths_of w.devices) [] path listed,
+                  same ∙
+                      leads_here,
+                )),
           )
       go false is =
           let other = eqb-false (old at.node).lock w.id is in (

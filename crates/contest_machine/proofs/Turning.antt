@@ -57,7 +57,8 @@ cleared_own : (all : List (List ℕ)) (path : List ℕ) (host_id below : ℕ) �
     → AreOwnWrites all (cleared_below path host_id below)
 cleared_own all path host_id zero listed = tt
 cleared_own all path host_id (suc n) listed =
-    writes-append all (cleared_below path host_id n) (if n == host_id then [] else entry_set path n 255)
+    writes-append all (cleared_below path host_id n) (if n == host_id then [] else entry_set path n
+    255)
     (cleared_own all path host_id n listed) (go (eqb n host_id))
   where
     go : (b : Bool) → AreOwnWrites all (if b then [] else entry_set path n 255)
@@ -155,7 +156,8 @@ module _ (w : Walker) (now : Registers) (fits : w.id < 0xff)
   -- it waits, frees, or claims, by a lock that is not its own
   pub judged_mine : (at : PortRef) → entered w.view w.path ≡ Some at
       → (now at.node).lock ≢ w.id
-      → (stage : Stage) → IsMine (judged (record w { todo = []; stage = stage }) (now at.node).lock) now
+      → (stage : Stage) → IsMine (judged (record w { todo = []; stage = stage })
+      (now at.node).lock) now
   judged_mine at enters other stage = go (eqb (now at.node).lock 0xffff) refl
     where
       waits : (b : Bool) → IsMine

@@ -37,7 +37,8 @@ Knows w now Free = w.devices ≢ []
 Knows w now Done = Unit {0}
 Knows w now Lost = Unit {0}
 
--- a write that is still to be made is to a device that is kept, and not to its lock; no tag is made 0
+-- a write that is still to be made is to a device that is kept, and not to its lock; no tag is
+-- made 0
 abbrev pub IsOwnWrite : List (List ℕ) → Pending → Type 0
 IsOwnWrite paths p =
     Contains paths p.path × (p.offset ≢ 0x68) × (p.offset ≡ 0x6c → p.value ≢ 0)

@@ -20,7 +20,8 @@ use Rattle.contest_machine.specs.declared.stages.Tried.{Tried}
 use Rattle.contest_machine.specs.declared.stages.Stage.{Stage}
 use Rattle.contest_machine.specs.declared.stages.Stage.TheVariants.{Ask, Claim, Check, Test, Features, Information, Status, Free, Done, Lost}
 
--- `view` is the fabric as its host sees it. `devices` are those that were taken in, `next` is the ID
+-- `view` is the fabric as its host sees it. `devices` are those that were taken in, `next` is the
+-- ID
 -- that is given next. `path` is tried; `tried` are the switches on the way to it, the last first.
 -- `begun` says that it has had a turn.
 pub record Walker : Type 0 where

@@ -30,7 +30,8 @@ abbrev pub locked_on : State → State
 locked_on state =
     if is_locking state.walker.stage then stepped state.walker state.registers else state
 
--- A turn is one access. But in its first turn a walker makes all accesses that lock its host: at most
+-- A turn is one access. But in its first turn a walker makes all accesses that lock its host: at
+-- most
 -- three, since nobody is between.
 abbrev pub turned : Walker → Registers → State
 turned w registers =

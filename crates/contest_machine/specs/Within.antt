@@ -12,7 +12,8 @@ abbrev pub AreShort : ℕ → List Tried → Type 0
 AreShort most [] = Unit {0}
 AreShort most (top ∷ rest) = (length top.path < most) × AreShort most rest
 
--- No path is longer than the list of devices. An ID is given for each device at most, and the host's
+-- No path is longer than the list of devices. An ID is given for each device at most, and the
+-- host's
 -- is left out once.
 pub record IsBounded (devices : List Device) (id next : ℕ) (path : List ℕ)
     (tried : List Tried) : Type 0 where

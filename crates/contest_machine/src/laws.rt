@@ -7,13 +7,14 @@ pub fn each_turn_keeps_apart()
     ensures { TurnsKeepApart }
 {}
 
-/// The walker with the greater ID neither frees devices nor is lost, if nothing was locked at first.
+/// The walker with the greater ID neither frees devices nor is lost, if nothing was locked at
+/// first.
 pub fn the_greater_is_never_lost()
     ensures { GreaterHoldsOn }
 {}
 
-/// Whatever the registers are, no access makes a path longer than the list of devices, or gives more
-/// IDs. No more devices are kept than there are.
+/// Whatever the registers are, no access makes a path longer than the list of devices, or gives
+/// more IDs. No more devices are kept than there are.
 pub fn a_walker_stays_within_bounds()
     ensures within { StaysWithin }
     ensures few { KeepsFew }

@@ -6,14 +6,15 @@
 //! code. After every list of turns of two walkers no device is kept by both, and the walker with
 //! the greater ID is never lost if nothing was locked at first.
 //!
-//! Left out: how an access travels, and code that runs: `host_contest` has both.
+//! Left out: how an access travels, and code that runs, which `host_contest` has.
 //!
-//! - [`Stage`] is what a walker asks next, [`Asked`] the access, [`Pending`] a write that it has still
-//!   to make, [`Tried`] a switch whose ports it tries, and [`Turn`] what came of a turn.
-//! - `specs/Machine.antt` is the machine, `specs/Turns.antt` a turn of it, `specs/Contest.antt` what
-//!   stands between two turns, `specs/Within.antt` how long paths and lists are, and `specs/Laws.antt` the laws.
-//! - [`each_turn_keeps_apart`], [`the_greater_is_never_lost`] and [`a_walker_stays_within_bounds`] are
-//!   the laws.
+//! - [`Stage`] is what a walker asks next, [`Asked`] the access, [`Pending`] a write that it has
+//!   still to make, [`Tried`] a switch whose ports it tries, and [`Turn`] what came of a turn.
+//! - `specs/Machine.antt` is the machine, `specs/Turns.antt` a turn of it, `specs/Contest.antt`
+//!   what stands between two turns, `specs/Within.antt` how long paths and lists are, and
+//!   `specs/Laws.antt` the laws.
+//! - [`each_turn_keeps_apart`], [`the_greater_is_never_lost`] and [`a_walker_stays_within_bounds`]
+//!   are the laws.
 #![tactic(auto)]
 
 mod laws;

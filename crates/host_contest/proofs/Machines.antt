@@ -119,7 +119,8 @@ pub all_but_last : (devices : List Device)
 all_but_last [] = refl
 all_but_last (device ∷ []) = refl
 all_but_last (device ∷ second ∷ rest) =
-    let one : length (device ∷ second ∷ rest) - 1 ≡ suc (length (second ∷ rest) - 1) = omega arith in
+    let one : length (device ∷ second ∷ rest) - 1 ≡ suc (length (second ∷ rest) - 1) = omega arith
+    in
     ap (λ n. take n (device ∷ second ∷ rest)) one
     ∙ ap (λ l. device ∷ l) (all_but_last (second ∷ rest))
 
@@ -179,7 +180,8 @@ with_writes w todo = record w { todo = todo }
 abbrev numbered_as : Walker → ℕ → Walker
 numbered_as w id =
     gone_with (id + 1) (with_device
-    (with_writes w (write w.path 0x60 (id * 0x10000) ∷ routes_to w.devices w.path id)) (Endpoint id))
+    (with_writes w (write w.path 0x60 (id * 0x10000) ∷ routes_to w.devices w.path id))
+    (Endpoint id))
 
 pub number_so : (w pushed after : Walker) (todo : List Pending) (id first : ℕ) (rest : List ℕ)
     → w.path ≡ first ∷ rest → id ≡ id_after w.id w.next

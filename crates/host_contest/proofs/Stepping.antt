@@ -86,7 +86,8 @@ module _ (old new : PlainFabric) (host : ℕ) (same : view_of new host ≡ view_
           topology = subst IsTopology (sym same) can.topology;
           id = subst (λ n. n < 0xff) (sym same_id) can.id;
           mine = subst (λ (s : State). IsMine s.walker s.registers) (sym is) leaves.1;
-          within = subst (λ (s : State). IsWithin s.walker) (sym is) (stepped_within w r can.within);
+          within = subst (λ (s : State). IsWithin s.walker) (sym is)
+              (stepped_within w r can.within);
         }
 
 -- no more devices are kept than there are

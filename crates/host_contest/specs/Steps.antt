@@ -16,7 +16,8 @@ state_in fabric host machine = record {
   registers = registers_of fabric.devices.items;
 }
 
--- The links join ports of devices, what the walker keeps bears its ID, and its list and its paths are
+-- The links join ports of devices, what the walker keeps bears its ID, and its list and its paths
+-- are
 -- no longer than they can be.
 pub record CanStep (fabric : PlainFabric) (host : ℕ) (machine : Machine) : Type 0 where
   pub topology : IsTopology (view_of fabric host)

@@ -47,8 +47,8 @@ impl Walker {
         }
     }
 
-    /// One turn: one access, or in the first turn all that lock the host. It answers `Waiting` if it
-    /// read the lock of a host with a lesser ID, `Done` and `Lost` once it has ended, and else
+    /// One turn: one access, or in the first turn all that lock the host. It answers `Waiting` if
+    /// it read the lock of a host with a lesser ID, `Done` and `Lost` once it has ended, and else
     /// `Going`. After `NoMemory` neither fabric nor walker is of use.
     pub fn turn(&mut self, alloc: Global, fabric: &mut PlainFabric) -> Result<Turn, NoMemory>
         requires can { CanStep fabric.old self.old.host self.old.machine }

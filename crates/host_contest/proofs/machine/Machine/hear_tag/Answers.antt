@@ -9,5 +9,6 @@ returns-then-tag-eq0 c =
     on_ok c.keep.result (λ kept view.
     kept view
     ∙ choose (c.args.tag == 0) (taken (machine_of view c.args.self.now))
-    (gone_on (machine_of view c.args.self.now) c.args.self.now.tried) (eq-eqb c.args.tag 0 c.if-tag-eq0.true))
+    (gone_on (machine_of view c.args.self.now) c.args.self.now.tried)
+    (eq-eqb c.args.tag 0 c.if-tag-eq0.true))
     c.keep.ensures

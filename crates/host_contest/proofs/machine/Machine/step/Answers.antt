@@ -29,7 +29,8 @@ returns-in-Some-access-clause-stepped c =
 pub returns-in-Some-access-clause-can : goal.returns-in-Some-access-clause-can
 returns-in-Some-access-clause-can c =
     on_ok c.told.result (λ stepped.
-    can_after c.args.fabric.now c.access.new.self c.args.host (c.access.ensures.topology c.args.host)
+    can_after c.args.fabric.now c.access.new.self c.args.host
+    (c.access.ensures.topology c.args.host)
     c.args.self.now c.told.new.self c.requires.can stepped)
     (returns-in-Some-access-clause-stepped c)
 
@@ -47,5 +48,6 @@ returns-in-None-clause-stepped c =
 
 pub returns-in-None-clause-can : goal.returns-in-None-clause-can
 returns-in-None-clause-can c =
-    can_after c.args.fabric.now c.access.new.self c.args.host (c.access.ensures.topology c.args.host)
+    can_after c.args.fabric.now c.access.new.self c.args.host
+    (c.access.ensures.topology c.args.host)
     c.args.self.now c.args.self.now c.requires.can (returns-in-None-clause-stepped c)
