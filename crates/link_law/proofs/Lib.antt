@@ -6,3 +6,4 @@ pub mod DrainLaws
 pub mod PortTests
 pub mod SendLaws
 pub mod SettleLaws
+pub mod IdleTurns

@@ -9,6 +9,7 @@ ghost use Rattle.link_machine.specs.Calls.{edited_from};
 ghost use Rattle.link_machine.specs.States.{empty_wires, wire_at};
 
 use crate::answers::Fired;
+use crate::port_states::{has_no_turn, near};
 use link_port::Port;
 use link_watch::{Note, NoteEnd, Side, Watch};
 use link_wires::{Edit, Edited, Wire};
@@ -97,6 +98,10 @@ impl Link {
         ensures sent { IfOk result (λ chars. chars.items
             ≡ (bursts turns (from_end from (link self.old a.old b.old)).a).chars) }
     {
+        // Most ports have nothing to send, and a burst is dear to make.
+        if has_no_turn(near(from, a, b)) {
+            return Ok(Vec::new(alloc));
+        }
         match from {
             Side::A => self.a.pump(alloc, turns, a),
             Side::B => self.b.pump(alloc, turns, b),

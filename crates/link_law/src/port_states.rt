@@ -1,6 +1,7 @@
 //! What settling asks of the ports at the ends of a link.
-ghost use Rattle.std.specs.Prelude.{◌≡◌};
+ghost use Rattle.std.specs.Prelude.{◌≡◌, [], IsTrue};
 ghost use Rattle.link_machine.specs.States.{Wires, link, from_end};
+ghost use Rattle.link_port.specs.Turns.{turn_sends};
 ghost use Rattle.link_rest.specs.Settling.{waits, is_retry_stopped, has_failed, may_fire, is_done as done, is_ok, rests_to};
 
 use link_port::{InKind, OutKind, Port};
@@ -94,4 +95,15 @@ pub(crate) fn is_waiting(port: &Port) -> bool
     ensures { result ≡ waits port.now }
 {
     port.waiting()
+}
+
+/// Whether it is plain without a turn that a port has nothing to send: it is OK, and no packet
+/// waits.
+pub(crate) fn has_no_turn(port: &Port) -> bool
+    ensures { IsTrue result → (turn_sends port.now).sent ≡ [] }
+{
+    match port.out_kind() {
+        OutKind::Ok => !is_waiting(port),
+        _ => false,
+    }
 }
