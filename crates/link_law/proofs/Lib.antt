@@ -7,3 +7,4 @@ pub mod PortTests
 pub mod SendLaws
 pub mod SettleLaws
 pub mod IdleTurns
+pub mod RestLaws

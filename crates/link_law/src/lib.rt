@@ -9,13 +9,15 @@
 //! Left out: that a corruption is detected, and that a packet arrives on a link that is not
 //! settled.
 //!
-//! - [`Link`]: `pump`, `deliver`, `edit`, `time_out` and `settle`
+//! - [`Link`]: `pump`, `deliver`, `edit`, `time_out` and `settle`; and `has_no_work`, which says
+//!   whether any of this is to be done
 //! - [`LinkEnd`] and [`Fired`]: why a delivery or settling ended, and what came of a time-out; the
 //!   other answers are those of `link_wires` and `link_watch`
 //!
 //! What each call does and notes is defined in `link_machine`, with its law, and the schedule of
 //! settling in `link_rest`. `specs` has what the calls answer, `Answers`; what a call does of a
-//! part of the schedule, `Does`; and `Carried`, what a delivery told.
+//! part of the schedule, `Does`; `Carried`, what a delivery told; and `Resting`, which link has
+//! nothing to do.
 #![tactic(auto)]
 
 mod answers;

@@ -1,15 +1,16 @@
 //! `Link`: two wires between two ports.
-ghost use Rattle.std.specs.Prelude.{◌≡◌, ◌≤◌, ℕ, List, length, IfOk, OnOk, OnErr, IsErrOf};
+ghost use Rattle.std.specs.Prelude.{◌≡◌, ◌≤◌, ◌&&◌, ℕ, List, length, IfOk, OnOk, OnErr, IsErrOf};
 ghost use Rattle.rio_chars.specs.Faults.{Rose};
 ghost use Rattle.link_port.specs.Ports.{PortState};
-ghost use Rattle.link_machine.specs.Prelude.{Stopped, sent_notes, pumped, pump_notes, is_silent, timed_out_at, time_out_notes, IsSoundLink, link, from_end};
+ghost use Rattle.link_machine.specs.Prelude.{Stopped, has_none, sent_notes, pumped, pump_notes, is_silent, timed_out_at, time_out_notes, IsSoundLink, link, from_end};
 ghost use Rattle.link_wires.specs.Wires.{bursts, fits, answered};
 ghost use Rattle.link_law.specs.Answers.{fired};
+ghost use Rattle.link_law.specs.Resting.{has_no_work};
 ghost use Rattle.link_machine.specs.Calls.{edited_from};
 ghost use Rattle.link_machine.specs.States.{empty_wires, wire_at};
 
 use crate::answers::Fired;
-use crate::port_states::{has_no_turn, near};
+use crate::port_states::{are_idle, has_no_turn, near};
 use link_port::Port;
 use link_watch::{Note, NoteEnd, Side, Watch};
 use link_wires::{Edit, Edited, Wire};
@@ -52,6 +53,21 @@ impl Link {
             Side::A => self.a.length(),
             Side::B => self.b.length(),
         }
+    }
+
+    /// Whether nothing stands on either wire.
+    fn is_silent(&self) -> bool
+        ensures { result ≡ (has_none self.now.a.chars && has_none self.now.b.chars) }
+    {
+        self.a.length() == 0 && self.b.length() == 0
+    }
+
+    /// Whether the link has nothing to do: its wires are empty, both directions are at rest, and no
+    /// packet waits. Then turns and settling do nothing.
+    pub fn has_no_work(&self, a: &Port, b: &Port) -> bool
+        ensures { result ≡ has_no_work (link self.now a.now b.now) }
+    {
+        self.is_silent() && are_idle(a, b)
     }
 
     /// Has a port take turns, and puts what it sends on its wire.
@@ -164,7 +180,7 @@ impl Link {
         ensures early { result ≡ is_silent (link self.old a.old b.old) }
         ensures link { link self.new a.new b.new ≡ timed_out_at side (link self.old a.old b.old) }
     {
-        if self.a.length() > 0 || self.b.length() > 0 {
+        if !self.is_silent() {
             return false;
         }
         self.a.silence();

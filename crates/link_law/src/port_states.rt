@@ -3,6 +3,7 @@ ghost use Rattle.std.specs.Prelude.{◌≡◌, [], IsTrue};
 ghost use Rattle.link_machine.specs.States.{Wires, link, from_end};
 ghost use Rattle.link_port.specs.Turns.{turn_sends};
 ghost use Rattle.link_rest.specs.Settling.{waits, is_retry_stopped, has_failed, may_fire, is_done as done, is_ok, rests_to};
+ghost use Rattle.link_law.specs.Resting.{rest_both as both_rest, none_waits as no_packet_waits, are_idle as idle_ports};
 
 use link_port::{InKind, OutKind, Port};
 use link_watch::Side;
@@ -95,6 +96,27 @@ pub(crate) fn is_waiting(port: &Port) -> bool
     ensures { result ≡ waits port.now }
 {
     port.waiting()
+}
+
+/// Whether neither port has anything to do, if nothing comes.
+pub(crate) fn are_idle(a: &Port, b: &Port) -> bool
+    ensures { result ≡ idle_ports a.now b.now }
+{
+    rest_both(a, b) && none_waits(a, b)
+}
+
+/// Whether both directions are at rest.
+fn rest_both(a: &Port, b: &Port) -> bool
+    ensures { result ≡ both_rest a.now b.now }
+{
+    is_quiet(a, b) && is_quiet(b, a)
+}
+
+/// Whether no packet waits at either port.
+fn none_waits(a: &Port, b: &Port) -> bool
+    ensures { result ≡ no_packet_waits a.now b.now }
+{
+    !is_waiting(a) && !is_waiting(b)
 }
 
 /// Whether it is plain without a turn that a port has nothing to send: it is OK, and no packet

@@ -1,0 +1,166 @@
+-- A link that has nothing to do is left as it is: its ports send nothing, and it settles by nothing.
+use Rattle.std.proofs.Common.{◌≡◌, ◌&&◌, ◌||◌, ◌∙◌, ℕ, nat_lt, length, Bool, true, false, not, if◌then◌else◌, MatchBool, List, [], ◌∷◌, Option, Some, None, refl, sym, ap, subst}
+use Rattle.rio_chars.specs.declared.chars.Char.{Char}
+use Rattle.link_buffers.specs.Priorities.{highest}
+use Rattle.link_model.specs.Output as out
+use Rattle.link_model.specs.Prelude.{window}
+use Rattle.link_model.specs.Outstanding.{Outstanding}
+use Rattle.link_port.specs.Prelude.{PortState, burst_of, expected_of, waiting_in, turn_sends}
+use Rattle.link_wires.specs.Wires.{bursts}
+use Rattle.link_machine.specs.Prelude.{Side, A, B, LinkState, from_end, turned_round, pumped, pump_notes, sent_notes, has_none, is_silent}
+use Rattle.link_rest.specs.Acts.{Act, At, goes}
+use Rattle.link_rest.specs.Schedules.{NextOf}
+use Rattle.link_rest.specs.Schedules.LoopOf.{Rests}
+use Rattle.link_rest.specs.Settling.{Part, is_retry_stopped, has_failed, is_done, is_some, waits, rests_to, first_rests, is_busy, Drains, Restarts, Requests, Recovers, SendsAll, Settles}
+use Rattle.link_rest.proofs.Drains.{goes_none}
+use Rattle.link_law.specs.Resting.{rest_both, none_waits, are_idle, has_no_work}
+use Rattle.link_law.proofs.IdleTurns.{idle_pumped, idle_chars}
+
+both : (a b : Bool) → (a && b) ≡ true → (a ≡ true) × (b ≡ true)
+both true b is = (refl, is)
+both false b is = absurd cc
+
+neither : (a : Bool) → not a ≡ true → a ≡ false
+neither true is = absurd cc
+neither false is = refl
+
+-- what the test says of a link
+pub record IsIdle (s : LinkState) : Type 0 where
+  pub silent : is_silent s ≡ true
+  pub rests_a : rests_to s.a s.b ≡ true
+  pub rests_b : rests_to s.b s.a ≡ true
+  pub none_a : waits s.a ≡ false
+  pub none_b : waits s.b ≡ false
+
+pub idle_by : (s : LinkState) → has_no_work s ≡ true → IsIdle s
+idle_by s is =
+    let parts = both (is_silent s) (are_idle s.a s.b) is in
+    let more = both (rest_both s.a s.b) (none_waits s.a s.b) parts.1 in
+    let rest = both (rests_to s.a s.b) (rests_to s.b s.a) more.0 in
+    let none = both (not (waits s.a)) (not (waits s.b)) more.1 in
+    record {
+      silent = parts.0;
+      rests_a = rest.0;
+      rests_b = rest.1;
+      none_a = neither (waits s.a) none.0;
+      none_b = neither (waits s.b) none.1;
+    }
+
+-- ---- turns
+
+no_room_or_none : (room : Bool) → Path (Option ℕ) (if room then None else None) None
+no_room_or_none true = refl
+no_room_or_none false = refl
+
+none_startable : (w : Outstanding) (first : Option ℕ) → is_some first ≡ false
+    → out.startable w first ≡ None
+none_startable w None is = no_room_or_none (nat_lt (length w.prios) window)
+none_startable w (Some prio) is = absurd cc
+
+done_sends : (o : out.Output) (waiting : List (List (List ℕ))) (expected : ℕ) → is_done o ≡ true
+    → is_some (highest waiting) ≡ false
+    → (burst_of (out.turns o (highest waiting)).sends expected waiting).sent ≡ []
+done_sends (out.Output.Ok w) waiting expected done none =
+    ap (λ (first : Option ℕ). (burst_of (out.started w first).sends expected waiting).sent)
+    (none_startable w (highest waiting) none)
+done_sends (out.Output.RetryStopped w) waiting expected done none = absurd cc
+done_sends (out.Output.ErrorStopped asked w) waiting expected done none = absurd cc
+done_sends out.Output.Failed waiting expected done none = absurd cc
+
+port_sends : (port far : PortState) → rests_to port far ≡ true → waits port ≡ false
+    → (turn_sends port).sent ≡ []
+port_sends port far rests none =
+    done_sends port.output (waiting_in port) (expected_of port.input)
+    (both (is_done port.output) _ rests).0 none
+
+end_sends : (side : Side) (s : LinkState) → IsIdle s → (turn_sends (from_end side s).a).sent ≡ []
+end_sends A s idle = port_sends s.a s.b idle.rests_a idle.none_a
+end_sends B s idle = port_sends s.b s.a idle.rests_b idle.none_b
+
+pub idle_stays : (side : Side) (n : ℕ) (s : LinkState) → IsIdle s → pumped side n s ≡ s
+idle_stays side n s idle = idle_pumped side n s (end_sends side s idle)
+
+pub idle_notes : (side : Side) (n : ℕ) (s : LinkState) → IsIdle s → pump_notes side n s ≡ []
+idle_notes side n s idle =
+    ap (sent_notes side) (idle_chars n (from_end side s).a (end_sends side s idle))
+
+-- ---- settling
+
+-- a part that is made only if a test holds is not made, if it does not hold
+skipped : (test : Bool) (P : Type 0) → test ≡ false → MatchBool test P (Path (List Act) [] [])
+skipped test P is = subst (λ b. MatchBool b P (Path (List Act) [] [])) (sym is) refl
+
+held : (test : Bool) (P : Type 0) → P → MatchBool test P (Path (List Act) [] [])
+held true P part = part
+held false P part = refl
+
+module _ (s : LinkState) (idle : IsIdle s) where
+  pub wires_empty : (has_none s.wire_a.chars ≡ true) × (has_none s.wire_b.chars ≡ true)
+  wires_empty = both (has_none s.wire_a.chars) (has_none s.wire_b.chars) idle.silent
+
+  not_busy : is_busy (At s) ≡ false
+  not_busy =
+      ap (λ a. not a || not (has_none s.wire_b.chars)) wires_empty.0
+      ∙ ap (λ b. not true || not b) wires_empty.1
+
+  drains : Drains (At s) []
+  drains = Rests not_busy refl
+
+  done_is_ok : (o : out.Output) → is_done o ≡ true → is_retry_stopped o ≡ false
+  done_is_ok (out.Output.Ok w) done = refl
+  done_is_ok (out.Output.RetryStopped w) done = absurd cc
+  done_is_ok (out.Output.ErrorStopped asked w) done = absurd cc
+  done_is_ok out.Output.Failed done = absurd cc
+
+  end_rests : (side : Side) → first_rests (from_end side s) ≡ true
+  end_rests A = idle.rests_a
+  end_rests B = idle.rests_b
+
+  end_none : (side : Side) → waits (from_end side s).a ≡ false
+  end_none A = idle.none_a
+  end_none B = idle.none_b
+
+  restarts : (side : Side) → Restarts side (At s) []
+  restarts side =
+      skipped (is_retry_stopped (from_end side s).a.output) _
+      (done_is_ok (from_end side s).a.output
+      (both (is_done (from_end side s).a.output) _ (end_rests side)).0)
+
+  requests : (side : Side) → Requests side (At s) []
+  requests side = skipped (not (first_rests (from_end side s))) _ (ap not (end_rests side))
+
+  -- a part and another, neither of which does anything
+  none_then : (P Q : Part) → P (At s) [] → Q (At s) [] → NextOf goes P Q (At s) []
+  none_then P Q first second =
+      ([], [], refl, first, subst (λ r. Q r []) (sym (goes_none (At s))) second)
+
+  recovers : (side : Side) → Recovers side (At s) []
+  recovers side =
+      held (not (has_failed (from_end side s).a.output)) _
+      (none_then (Restarts side) (Requests side) (restarts side) (requests side))
+
+  sends_all : (side : Side) → SendsAll side (At s) []
+  sends_all side = held (first_rests (from_end side s)) _ (Rests (end_none side) refl)
+
+  pub idle_settles : Settles (At s) []
+  idle_settles =
+      let sends = none_then (SendsAll A) (SendsAll B) (sends_all A) (sends_all B) in
+      let second = none_then (Recovers B) (NextOf goes (SendsAll A) (SendsAll B)) (recovers B) sends
+      in
+      none_then Drains
+      (NextOf goes (Recovers A) (NextOf goes (Recovers B) (NextOf goes (SendsAll A) (SendsAll B))))
+      drains
+      (none_then (Recovers A) (NextOf goes (Recovers B) (NextOf goes (SendsAll A) (SendsAll B)))
+      (recovers A) second)
+
+-- the same with the ends in the other order
+pub idle_round : (s : LinkState) → IsIdle s → IsIdle (turned_round s)
+idle_round s idle =
+    let none = wires_empty s idle in
+    record {
+      silent = ap (λ b. b && has_none s.wire_a.chars) none.1 ∙ ap (λ a. true && a) none.0;
+      rests_a = idle.rests_b;
+      rests_b = idle.rests_a;
+      none_a = idle.none_b;
+      none_b = idle.none_a;
+    }
