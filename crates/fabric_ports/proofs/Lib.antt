@@ -6,6 +6,7 @@ pub mod BlockLaws
 pub mod Cables
 pub mod CarriedLaws
 pub mod CarryAllLaws
+pub mod IdleLinks
 pub mod CarryLaws
 pub mod Changes
 pub mod CollectLaws

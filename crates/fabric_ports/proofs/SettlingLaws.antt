@@ -2,6 +2,7 @@
 use Rattle.fabric_trace.specs.Known.{Seen}
 use Rattle.std.proofs.Common.{◌≡◌, ℕ, zero, suc, ◌+◌, ◌<◌, List, [], ◌∷◌, ◌++◌, length, map, take, drop, get_or, slice_get, Option, Some, None, IsSome, option_map, refl, sym, ap, ◌∙◌, subst, arith}
 use Rattle.std.proofs.lemmas.List.{length-map, take-append-drop, take_more, drop_more}
+use Rattle.std.proofs.lemmas.Option.{slice_get-map, slice_get-get_or}
 use Rattle.rio_chars.specs.declared.outbox.Outbox.{Outbox}
 use Rattle.maint_registers.specs.Devices.{Device, is_switch}
 use Rattle.fabric_script.specs.declared.lines.Line.TheVariants.{Settle}
@@ -128,6 +129,13 @@ pub record IsNext (from : Seen) (k : ℕ) (link : PortRef × PortRef) : Type 0 w
   pub found : link_in from.network.links link.0 ≡ Some link
   pub more : take (k + 1) from.network.links ≡ take k from.network.links ++ link ∷ []
   pub whole : take k from.network.links ++ link ∷ drop (k + 1) from.network.links ≡ from.network.links
+
+-- the ends of the link at a place
+pub ends_at : (cables : List Cable) (k : ℕ) (cable : Cable) → k < length cables
+    → cable ≡ get_or cables k cable → slice_get (map ends_of cables) k ≡ Some (ends_of cable)
+ends_at cables k cable within at =
+    slice_get-map ends_of cables k
+    ∙ ap (option_map ends_of) (slice_get-get_or cables k cable within ∙ ap Some (sym at))
 
 pub next_link : {from : Seen} {lines : List TraceLine} {fabric : Fabric} (k : ℕ) (cable : Cable)
     → Stands from lines fabric → cable ≡ get_or fabric.cables.items k cable

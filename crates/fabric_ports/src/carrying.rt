@@ -1,5 +1,5 @@
 //! What the links do in a round of an ask.
-ghost use Rattle.std.specs.Prelude.{◌≡◌, ◌≤◌, ◌<◌, List, length, OnOk, IfErr};
+ghost use Rattle.std.specs.Prelude.{◌≡◌, ◌≤◌, ◌<◌, List, length, map, slice_get, Some, OnOk, IfErr};
 ghost use Rattle.rio_chars.specs.Written.{Writes};
 ghost use Rattle.rio_chars.specs.declared.chars.Char.{Char};
 ghost use Rattle.link_wires.specs.Wires.{fits, answered};
@@ -11,6 +11,7 @@ ghost use Rattle.fabric_ask.specs.Noise.{edit_line, edit_lines, is_idle};
 ghost use Rattle.fabric_ports.specs.Carrying.{AreLinked, WithLeft, BothTurn, Stirs, Edits, BothStir, Carries, LinksCarry};
 ghost use Rattle.fabric_ports.specs.Ends.{IsLinked};
 ghost use Rattle.fabric_ports.specs.Ran.{Ran, RanEnds};
+ghost use Rattle.fabric_ports.specs.Showing.{ends_of};
 ghost use Rattle.fabric_ports.specs.Standing.{Stands};
 
 use crate::actions::Action;
@@ -46,9 +47,37 @@ impl Fabric {
         for place in 0..self.cables.len() {
             let cable = &self.cables[place];
             let (a, b) = (cable.a, cable.b);
-            self.carry(alloc, names, (a, b), noise, outbox)?;
+            self.carry_at(alloc, names, place, (a, b), noise, outbox)?;
         }
         Ok(())
+    }
+
+    /// The link at a place carries what it can, if it has anything to do. Most links have not.
+    fn carry_at<N: Noise, K: Sink>(
+        &mut self,
+        alloc: Global,
+        names: &[Name],
+        place: usize,
+        ends: (PortRef, PortRef),
+        noise: &mut N,
+        outbox: &mut Outbox<K>,
+    ) -> Result<(), EventEnd>
+        requires at { slice_get (map ends_of self.old.cables.items) place ≡ Some ends }
+        requires linked { AreLinked self.old ends }
+        requires named { length self.old.devices.items ≤ length names.now }
+        ensures done { OnOk result ((from : Seen) (lines : List TraceLine)
+            → Stands from lines self.old
+            → Ran (Carries ends (N.edits noise.old) (N.edits noise.new)) names.now
+            K.written K.faults outbox.old outbox.new from lines self.new) }
+        ensures ended { IfErr result (λ end. (from : Seen) (lines : List TraceLine)
+            → Stands from lines self.old
+            → RanEnds (WithLeft (Carries ends (N.edits noise.old))) names.now
+            K.written K.faults outbox.old outbox.new from lines end) }
+    {
+        if self.is_idle(place) {
+            return Ok(());
+        }
+        self.carry(alloc, names, ends, noise, outbox)
     }
 
     /// Both ports of a link take a turn, each wire that has characters gets the next edit, and the

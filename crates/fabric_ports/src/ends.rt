@@ -4,7 +4,10 @@ ghost use Rattle.std.specs.Borrow.{sem, LendsBoth, Array};
 ghost use Rattle.link_port.specs.contracts.port.Port.{the_row};
 ghost use Rattle.fabric_model.specs.Network.{link_in};
 ghost use Rattle.fabric_ports.specs.Ends.{IsLinked, IsEndOf, IsPlaceOf};
-ghost use Rattle.fabric_ports.specs.Showing.{ends_of};
+ghost use Rattle.fabric_ports.specs.Showing.{ends_of, ShowsFabric};
+ghost use Rattle.fabric_script.specs.declared.ports.PortRef.{PortRef};
+ghost use Rattle.fabric_trace.specs.Known.{Seen, link_at};
+ghost use Rattle.link_law.specs.Resting.{has_no_work};
 
 use crate::fabric::{Cable, Fabric};
 use fabric_script::PortRef;
@@ -36,6 +39,20 @@ impl Fabric {
             a: self.place(cable.a),
             b: self.place(cable.b),
         }
+    }
+
+    /// Whether the link at a place has nothing to do.
+    pub(crate) fn is_idle(&self, place: usize) -> bool
+        requires shown { (s : Seen) × ShowsFabric self.now s }
+        requires within { place < length self.now.cables.items }
+        ensures { (s : Seen) (a b : PortRef) → ShowsFabric self.now s
+            → slice_get (map ends_of self.now.cables.items) place ≡ Some (a, b)
+            → result ≡ has_no_work (link_at s a b) }
+    {
+        let cable = &self.cables[place];
+        let a = &self.ports[self.place(cable.a)];
+        let b = &self.ports[self.place(cable.b)];
+        cable.link.has_no_work(a, b)
     }
 }
 

@@ -8,7 +8,7 @@ use Rattle.fabric_ports.specs.Showing.{ends_of}
 use Rattle.fabric_ports.specs.Standing.{Stands}
 use Rattle.fabric_ports.proofs.EndLaws.{links_stand}
 use Rattle.fabric_ports.proofs.RanLaws.{handed_on}
-use Rattle.fabric_ports.proofs.SettlingLaws.{devices_stay, cables_stay, next_link}
+use Rattle.fabric_ports.proofs.SettlingLaws.{devices_stay, cables_stay, ends_at, next_link}
 use Rattle.fabric_ports.proofs.CarryAllLaws.{next_linked, carry_begins, carried_more, carried_short, carried_all}
 use Rattle.fabric_ports.proofs.fabric.Fabric.carry_all.Goals as goal
 
@@ -29,8 +29,8 @@ index-cable-requires g c =
     omega (arith, same, end, test, counted) in
     search rules
 
-pub carry-requires-clause-linked : goal.carry-requires-clause-linked
-carry-requires-clause-linked g c =
+pub carry_at-requires-clause-linked : goal.carry_at-requires-clause-linked
+carry_at-requires-clause-linked g c =
     let known = c.requires.stands in
     let ran = c.loop-place.invariant known.0 known.1 known.2 in
     let same = cables_stay known.2 ran.stands in
@@ -42,19 +42,19 @@ carry-requires-clause-linked g c =
     (next_link c.loop-place.place c.index-cable.result.now ran.stands c.index-cable.ensures
     (omega (arith, same, end, test, counted)))
 
-pub carry-requires-clause-named : goal.carry-requires-clause-named
-carry-requires-clause-named g c =
+pub carry_at-requires-clause-named : goal.carry_at-requires-clause-named
+carry_at-requires-clause-named g c =
     let known = c.requires.stands in
     let same = devices_stay known.2 (c.loop-place.invariant known.0 known.1 known.2).stands in
     let named = c.requires.named in
     omega (arith, same, named)
 
-pub returns-in_err-carry-clause-ended : goal.returns-in_err-carry-clause-ended
-returns-in_err-carry-clause-ended g c =
-    handed_on c.from_residual.result c.in_err-carry.field-0.0
+pub returns-in_err-carry_at-clause-ended : goal.returns-in_err-carry_at-clause-ended
+returns-in_err-carry_at-clause-ended g c =
+    handed_on c.from_residual.result c.in_err-carry_at.field-0.0
     (λ end. (from : Seen) (lines : List TraceLine) → Stands from lines c.args.self.now
     → RanEnds (WithLeft (LinksCarry (g.N.Noise.edits c.args.noise.now))) c.args.names.now
-    g.K.Sink.written g.K.Sink.faults c.args.outbox.now c.carry.new.outbox from lines end)
+    g.K.Sink.written g.K.Sink.faults c.args.outbox.now c.carry_at.new.outbox from lines end)
     c.from_residual.ensures.1
     (λ from lines stands.
     (let ran = c.loop-place.invariant from lines stands in
@@ -64,12 +64,12 @@ returns-in_err-carry-clause-ended g c =
     let counted : vec_len c.args.self.now.cables ≡ length c.args.self.now.cables.items =
     search rules in
     carried_short g.K.Sink.written g.K.Sink.faults c.args.names.now c.args.outbox.now
-    c.loop-place.outbox c.carry.new.outbox from lines c.args.self.now c.loop-place.self
+    c.loop-place.outbox c.carry_at.new.outbox from lines c.args.self.now c.loop-place.self
     c.loop-place.place (ends_of c.index-cable.result.now) (g.N.Noise.edits c.args.noise.now)
-    (g.N.Noise.edits c.loop-place.noise) c.in_err-carry.field-0.0 stands
+    (g.N.Noise.edits c.loop-place.noise) c.in_err-carry_at.field-0.0 stands
     (next_link c.loop-place.place c.index-cable.result.now ran.stands c.index-cable.ensures
     (omega (arith, same, end, test, counted))) ran
-    (c.in_err-carry.ensures.ended from (lines ++ ran.block) ran.stands)))
+    (c.in_err-carry_at.ensures.ended from (lines ++ ran.block) ran.stands)))
 
 pub loop-place-preserved : goal.loop-place-preserved
 loop-place-preserved g c = λ from lines stands.
@@ -80,13 +80,13 @@ loop-place-preserved g c = λ from lines stands.
     let counted : vec_len c.args.self.now.cables ≡ length c.args.self.now.cables.items =
     search rules in
     carried_more g.K.Sink.written g.K.Sink.faults c.args.names.now c.args.outbox.now
-    c.loop-place.outbox c.carry.new.outbox from lines c.args.self.now c.loop-place.self
-    c.carry.new.self c.loop-place.place (ends_of c.index-cable.result.now)
+    c.loop-place.outbox c.carry_at.new.outbox from lines c.args.self.now c.loop-place.self
+    c.carry_at.new.self c.loop-place.place (ends_of c.index-cable.result.now)
     (g.N.Noise.edits c.args.noise.now) (g.N.Noise.edits c.loop-place.noise)
-    (g.N.Noise.edits c.carry.new.noise) stands
+    (g.N.Noise.edits c.carry_at.new.noise) stands
     (next_link c.loop-place.place c.index-cable.result.now ran.stands c.index-cable.ensures
     (omega (arith, same, end, test, counted))) ran
-    (c.in_ok-carry.ensures.done from (lines ++ ran.block) ran.stands)
+    (c.in_ok-carry_at.ensures.done from (lines ++ ran.block) ran.stands)
 
 pub returns-clause-done : goal.returns-clause-done
 returns-clause-done g c = λ from lines stands.
@@ -102,3 +102,14 @@ returns-clause-done g c = λ from lines stands.
     (g.N.Noise.edits c.args.noise.now) (g.N.Noise.edits c.loop-place.noise)
     (take_all c.loop-place.place from.network.links (omega (arith, end, test, counted, many)))
     (c.loop-place.invariant from lines stands)
+
+pub carry_at-requires-clause-at : goal.carry_at-requires-clause-at
+carry_at-requires-clause-at g c =
+    let known = c.requires.stands in
+    let same = cables_stay known.2 (c.loop-place.invariant known.0 known.1 known.2).stands in
+    let end = c.len-place-end.ensures in
+    let test = c.loop-place-test.true in
+    let counted : vec_len c.args.self.now.cables ≡ length c.args.self.now.cables.items =
+    search rules in
+    ends_at c.loop-place.self.cables.items c.loop-place.place c.index-cable.result.now
+    (omega (arith, same, end, test, counted)) c.index-cable.ensures
