@@ -1,0 +1,2 @@
+pub mod IoForms
+pub mod IoLines
