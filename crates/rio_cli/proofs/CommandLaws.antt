@@ -10,7 +10,7 @@ use Rattle.rio_cli.specs.declared.status.Status.TheVariants.{Script, Unlawful}
 use Rattle.rio_cli.specs.Outputs.{IsAccepted, IsRefused, IsUnlawful, Completes, Exposes, Meets, Declines}
 use Rattle.rio_cli.specs.Checking.{HasTrace}
 use Rattle.rio_cli.proofs.HostLaws.{host_not_refused, host_refused_once}
-use Rattle.trace_check.specs.Inputs.{IsRefused as IsRefusedInput, Hit, NoTrace, set_up_bytes}
+use Rattle.script_input.specs.Inputs.{IsRefusedInput, Hit, NotParted, set_up_bytes}
 
 -- set-up lines with a trace behind them are not refused
 trace_not_refused : (bytes : List ℕ) (line reason : ℕ) → HasTrace bytes
@@ -19,7 +19,7 @@ trace_not_refused bytes line reason is (Hit refused) =
     let accepted = is.input.accepted in
     not_refused of_set_up (set_up_bytes bytes) accepted.end.names is.set_up line reason
     (accepted.end, refl, accepted.spelled) refused
-trace_not_refused bytes line reason is (NoTrace accepted none) =
+trace_not_refused bytes line reason is (NotParted accepted none) =
     let clash = sym none ∙ is.input.trace in cc
 
 -- what is carried out is not refused: a row for each command
@@ -37,13 +37,13 @@ trace_refused_once : (bytes : List ℕ) (line reason line2 reason2 : ℕ)
     → (line ≡ line2) × (reason ≡ reason2)
 trace_refused_once bytes line reason line2 reason2 (Hit a) (Hit b) =
     refused_once of_set_up (set_up_bytes bytes) line reason line2 reason2 a b
-trace_refused_once bytes line reason line2 reason2 (Hit a) (NoTrace {lines} accepted none) =
+trace_refused_once bytes line reason line2 reason2 (Hit a) (NotParted {lines} accepted none) =
     absurd (not_refused of_set_up (set_up_bytes bytes) accepted.end.names lines line reason
     (accepted.end, refl, accepted.spelled) a)
-trace_refused_once bytes line reason line2 reason2 (NoTrace {lines} accepted none) (Hit b) =
+trace_refused_once bytes line reason line2 reason2 (NotParted {lines} accepted none) (Hit b) =
     absurd (not_refused of_set_up (set_up_bytes bytes) accepted.end.names lines line2 reason2
     (accepted.end, refl, accepted.spelled) b)
-trace_refused_once bytes line reason line2 reason2 (NoTrace a none) (NoTrace b none2) =
+trace_refused_once bytes line reason line2 reason2 (NotParted a none) (NotParted b none2) =
     (refl, refl)
 
 -- a refused input has one line and one reason: a row for each command

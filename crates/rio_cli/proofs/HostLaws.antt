@@ -9,7 +9,7 @@ use Rattle.host_enumerate.specs.Devised.{devices_of, links_of}
 use Rattle.host_enumerate.specs.Hosts.{reason_of, FindsHost}
 use Rattle.host_enumerate.specs.declared.devising.NoHost.{NoHost}
 use Rattle.host_enumerate.proofs.HostLaws.{found_once}
-use Rattle.trace_check.specs.Inputs.{texts_of}
+use Rattle.script_input.specs.Inputs.{texts_of}
 use Rattle.rio_cli.specs.Numbering.{HasHost, IsRefusedFor, Hit, NotHost}
 
 module _ (word bytes : List ℕ) where

@@ -5,7 +5,7 @@ use Rattle.std.specs.Io.KnownBytes.{Appends}
 use Rattle.rio_chars.specs.Fronts.{AppendsFront}
 use Rattle.fabric_script.specs.Known.{Known}
 use Rattle.fabric_script.specs.declared.lines.Numbered.{Numbered}
-use Rattle.trace_check.specs.Inputs.{IsInput}
+use Rattle.script_input.specs.Inputs.{IsInput}
 use Rattle.trace_check.specs.Outcomes.{HasLawful}
 
 -- the line that tells a lawful trace of so many steps

@@ -31,7 +31,7 @@ use Rattle.fabric_ports.specs.declared.noise.Quiet.{Quiet}
 use Rattle.fabric_maint.specs.Asked.{Asked}
 use Rattle.fabric_maint.specs.Going.{LeadsTo, Begun, topology_in, registers_in, StandsWhole, RestsAt, Followed}
 use Rattle.fabric_maint.specs.declared.maint.FabricMaint.{FabricMaint}
-use Rattle.trace_check.specs.Inputs.{texts_of}
+use Rattle.script_input.specs.Inputs.{texts_of}
 use Rattle.rio_cli.specs.declared.status.Status.{Status}
 use Rattle.rio_cli.specs.declared.status.Status.TheVariants.{Done, Words, Script, ReadFault, WriteFault, NoMemory, Undetected, TooLong, Locked, Unlawful}
 

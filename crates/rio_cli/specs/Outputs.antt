@@ -9,7 +9,7 @@ use Rattle.fabric_script.specs.declared.ports.PortRef.{PortRef}
 use Rattle.fabric_script.specs.Scripts.{IsScript, RefusedAt}
 use Rattle.fabric_replay.specs.Replaying.{ReplayedWhole, ReplayedUnsent, ReplayedFront}
 use Rattle.rio_chars.specs.declared.chars.Char.{Char}
-use Rattle.trace_check.specs.Inputs.{IsRefused as IsRefusedInput}
+use Rattle.script_input.specs.Inputs.{IsRefusedInput}
 use Rattle.trace_check.specs.Outcomes.{HasUnlawful}
 use Rattle.rio_cli.specs.Checking.{HasTrace, Checks, ChecksFront}
 use Rattle.rio_cli.specs.Numbering.{HasHost, IsRefusedFor, Numbers, FindsLock, NumbersFront}

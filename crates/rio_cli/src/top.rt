@@ -22,8 +22,9 @@ use fabric_replay::{ReplayEnd, replay};
 use fabric_script::{Name, ScriptEnd, parse, parse_set_up};
 use host_enumerate::find_host;
 use rio_chars::{NoMemory, ReadEnd, Sink, Source, read_all, write_all};
+use script_input::count_lines;
 use std::alloc::Global;
-use trace_check::{CheckEnd, check_trace, count_lines};
+use trace_check::{CheckEnd, check_trace};
 
 /// The most bytes of input.
 const MOST_INPUT: usize = 4_194_304;

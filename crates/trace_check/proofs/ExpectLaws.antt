@@ -5,7 +5,7 @@ use Rattle.fabric_model.specs.Network.{Network}
 use Rattle.trace_check.specs.declared.expecting.Expected.{Expected}
 use Rattle.trace_check.specs.declared.state.State.{State}
 use Rattle.trace_check.specs.Expecting.{IsExpected, IsExplained, IsToBeTold, TellsLine}
-use Rattle.trace_check.specs.Inputs.{texts_ahead, texts_of}
+use Rattle.script_input.specs.Inputs.{texts_ahead, texts_of}
 use Rattle.trace_check.specs.Lawful.{as_behind, IsUnlawful}
 use Rattle.trace_check.specs.Outcomes.{Reads}
 use Rattle.trace_check.specs.States.{fault_of, IsReached, Reached}

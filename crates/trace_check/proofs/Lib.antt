@@ -9,7 +9,6 @@ pub mod ReadLaws
 pub mod FieldLaws
 pub mod KeywordLaws
 pub mod HearingLaws
-pub mod InputLaws
 pub mod StopLaws
 pub mod TableLaws
 pub mod StateLaws

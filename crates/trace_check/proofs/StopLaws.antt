@@ -7,7 +7,7 @@ use Rattle.fabric_trace.specs.Lines.{TraceLine, Begun, Stepped, Signed, Lacked, 
 use Rattle.fabric_trace.proofs.Keeping.{steps_of-append}
 use Rattle.trace_check.specs.declared.state.State.{State}
 use Rattle.trace_check.specs.Checks.{Passes, PassAll}
-use Rattle.trace_check.specs.Inputs.{texts_ahead, texts_of}
+use Rattle.script_input.specs.Inputs.{texts_ahead, texts_of}
 use Rattle.trace_check.specs.Lawful.{as_behind, Behind, Fault, fault_number, Hits, HitsNext, is_last, IsLawful, IsUnlawful, NoForm, NotCome, PassFront, SpellAll, SpellFront}
 use Rattle.trace_check.specs.Outcomes.{Reads}
 use Rattle.trace_check.specs.Reaches.{Reaches}

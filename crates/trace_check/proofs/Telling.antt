@@ -1,131 +1,48 @@
 -- What is told of an input is what is so, and one thing alone.
-use Rattle.std.proofs.Common.{◌≡◌, ℕ, suc, ◌+◌, ◌⊎◌, inl, inr, Result, Ok, Err, IfOk, IsOk, IsErrOf, Bool, true, false, MatchBool, List, [], ◌∷◌, length, refl, sym, ap, ◌∙◌, subst}
-use Rattle.fabric_script.specs.declared.lines.Line.{Line}
-use Rattle.fabric_script.specs.declared.lines.Numbered.{Numbered}
+use Rattle.std.proofs.Common.{◌≡◌, ℕ, ◌+◌, ◌⊎◌, inl, inr, Result, Ok, Err, IfOk, IsOk, IsErrOf, List, length, refl, sym, ap, ◌∙◌}
 use Rattle.fabric_script.specs.declared.scripts.Refusal.{Refusal}
-use Rattle.fabric_script.specs.Known.{IsOrderly, Known, known_after, nothing_in, of_set_up}
-use Rattle.fabric_script.specs.Reading.{new_name_in}
-use Rattle.fabric_script.specs.Scripts.{is_skipped, KeptThen, pieces_of, RefusedIn, SpellsFrom}
-use Rattle.fabric_script.specs.SetUps.{for_event}
-use Rattle.fabric_script.proofs.KnownLaws.{nothing-orderly}
-use Rattle.fabric_script.proofs.LineLaws.{same_line}
-use Rattle.fabric_script.proofs.ScriptLaws.{not_refused, orderly-spelled, refused_once}
+use Rattle.fabric_script.specs.declared.scripts.ScriptEnd.{ScriptEnd}
+use Rattle.fabric_script.specs.declared.scripts.ScriptEnd.TheVariants as S
 use Rattle.fabric_trace.specs.Runs.{bare, set_up_all}
 use Rattle.trace_check.specs.declared.checking.CheckEnd.{CheckEnd}
 use Rattle.trace_check.specs.declared.checking.CheckEnd.TheVariants.{NoMemory, Refused, Unlawful as UnlawfulAt}
+use Rattle.trace_check.specs.declared.checking.CheckEnd.TheVariants as C
 use Rattle.trace_check.specs.declared.checking.Unlawful.{Unlawful}
-use Rattle.trace_check.specs.Inputs.{Hit, IsAccepted, IsInput, IsRefused, NoTrace, set_up_bytes, set_up_texts, texts_of}
+use Rattle.script_input.specs.Inputs.{IsRefusedInput, set_up_texts, texts_of}
 use Rattle.trace_check.specs.Lawful.{IsLawful, IsUnlawful}
-use Rattle.trace_check.specs.Outcomes.{HasLawful, HasUnlawful}
+use Rattle.trace_check.specs.Outcomes.{ended_by, HasLawful, HasUnlawful}
+use Rattle.script_input.proofs.InputOnce.{accepted_orderly, for_other, not_input, refused_alone}
 use Rattle.trace_check.proofs.Exclusive.{exclusive}
 use Rattle.trace_check.proofs.Once.{lawful_once, unlawful_once}
 
--- ---- the set-up lines say one thing
+-- ---- why the set-up lines end
 
--- what a text that is kept spells, with those behind it
-abbrev Kept : ℕ → Known → List ℕ → List (List ℕ) → List Numbered → Known → Type 0
-Kept number known text texts lines end =
-    KeptThen (λ next rest. SpellsFrom (suc number) next texts rest end) number known text lines
+pub refusal_of : (end : ScriptEnd) (refusal : Refusal) → ended_by end ≡ C.Refused refusal
+    → end ≡ S.Refused refusal
+refusal_of (S.Refused r) refusal is = cc
+refusal_of S.NoMemory refusal is = absurd cc
 
-by_skipped : (A B C : Type 0) (skipped : Bool) → (A → C) → (B → C) → MatchBool skipped A B → C
-by_skipped A B C true f g h = f h
-by_skipped A B C false f g h = g h
-
-both_skipped : (A B C D E : Type 0) (skipped : Bool) → (A → C → E) → (B → D → E)
-    → MatchBool skipped A B → MatchBool skipped C D → E
-both_skipped A B C D E true f g h k = f h k
-both_skipped A B C D E false f g h k = g h k
-
-spelled_orderly : (number : ℕ) (known : Known) (texts : List (List ℕ)) (lines : List Numbered)
-    (end : Known) → IsOrderly known → SpellsFrom number known texts lines end → IsOrderly end
-spelled_orderly number known [] lines end orderly spelled =
-    subst IsOrderly (sym spelled.1) orderly
-spelled_orderly number known (text ∷ texts) lines end orderly spelled =
-    by_skipped (SpellsFrom (suc number) known texts lines end)
-    (Kept number known text texts lines end) (IsOrderly end) (is_skipped text)
-    (λ skips. spelled_orderly (suc number) known texts lines end orderly skips)
-    (λ keeps. spelled_orderly (suc number)
-    (known_after known (new_name_in text keeps.0) keeps.0) texts keeps.1 end
-    (orderly-spelled known text keeps.0 orderly keeps.3) keeps.4)
-    spelled
-
-same_lines : (number : ℕ) (known : Known) (texts : List (List ℕ)) (a b : List Numbered)
-    (end end' : Known) → IsOrderly known → SpellsFrom number known texts a end
-    → SpellsFrom number known texts b end' → (a ≡ b) × (end ≡ end')
-same_lines number known [] a b end end' orderly one other =
-    (one.0 ∙ sym other.0, one.1 ∙ sym other.1)
-same_lines number known (text ∷ texts) a b end end' orderly one other =
-    both_skipped (SpellsFrom (suc number) known texts a end) (Kept number known text texts a end)
-    (SpellsFrom (suc number) known texts b end') (Kept number known text texts b end')
-    ((a ≡ b) × (end ≡ end')) (is_skipped text)
-    (λ h k. same_lines (suc number) known texts a b end end' orderly h k)
-    (λ h k.
-    let first : k.0 ≡ h.0 = same_line known text k.0 h.0 orderly k.3.says h.3.says in
-    let k4 = subst (λ l. SpellsFrom (suc number) (known_after known (new_name_in text l) l) texts
-    k.1 end') first k.4 in
-    let numbered : Line → Numbered = λ line. record { number = number; line = line } in
-    let others = same_lines (suc number) (known_after known (new_name_in text h.0) h.0) texts h.1
-    k.1 end end' (orderly-spelled known text h.0 orderly h.3) h.4 k4 in (
-      h.2
-          ∙ (λ i. numbered (sym first i) ∷ others.0 i)
-          ∙ sym k.2,
-      others.1,
-    ))
-    one other
+pub never_unlawful : (end : ScriptEnd) (hit : Unlawful) → ended_by end ≡ C.Unlawful hit → ⊥
+never_unlawful (S.Refused r) hit is = absurd cc
+never_unlawful S.NoMemory hit is = absurd cc
 
 module _ (bytes : List ℕ) where
-  pub accepted_orderly : (lines : List Numbered) (known : Known) → IsAccepted bytes lines known
-      → IsOrderly known
-  accepted_orderly lines known is =
-      let end = spelled_orderly 1 (nothing_in of_set_up) (pieces_of (set_up_bytes bytes)) lines
-      is.end (nothing-orderly of_set_up) is.spelled in
-      subst IsOrderly (sym is.known_is) (record { named = end.named; apart = end.apart })
-
-  accepted_once : (lines lines' : List Numbered) (known known' : Known)
-      → IsAccepted bytes lines known → IsAccepted bytes lines' known'
-      → (lines ≡ lines') × (known ≡ known')
-  accepted_once lines lines' known known' one other =
-      let same = same_lines 1 (nothing_in of_set_up) (pieces_of (set_up_bytes bytes)) lines lines'
-      one.end other.end (nothing-orderly of_set_up) one.spelled other.spelled in (
-        same.0,
-        one.known_is ∙ ap for_event same.1 ∙ sym other.known_is,
-      )
-
-  input_once : (lines lines' : List Numbered) (known known' : Known)
-      (texts texts' : List (List ℕ)) → IsInput bytes lines known texts
-      → IsInput bytes lines' known' texts'
-      → (lines ≡ lines') × (known ≡ known') × (texts ≡ texts')
-  input_once lines lines' known known' texts texts' one other =
-      let same = accepted_once lines lines' known known' one.accepted other.accepted in
-      let found = sym one.trace ∙ other.trace in
-      (same.0, same.1, cc)
-
-  -- what is so of one input is so of the other
-  pub moved : (Of : List Numbered → Known → List (List ℕ) → Type 0) (lines lines' : List Numbered)
-      (known known' : Known) (texts texts' : List (List ℕ)) → IsInput bytes lines known texts
-      → IsInput bytes lines' known' texts' → Of lines' known' texts' → Of lines known texts
-  moved Of lines lines' known known' texts texts' one other so =
-      let same = input_once lines lines' known known' texts texts' one other in
-      subst (λ l. Of l known texts) (sym same.0)
-      (subst (λ k. Of lines' k texts) (sym same.1)
-      (subst (λ t. Of lines' known' t) (sym same.2) so))
-
   -- ---- one thing is so
 
   lawful_alone : (m n : ℕ) → HasLawful bytes m → HasLawful bytes n → m ≡ n
   lawful_alone m n one other =
       lawful_once one.known (set_up_all bare one.set_up) one.texts m n
-      (accepted_orderly one.set_up one.known one.input.accepted) one.lawful
-      (moved (λ l k t. IsLawful k (set_up_all bare l) t n) one.set_up other.set_up one.known
+      (accepted_orderly bytes one.set_up one.known one.input.accepted) one.lawful
+      (for_other bytes (λ l k t. IsLawful k (set_up_all bare l) t n) one.set_up other.set_up one.known
       other.known one.texts other.texts one.input other.input other.lawful)
 
   unlawful_alone : (line reason line' reason' : ℕ) → HasUnlawful bytes line reason
       → HasUnlawful bytes line' reason' → (line ≡ line') × (reason ≡ reason')
   unlawful_alone line reason line' reason' one other =
       let same = unlawful_once one.known (set_up_all bare one.set_up)
-      (accepted_orderly one.set_up one.known one.input.accepted) one.texts one.place reason
+      (accepted_orderly bytes one.set_up one.known one.input.accepted) one.texts one.place reason
       other.place reason' one.unlawful
-      (moved (λ l k t. IsUnlawful k (set_up_all bare l) t other.place reason') one.set_up
+      (for_other bytes (λ l k t. IsUnlawful k (set_up_all bare l) t other.place reason') one.set_up
       other.set_up one.known other.known one.texts other.texts one.input other.input
       other.unlawful) in (
         one.at ∙ ap (λ n. length (set_up_texts (texts_of bytes)) + 2 + n) same.0 ∙ sym other.at,
@@ -135,34 +52,10 @@ module _ (bytes : List ℕ) where
   not_both : (steps line reason : ℕ) → HasLawful bytes steps → HasUnlawful bytes line reason → ⊥
   not_both steps line reason one other =
       exclusive one.known (set_up_all bare one.set_up) one.texts steps other.place reason
-      (accepted_orderly one.set_up one.known one.input.accepted) one.lawful
-      (moved (λ l k t. IsUnlawful k (set_up_all bare l) t other.place reason) one.set_up
+      (accepted_orderly bytes one.set_up one.known one.input.accepted) one.lawful
+      (for_other bytes (λ l k t. IsUnlawful k (set_up_all bare l) t other.place reason) one.set_up
       other.set_up one.known other.known one.texts other.texts one.input other.input
       other.unlawful)
-
-  not_hit : (lines : List Numbered) (known : Known) (line reason : ℕ)
-      → IsAccepted bytes lines known → RefusedIn of_set_up (set_up_bytes bytes) line reason → ⊥
-  not_hit lines known line reason is refused =
-      not_refused of_set_up (set_up_bytes bytes) is.end.names lines line reason
-      (is.end, refl, is.spelled) refused
-
-  pub not_input : (line reason : ℕ) (lines : List Numbered) (known : Known) (texts : List (List ℕ))
-      → IsRefused bytes line reason → IsInput bytes lines known texts → ⊥
-  not_input line reason lines known texts (Hit refused) input =
-      not_hit lines known line reason input.accepted refused
-  not_input line reason lines known texts (NoTrace accepted none) input =
-      let found = input.trace in
-      absurd (cc (found, none))
-
-  refused_alone : (line reason line' reason' : ℕ) → IsRefused bytes line reason
-      → IsRefused bytes line' reason' → (line ≡ line') × (reason ≡ reason')
-  refused_alone line reason line' reason' (Hit one) (Hit other) =
-      refused_once of_set_up (set_up_bytes bytes) line reason line' reason' one other
-  refused_alone line reason line' reason' (Hit one) (NoTrace accepted none) =
-      absurd (not_hit _ _ line reason accepted one)
-  refused_alone line reason line' reason' (NoTrace accepted none) (Hit other) =
-      absurd (not_hit _ _ line' reason' accepted other)
-  refused_alone line reason line' reason' (NoTrace one none) (NoTrace other none') = (refl, refl)
 
   -- ---- what an answer means the other way round
 
@@ -174,7 +67,7 @@ module _ (bytes : List ℕ) where
       → HasUnlawful bytes u.line u.reason
 
   abbrev pub RefusedSo : Result ℕ CheckEnd → Type 0
-  RefusedSo result = (r : Refusal) → IsErrOf result (Refused r) → IsRefused bytes r.line r.reason
+  RefusedSo result = (r : Refusal) → IsErrOf result (Refused r) → IsRefusedInput bytes r.line r.reason
 
   pub only_lawful : (result : Result ℕ CheckEnd) → LawfulSo result → UnlawfulSo result
       → RefusedSo result → (steps : ℕ) → HasLawful bytes steps
@@ -184,7 +77,7 @@ module _ (bytes : List ℕ) where
   only_lawful (Err (UnlawfulAt u)) lawful unlawful refused steps so =
       absurd (not_both steps u.line u.reason so (unlawful u refl))
   only_lawful (Err (Refused r)) lawful unlawful refused steps so =
-      absurd (not_input r.line r.reason so.set_up so.known so.texts (refused r refl) so.input)
+      absurd (not_input bytes r.line r.reason so.set_up so.known so.texts (refused r refl) so.input)
   only_lawful (Err NoMemory) lawful unlawful refused steps so = (tt, inl refl)
 
   pub only_unlawful : (result : Result ℕ CheckEnd) → LawfulSo result → UnlawfulSo result
@@ -199,19 +92,19 @@ module _ (bytes : List ℕ) where
       = λ i. record { line = same.0 i; reason = same.1 i } in
       inl (ap {A = Unlawful} {B = Result ℕ CheckEnd} (λ x. Err (UnlawfulAt x)) one)
   only_unlawful (Err (Refused r)) lawful unlawful refused line reason so =
-      absurd (not_input r.line r.reason so.set_up so.known so.texts (refused r refl) so.input)
+      absurd (not_input bytes r.line r.reason so.set_up so.known so.texts (refused r refl) so.input)
   only_unlawful (Err NoMemory) lawful unlawful refused line reason so = inr refl
 
   pub only_refused : (result : Result ℕ CheckEnd) → LawfulSo result → UnlawfulSo result
-      → RefusedSo result → (line reason : ℕ) → IsRefused bytes line reason
+      → RefusedSo result → (line reason : ℕ) → IsRefusedInput bytes line reason
       → IsErrOf result (Refused record { line = line; reason = reason }) ⊎ IsErrOf result NoMemory
   only_refused (Ok told) lawful unlawful refused line reason so =
-      absurd (not_input line reason lawful.set_up lawful.known lawful.texts so lawful.input)
+      absurd (not_input bytes line reason lawful.set_up lawful.known lawful.texts so lawful.input)
   only_refused (Err (UnlawfulAt u)) lawful unlawful refused line reason so =
       let has = unlawful u refl in
-      absurd (not_input line reason has.set_up has.known has.texts so has.input)
+      absurd (not_input bytes line reason has.set_up has.known has.texts so has.input)
   only_refused (Err (Refused r)) lawful unlawful refused line reason so =
-      let same = refused_alone r.line r.reason line reason (refused r refl) so in
+      let same = refused_alone bytes r.line r.reason line reason (refused r refl) so in
       let one : r ≡ record { line = line; reason = reason }
       = λ i. record { line = same.0 i; reason = same.1 i } in
       inl (ap {A = Refusal} {B = Result ℕ CheckEnd} (λ x. Err (Refused x)) one)

@@ -16,7 +16,7 @@ use Rattle.fabric_trace.specs.Owned.{HasPacket}
 use Rattle.fabric_trace.specs.Runs.{bare, set_up_all}
 use Rattle.trace_check.specs.declared.expecting.Expected.{Expected}
 use Rattle.trace_check.specs.declared.expecting.Expected.TheVariants as E
-use Rattle.trace_check.specs.Inputs.{IsInput, set_up_texts, texts_of}
+use Rattle.script_input.specs.Inputs.{IsInput, set_up_texts, texts_of}
 use Rattle.trace_check.specs.Lawful.{as_behind, Fault, fault_number, PassFront, SpellFront}
 use Rattle.trace_check.specs.Reaches.{Reaches}
 use Rattle.trace_check.specs.Running.{Come}

@@ -5,7 +5,6 @@ pub mod Keywords
 pub mod Running
 pub mod Lawful
 pub mod Reads
-pub mod Inputs
 pub mod Tables
 pub mod States
 pub mod Reaches

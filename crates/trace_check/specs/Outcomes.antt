@@ -10,7 +10,7 @@ use Rattle.trace_check.specs.declared.checking.CheckEnd.{CheckEnd}
 use Rattle.trace_check.specs.declared.checking.CheckEnd.TheVariants as C
 use Rattle.trace_check.specs.declared.state.Fault.{Fault as ReadFault}
 use Rattle.trace_check.specs.declared.state.State.{State}
-use Rattle.trace_check.specs.Inputs.{IsInput, set_up_texts, texts_of}
+use Rattle.script_input.specs.Inputs.{IsInput, set_up_texts, texts_of}
 use Rattle.trace_check.specs.Lawful.{fault_number, is_last, IsLawful, IsUnlawful, NoLine}
 use Rattle.trace_check.specs.States.{Checks, fault_of, IsLeast, Reached, StandsAt}
 use Rattle.trace_check.specs.Words.{SpellsLine}

@@ -2,7 +2,7 @@
 
 ghost use Rattle.std.specs.Prelude.{◌≡◌, ◌⊎◌, ◌+◌, ◌<◌, ◌≤◌, ℕ, length, option_map, Err, IfOk, IsErrOf, IsOk};
 ghost use Rattle.fabric_script.specs.SetUps.{IsReady};
-ghost use Rattle.trace_check.specs.Inputs.{IsRefused, texts_ahead, texts_of};
+ghost use Rattle.script_input.specs.Inputs.{IsRefusedInput, texts_ahead, texts_of};
 ghost use Rattle.trace_check.specs.Lawful.{as_behind, fault_number, IsLawful, IsUnlawful};
 ghost use Rattle.trace_check.specs.Outcomes.{ended_by, HasLawful, HasUnlawful, Reads};
 ghost use Rattle.trace_check.specs.Starting.{IsBegun, net_of, nodes_of};
@@ -13,13 +13,10 @@ ghost use Rattle.trace_check.specs.declared.checking.CheckEnd.TheVariants.{NoMem
 use crate::checker::Checker;
 use crate::fields::LineEnd;
 use crate::reading::read_trace_line;
-use crate::splitting::{next_line, split_input};
 use crate::state::Fault;
 use fabric_script::{Refusal, ScriptEnd, SetUp, read_set_up};
+use script_input::{next_line, split_input, unparted};
 use std::alloc::{AllocError, Global};
-
-/// The reason if no line `---` stands behind the set-up lines.
-const NO_TRACE: u8 = 15;
 
 /// The reason if a line is of no form, or the last line does not come.
 const BAD_FORM: u8 = 21;
@@ -73,14 +70,14 @@ pub fn check_trace(alloc: Global, bytes: &[u8]) -> Result<u32, CheckEnd>
     ensures unlawful { (unlawful : _) → IsErrOf result (CheckEnd.Unlawful unlawful)
         → HasUnlawful bytes.now unlawful.line unlawful.reason }
     ensures refused { (refusal : _) → IsErrOf result (CheckEnd.Refused refusal)
-        → IsRefused bytes.now refusal.line refusal.reason }
+        → IsRefusedInput bytes.now refusal.line refusal.reason }
     // And what is so is told, unless memory runs out.
     ensures lawful_only { (steps : ℕ) → HasLawful bytes.now steps
         → IfOk result (λ told. told ≡ steps) × (IsErrOf result OutOfMemory ⊎ IsOk result) }
     ensures unlawful_only { (line reason : ℕ) → HasUnlawful bytes.now line reason
         → IsErrOf result (CheckEnd.Unlawful record { line = line; reason = reason })
         ⊎ IsErrOf result OutOfMemory }
-    ensures refused_only { (line reason : ℕ) → IsRefused bytes.now line reason
+    ensures refused_only { (line reason : ℕ) → IsRefusedInput bytes.now line reason
         → IsErrOf result (CheckEnd.Refused record { line = line; reason = reason })
         ⊎ IsErrOf result OutOfMemory }
 {
@@ -88,10 +85,7 @@ pub fn check_trace(alloc: Global, bytes: &[u8]) -> Result<u32, CheckEnd>
     let set_up = read_set_up(alloc, script)?;
     match trace {
         Some(trace) => check_lines(alloc, &set_up, trace, lines + 2),
-        None => Err(CheckEnd::Refused(Refusal {
-            line: lines + 1,
-            reason: NO_TRACE,
-        })),
+        None => Err(CheckEnd::Refused(unparted(lines))),
     }
 }
 

@@ -8,7 +8,7 @@ ghost use Rattle.fabric_model.specs.Steps.{Free, Hold, Linked};
 ghost use Rattle.rio_chars.specs.declared.chars.Char.{Char as AChar};
 ghost use Rattle.trace_check.specs.Checks.{MaySend};
 ghost use Rattle.trace_check.specs.Expecting.{HasExpected, IsExpected, IsExplained, IsSo, IsToBeTold, TellsLine};
-ghost use Rattle.trace_check.specs.Inputs.{texts_of};
+ghost use Rattle.script_input.specs.Inputs.{texts_of};
 ghost use Rattle.trace_check.specs.Lawful.{Fault, fault_number, IsUnlawful};
 ghost use Rattle.trace_check.specs.Outcomes.{HasUnlawful};
 ghost use Rattle.trace_check.specs.Reads.{line_of, step_of};
@@ -23,12 +23,12 @@ use crate::checking::is_short;
 use crate::fields::LineEnd;
 use crate::lines::{Step, TraceLine};
 use crate::reading::read_trace_line;
-use crate::splitting::{next_line, split_input};
 use crate::state::{State, edit_of};
 use arrayvec::ArrayVec;
 use fabric_script::{Line, PortRef, ScriptEnd, SetUp, read_set_up};
 use rio_chars::Char;
 use rio_packets::Packet;
+use script_input::{next_line, split_input};
 use std::alloc::{AllocError, Global};
 
 /// What would have been lawful at a line, as far as one sentence can say it.

@@ -34,7 +34,6 @@ mod places;
 mod queue;
 mod reading;
 mod sending;
-mod splitting;
 mod state;
 mod undetected;
 
@@ -47,4 +46,3 @@ pub use laws::{
 };
 pub use lines::{Lack, Step, TraceLine};
 pub use reading::read_trace_line;
-pub use splitting::count_lines;

@@ -1,6 +1,6 @@
 use Rattle.std.proofs.Common.{◌≡◌, sym, ◌∙◌, subst}
 use Rattle.trace_check.specs.declared.checking.Unlawful.{Unlawful}
-use Rattle.trace_check.specs.Inputs.{texts_of}
+use Rattle.script_input.specs.Inputs.{texts_of}
 use Rattle.trace_check.specs.Starting.{net_of}
 use Rattle.trace_check.proofs.StopLaws.{ahead_is, ahead_less, all_ahead, begin_ahead, hit_ahead, none_ahead, on_ahead, StopsAt}
 use Rattle.trace_check.proofs.checking.check_lines.Goals as goal

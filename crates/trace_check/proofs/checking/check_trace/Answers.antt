@@ -3,10 +3,10 @@ use Rattle.fabric_script.specs.declared.scripts.Refusal.{Refusal}
 use Rattle.fabric_script.specs.Known.{of_set_up}
 use Rattle.fabric_script.specs.Scripts.{RefusedIn}
 use Rattle.trace_check.specs.declared.checking.CheckEnd.TheVariants.{Refused}
-use Rattle.trace_check.specs.Inputs.{Hit, IsInput, IsRefused, NoTrace, texts_of}
-use Rattle.trace_check.proofs.InputLaws.{accepted_by, all_set_up, never_unlawful, refusal_of}
+use Rattle.script_input.specs.Inputs.{Hit, IsInput, IsRefusedInput, NotParted, texts_of}
+use Rattle.script_input.proofs.InputLaws.{accepted_by, all_set_up}
 use Rattle.trace_check.proofs.NetworkLaws.{if_ok_map}
-use Rattle.trace_check.proofs.Telling.{only_lawful, only_refused, only_unlawful}
+use Rattle.trace_check.proofs.Telling.{never_unlawful, only_lawful, only_refused, only_unlawful, refusal_of}
 use Rattle.trace_check.proofs.checking.check_trace.Goals as goal
 
 -- ---- a trace is there
@@ -19,7 +19,7 @@ returns-in-Some-clause-lawful c =
     let input : IsInput c.args.bytes.now set_up.lines set_up.known texts = record {
       accepted = accepted_by c.args.bytes.now c.split_input-lines.result.0.now set_up.lines
           set_up.known split.set_up c.in_ok-set_up.ensures.spelled;
-      trace = sym split.trace
+      behind = sym split.behind
           ∙ ap (λ o. option_map (λ trace. texts_of trace.now) o) c.in-Some.is;
     } in
     if_ok_map c.check_lines.result c.check_lines.ensures.lawful (λ steps lawful. record {
@@ -38,7 +38,7 @@ returns-in-Some-clause-unlawful c = λ unlawful is.
     let input : IsInput c.args.bytes.now set_up.lines set_up.known texts = record {
       accepted = accepted_by c.args.bytes.now c.split_input-lines.result.0.now set_up.lines
           set_up.known split.set_up c.in_ok-set_up.ensures.spelled;
-      trace = sym split.trace
+      behind = sym split.behind
           ∙ ap (λ o. option_map (λ trace. texts_of trace.now) o) c.in-Some.is;
     } in
     let stops = c.check_lines.ensures.unlawful unlawful is in record {
@@ -103,32 +103,29 @@ returns-in_err-set_up-clause-refused_only c =
 pub returns-clause-refused : goal.returns-clause-refused
 returns-clause-refused c = λ refusal is.
     let split = c.split_input-lines.ensures in
-    let none = sym split.trace
+    let none = sym split.behind
     ∙ ap (λ o. option_map (λ trace. texts_of trace.now) o) c.in-None.is in
     let count : c.split_input-lines.result.2 ≡ length (texts_of c.args.bytes.now)
     = split.lines ∙ ap length (all_set_up (texts_of c.args.bytes.now) none) in
     let hit : Refusal = record { line = c.split_input-lines.result.2 + 1; reason = 15 } in
-    let same : hit ≡ refusal = cc in
-    subst (λ r. IsRefused c.args.bytes.now r.line r.reason) same
-    (subst (λ n. IsRefused c.args.bytes.now (n + 1) 15) (sym count)
-    (NoTrace (accepted_by c.args.bytes.now c.split_input-lines.result.0.now
+    let same : hit ≡ refusal = cc (c.unparted.ensures, is) in
+    subst (λ r. IsRefusedInput c.args.bytes.now r.line r.reason) same
+    (subst (λ n. IsRefusedInput c.args.bytes.now (n + 1) 15) (sym count)
+    (NotParted (accepted_by c.args.bytes.now c.split_input-lines.result.0.now
     c.in_ok-set_up.set_up.lines c.in_ok-set_up.set_up.known split.set_up
     c.in_ok-set_up.ensures.spelled) none))
 
 pub returns-clause-lawful_only : goal.returns-clause-lawful_only
 returns-clause-lawful_only c =
-    let hit : Refusal = record { line = c.split_input-lines.result.2 + 1; reason = 15 } in
-    only_lawful c.args.bytes.now (Err (Refused hit)) tt (λ unlawful is. absurd cc)
+    only_lawful c.args.bytes.now (Err (Refused c.unparted.result)) tt (λ unlawful is. absurd cc)
     (returns-clause-refused c)
 
 pub returns-clause-unlawful_only : goal.returns-clause-unlawful_only
 returns-clause-unlawful_only c =
-    let hit : Refusal = record { line = c.split_input-lines.result.2 + 1; reason = 15 } in
-    only_unlawful c.args.bytes.now (Err (Refused hit)) tt (λ unlawful is. absurd cc)
+    only_unlawful c.args.bytes.now (Err (Refused c.unparted.result)) tt (λ unlawful is. absurd cc)
     (returns-clause-refused c)
 
 pub returns-clause-refused_only : goal.returns-clause-refused_only
 returns-clause-refused_only c =
-    let hit : Refusal = record { line = c.split_input-lines.result.2 + 1; reason = 15 } in
-    only_refused c.args.bytes.now (Err (Refused hit)) tt (λ unlawful is. absurd cc)
+    only_refused c.args.bytes.now (Err (Refused c.unparted.result)) tt (λ unlawful is. absurd cc)
     (returns-clause-refused c)

@@ -2,12 +2,12 @@ use Rattle.std.proofs.Common.{◌+◌, ℕ, Err, List, option_map, sym, ap, ◌�
 use Rattle.fabric_script.specs.Known.{of_set_up}
 use Rattle.fabric_script.specs.Scripts.{RefusedIn}
 use Rattle.fabric_trace.specs.Runs.{bare, set_up_all}
-use Rattle.trace_check.specs.Inputs.{Hit, IsInput, texts_of}
+use Rattle.script_input.specs.Inputs.{Hit, IsInput, texts_of}
 use Rattle.trace_check.specs.Lawful.{IsUnlawful}
 use Rattle.trace_check.proofs.ExpectLaws.{if_some_map}
-use Rattle.trace_check.proofs.InputLaws.{accepted_by}
+use Rattle.script_input.proofs.InputLaws.{accepted_by}
 use Rattle.trace_check.proofs.NetworkLaws.{if_ok_map}
-use Rattle.trace_check.proofs.Telling.{moved, not_input}
+use Rattle.script_input.proofs.InputOnce.{for_other, not_input}
 use Rattle.trace_check.proofs.expecting.expect.Goals as goal
 
 pub returns-in-Ok-clause-told : goal.returns-in-Ok-clause-told
@@ -18,7 +18,7 @@ returns-in-Ok-clause-told c =
     let input : IsInput c.args.bytes.now set_up.lines set_up.known texts = record {
       accepted = accepted_by c.args.bytes.now c.split_input-lines.result.0.now set_up.lines
           set_up.known split.set_up c.in-Ok.ensures.spelled;
-      trace = sym split.trace
+      behind = sym split.behind
           ∙ ap (λ o. option_map (λ trace. texts_of trace.now) o) c.in-Some.is;
     } in
     if_ok_map c.expect_in.result c.expect_in.ensures.told (λ expected told.
@@ -40,12 +40,12 @@ returns-in-Ok-clause-some c =
     let input : IsInput c.args.bytes.now set_up.lines set_up.known texts = record {
       accepted = accepted_by c.args.bytes.now c.split_input-lines.result.0.now set_up.lines
           set_up.known split.set_up c.in-Ok.ensures.spelled;
-      trace = sym split.trace
+      behind = sym split.behind
           ∙ ap (λ o. option_map (λ trace. texts_of trace.now) o) c.in-Some.is;
     } in
     if_ok_map c.expect_in.result c.expect_in.ensures.some (λ expected some reason hit explained.
     some hit.place reason (hit.at ∙ ap (λ n. n + 2 + hit.place) (sym split.lines))
-    (moved c.args.bytes.now (λ l k t. IsUnlawful k (set_up_all bare l) t hit.place reason)
+    (for_other c.args.bytes.now (λ l k t. IsUnlawful k (set_up_all bare l) t hit.place reason)
     set_up.lines hit.set_up set_up.known hit.known texts hit.texts input hit.input hit.unlawful)
     explained)
 

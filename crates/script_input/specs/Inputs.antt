@@ -1,4 +1,4 @@
--- What a checker is given: the lines of bytes, those of the set-up, and those of the trace.
+-- The lines of bytes: those of the set-up, a line `---`, and those behind it.
 use Rattle.std.specs.Prelude.{◌≡◌, ℕ, ◌+◌, ◌++◌, Bool, nat_eq, codes, List, [], ◌∷◌, length, Option, Some, None, if◌then◌else◌}
 use denote.Ref.{Bor}
 use Rattle.std.specs.List.{flat_map}
@@ -24,7 +24,7 @@ abbrev pub texts_ahead : Option (Bor (List ℕ) × Bor (List ℕ)) → List (Lis
 texts_ahead None = []
 texts_ahead (Some found) = found.0.now ∷ texts_of found.1.now
 
--- the line between the set-up lines and the trace
+-- the line between the set-up lines and the others
 abbrev pub is_between : List ℕ → Bool
 is_between text = pointwise nat_eq text (codes "---")
 
@@ -34,9 +34,9 @@ set_up_texts [] = []
 set_up_texts (text ∷ texts) = if is_between text then [] else text ∷ set_up_texts texts
 
 -- the lines behind it, if there is one
-abbrev pub trace_texts : List (List ℕ) → Option (List (List ℕ))
-trace_texts [] = None
-trace_texts (text ∷ texts) = if is_between text then Some texts else trace_texts texts
+abbrev pub texts_behind : List (List ℕ) → Option (List (List ℕ))
+texts_behind [] = None
+texts_behind (text ∷ texts) = if is_between text then Some texts else texts_behind texts
 
 -- lines as bytes, each with a line feed
 abbrev pub fed : List (List ℕ) → List ℕ
@@ -46,9 +46,9 @@ abbrev pub set_up_by : Option (List (List ℕ)) → List ℕ → List ℕ
 set_up_by None bytes = bytes
 set_up_by (Some texts) bytes = fed (set_up_texts (texts_of bytes))
 
--- the bytes of the set-up lines: all, if no line of a trace is there
+-- the bytes of the set-up lines: all, if there is no line between
 abbrev pub set_up_bytes : List ℕ → List ℕ
-set_up_bytes bytes = set_up_by (trace_texts (texts_of bytes)) bytes
+set_up_bytes bytes = set_up_by (texts_behind (texts_of bytes)) bytes
 
 -- The bytes are set-up lines that no reason hits, and so much is known behind them.
 pub record IsAccepted (bytes : List ℕ) (lines : List Numbered) (known : Known) : Type 0 where
@@ -56,16 +56,17 @@ pub record IsAccepted (bytes : List ℕ) (lines : List Numbered) (known : Known)
   pub spelled : SpellsFrom 1 (nothing_in of_set_up) (pieces_of (set_up_bytes bytes)) lines end
   pub known_is : known ≡ for_event end
 
--- they are, and these are the lines of a trace behind them
+-- they are, and these are the lines behind the line between
 pub record IsInput (bytes : List ℕ) (lines : List Numbered) (known : Known)
     (texts : List (List ℕ)) : Type 0 where
   pub accepted : IsAccepted bytes lines known
-  pub trace : trace_texts (texts_of bytes) ≡ Some texts
+  pub behind : texts_behind (texts_of bytes) ≡ Some texts
 
 -- The set-up lines are refused; or none of them is, and the line `---` is missing, which is told at
 -- the line after the last.
-pub data IsRefused (bytes : List ℕ) : (line reason : ℕ) → Type 0 where
+pub data IsRefusedInput (bytes : List ℕ) : (line reason : ℕ) → Type 0 where
   Hit : {line reason : ℕ} → RefusedIn of_set_up (set_up_bytes bytes) line reason
-      → IsRefused bytes line reason
-  NoTrace : {lines : List Numbered} {known : Known} → IsAccepted bytes lines known
-      → trace_texts (texts_of bytes) ≡ None → IsRefused bytes (length (texts_of bytes) + 1) 15
+      → IsRefusedInput bytes line reason
+  NotParted : {lines : List Numbered} {known : Known} → IsAccepted bytes lines known
+      → texts_behind (texts_of bytes) ≡ None
+      → IsRefusedInput bytes (length (texts_of bytes) + 1) 15

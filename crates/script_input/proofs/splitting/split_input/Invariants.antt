@@ -1,6 +1,6 @@
 use Rattle.std.proofs.Common.{length}
-use Rattle.trace_check.proofs.InputLaws.{IsBehind}
-use Rattle.trace_check.proofs.splitting.split_input.Given as goal
+use Rattle.script_input.proofs.InputLaws.{IsBehind}
+use Rattle.script_input.proofs.splitting.split_input.Given as goal
 
 abbrev pub invariant-loop-text : goal.invariant-loop-text
 invariant-loop-text l = IsBehind l.fn.bytes l.left l.lines

@@ -2,8 +2,8 @@ use Rattle.std.proofs.Common.{◌+◌, ◌-◌, ◌==◌, ◌≡◌, drop, lengt
 use Rattle.std.proofs.lemmas.List.{take_all, take_more}
 use Rattle.std.proofs.lemmas.List.Elements.{All-push}
 use Rattle.fabric_script.proofs.Points.{Lacks, cut_at}
-use Rattle.trace_check.proofs.InputLaws.{first_of, only_line}
-use Rattle.trace_check.proofs.splitting.next_line.Goals as goal
+use Rattle.script_input.proofs.InputLaws.{first_of, only_line}
+use Rattle.script_input.proofs.splitting.next_line.Goals as goal
 
 pub returns-then-byte-eq10-clause-texts : goal.returns-then-byte-eq10-clause-texts
 returns-then-byte-eq10-clause-texts c =

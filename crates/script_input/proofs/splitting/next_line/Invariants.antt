@@ -1,5 +1,5 @@
 use Rattle.std.proofs.Common.{◌≡◌, ◌==◌, false, All, take}
-use Rattle.trace_check.proofs.splitting.next_line.Given as goal
+use Rattle.script_input.proofs.splitting.next_line.Given as goal
 
 abbrev pub invariant-loop-i : goal.invariant-loop-i
 invariant-loop-i l = All (λ byte. (byte == 10) ≡ false) (take l.i l.bytes)

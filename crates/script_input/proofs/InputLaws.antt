@@ -3,16 +3,10 @@ use Rattle.std.proofs.Common.{◌≡◌, ◌==◌, ℕ, ◌+◌, ◌++◌, ◌<�
 use Rattle.std.proofs.lemmas.List.{append-nil}
 use Rattle.std.proofs.lemmas.List.Splits.{length-slice_split, slice_split_none}
 use Rattle.fabric_script.specs.declared.lines.Numbered.{Numbered}
-use Rattle.fabric_script.specs.declared.scripts.Refusal.{Refusal}
-use Rattle.fabric_script.specs.declared.scripts.ScriptEnd.{ScriptEnd}
-use Rattle.fabric_script.specs.declared.scripts.ScriptEnd.TheVariants as S
 use Rattle.fabric_script.specs.Known.{Known, nothing_in, of_set_up}
 use Rattle.fabric_script.specs.Scripts.{pieces_of, SpellsFrom}
 use Rattle.fabric_script.specs.SetUps.{for_event}
-use Rattle.trace_check.specs.declared.checking.CheckEnd.TheVariants as C
-use Rattle.trace_check.specs.declared.checking.Unlawful.{Unlawful}
-use Rattle.trace_check.specs.Outcomes.{ended_by}
-use Rattle.trace_check.specs.Inputs.{fed, is_between, IsAccepted, set_up_bytes, set_up_texts, texts_of, trace_texts, without_empty_end}
+use Rattle.script_input.specs.Inputs.{fed, is_between, IsAccepted, set_up_bytes, set_up_texts, texts_of, texts_behind, without_empty_end}
 
 -- ---- the first line
 
@@ -42,7 +36,7 @@ only_line (byte ∷ bytes) some none =
 pub record IsBehind (bytes left : List ℕ) (lines : ℕ) : Type 0 where
   pub before : List (List ℕ)
   pub set_up : set_up_texts (texts_of bytes) ≡ before ++ set_up_texts (texts_of left)
-  pub trace : trace_texts (texts_of bytes) ≡ trace_texts (texts_of left)
+  pub behind : texts_behind (texts_of bytes) ≡ texts_behind (texts_of left)
   pub count : lines ≡ length before
   pub few : lines + length left ≤ length bytes
   pub joined : 0 < length left → bytes ≡ fed before ++ left
@@ -69,8 +63,8 @@ one_before bytes left text behind lines is texts other less joined =
           ∙ ap (λ (l : List (List ℕ)). is.before ++ set_up_texts l) texts
           ∙ ap (λ x. is.before ++ (if x then [] else text ∷ set_up_texts (texts_of behind))) other
           ∙ sym (append_assoc is.before (text ∷ []) (set_up_texts (texts_of behind)));
-      trace = is.trace ∙ ap trace_texts texts
-          ∙ ap (λ x. if x then Some (texts_of behind) else trace_texts (texts_of behind)) other;
+      behind = is.behind ∙ ap texts_behind texts
+          ∙ ap (λ x. if x then Some (texts_of behind) else texts_behind (texts_of behind)) other;
       count = omega (arith, counted, count);
       few = omega (arith, few, less);
       joined = λ some.
@@ -82,13 +76,13 @@ one_before bytes left text behind lines is texts other less joined =
     }
 
 -- if there is no line between, all lines are set-up lines
-pub all_set_up : (texts : List (List ℕ)) → trace_texts texts ≡ None → set_up_texts texts ≡ texts
+pub all_set_up : (texts : List (List ℕ)) → texts_behind texts ≡ None → set_up_texts texts ≡ texts
 all_set_up [] none = refl
 all_set_up (text ∷ texts) none =
     by_test (is_between text) none (all_set_up texts)
   where
-    by_test : (x : Bool) → (if x then Some texts else trace_texts texts) ≡ None
-        → (trace_texts texts ≡ None → set_up_texts texts ≡ texts)
+    by_test : (x : Bool) → (if x then Some texts else texts_behind texts) ≡ None
+        → (texts_behind texts ≡ None → set_up_texts texts ≡ texts)
         → (if x then [] else text ∷ set_up_texts texts) ≡ text ∷ texts
     by_test true none rest = absurd cc
     by_test false none rest = ap (λ (l : List (List ℕ)). text ∷ l) (rest none)
@@ -106,12 +100,3 @@ accepted_by bytes script lines known is spelled = record {
       SpellsFrom 1 (nothing_in of_set_up) (pieces_of b) lines spelled.0) is spelled.1;
   known_is = spelled.2;
 }
-
-pub refusal_of : (end : ScriptEnd) (refusal : Refusal) → ended_by end ≡ C.Refused refusal
-    → end ≡ S.Refused refusal
-refusal_of (S.Refused r) refusal is = cc
-refusal_of S.NoMemory refusal is = absurd cc
-
-pub never_unlawful : (end : ScriptEnd) (hit : Unlawful) → ended_by end ≡ C.Unlawful hit → ⊥
-never_unlawful (S.Refused r) hit is = absurd cc
-never_unlawful S.NoMemory hit is = absurd cc

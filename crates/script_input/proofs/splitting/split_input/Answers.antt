@@ -1,6 +1,6 @@
 use Rattle.std.proofs.Common.{rules, tests}
-use Rattle.trace_check.proofs.InputLaws.{one_before}
-use Rattle.trace_check.proofs.splitting.split_input.Goals as goal
+use Rattle.script_input.proofs.InputLaws.{one_before}
+use Rattle.script_input.proofs.splitting.split_input.Goals as goal
 
 pub loop-text-preserved : goal.loop-text-preserved
 loop-text-preserved c =

@@ -1,6 +1,6 @@
 use Rattle.std.proofs.Common.{◌≡◌, ◌+◌, ◌≤◌, length}
-use Rattle.trace_check.specs.Inputs.{texts_of}
-use Rattle.trace_check.proofs.splitting.count_lines.Given as goal
+use Rattle.script_input.specs.Inputs.{texts_of}
+use Rattle.script_input.proofs.splitting.count_lines.Given as goal
 
 abbrev pub invariant-loop-behind : goal.invariant-loop-behind
 invariant-loop-behind l = record {
