@@ -11,6 +11,7 @@
 //! memory.
 //!
 //! - [`Io`] is what a packet carries, and a [`Load`] the data of it: [`read_io`], [`write_io`].
+//! - [`is_size`] and [`is_stream_size`] say how many bytes a packet may read or write.
 //! - [`serve`] does at a memory what was asked, and makes the answer.
 //! - [`what_is_written_is_read`] and [`memory_keeps_what_is_written`] are laws: each states what
 //!   holds of all packets or memories, and does nothing.
@@ -27,6 +28,6 @@ mod writing;
 
 pub use io::{Io, Load, MAX_LOAD};
 pub use laws::{memory_keeps_what_is_written, what_is_written_is_read};
-pub use reading::read_io;
+pub use reading::{is_size, is_stream_size, read_io};
 pub use serving::serve;
 pub use writing::{MAX_BEHIND_IDS, write_io};

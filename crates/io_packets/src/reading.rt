@@ -249,14 +249,14 @@ fn between(bytes: &[u8], from: usize, behind: usize) -> Load
 }
 
 /// Whether a read, a write or a response may have so many bytes.
-pub(crate) fn is_size(n: usize) -> bool
+pub fn is_size(n: usize) -> bool
     ensures { result ≡ is_size n }
 {
     n == 8 || n == 16 || n == 32 || n == 64
 }
 
 /// Whether a streaming write may have so many bytes.
-fn is_stream_size(n: usize) -> bool
+pub fn is_stream_size(n: usize) -> bool
     ensures { result ≡ is_stream_size n }
 {
     n % 8 == 0 && 8 <= n && n <= 64

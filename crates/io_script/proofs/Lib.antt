@@ -1,0 +1,9 @@
+pub mod IoOutcome
+pub mod IoLineLaws
+pub mod IoReadLaws
+pub mod IoThrough
+pub mod IoOnce
+pub mod IoFabric
+pub mod IoTexts
+pub mod IoTakes
+pub mod IoWhole

@@ -1,0 +1,10 @@
+use Rattle.std.proofs.Common.{◌++◌, subst, List, ℕ}
+use Rattle.rio_chars.specs.Written.{Writes}
+use Rattle.rio_chars.proofs.WrittenLaws.{Writes-then}
+use Rattle.io_script.proofs.IoTexts.{eight_digits}
+use Rattle.io_script.proofs.writing.write_addr.Goals as goal
+
+pub returns : goal.returns
+returns g c =
+    let digits = rw (c.to_be_bytes.ensures, eight_digits c.args.addr) at c.write_hex.ensures in
+    Writes-then _ _ c.write.ensures digits
