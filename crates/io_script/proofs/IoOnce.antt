@@ -17,7 +17,7 @@ use Rattle.io_script.specs.IoScripts.{AreHitFrom, Behind, first_behind, InSetUp,
 use Rattle.io_script.proofs.IoLineLaws.{least_io_once, same_io_line, spelled_no_io_hit}
 
 -- what a text that is kept spells, with those behind it
-abbrev KeptIo : ℕ → Known → Earlier → List ℕ → List (List ℕ) → List NumberedIo → Type 0
+abbrev pub KeptIo : ℕ → Known → Earlier → List ℕ → List (List ℕ) → List NumberedIo → Type 0
 KeptIo number known earlier text texts lines =
     KeptIoThen (λ next rest. SpellIoFrom (number + 1) known next texts rest) number known earlier
     text lines

@@ -7,3 +7,4 @@ pub mod IoFabric
 pub mod IoTexts
 pub mod IoTakes
 pub mod IoWhole
+pub mod IoNamed

@@ -24,6 +24,8 @@ mod lines;
 mod reading;
 mod reasons;
 mod scripts;
+#[cfg(test)]
+mod tests;
 mod words;
 mod writing;
 

@@ -1,5 +1,5 @@
 //! A script from its bytes.
-ghost use Rattle.std.specs.Prelude.{◌≡◌, ◌+◌, ◌≤◌, ◌⊎◌, ℕ, Err, List, length, IfOk, IsErrOf, IsOk};
+ghost use Rattle.std.specs.Prelude.{◌≡◌, ◌+◌, ◌≤◌, ◌⊎◌, ℕ, All, Err, List, length, IfOk, IsErrOf, IsOk};
 ghost use Rattle.fabric_script.specs.declared.lines.Numbered.{Numbered as NumberedLine};
 ghost use Rattle.fabric_script.specs.declared.scripts.ScriptEnd.TheVariants.{NoMemory};
 ghost use Rattle.fabric_script.specs.Known.{Known};
@@ -7,6 +7,7 @@ ghost use Rattle.fabric_script.specs.Scripts.{is_skipped, Passes};
 ghost use Rattle.fabric_script.specs.SetUps.{NoEvents};
 ghost use Rattle.script_input.specs.Inputs.{texts_of};
 ghost use Rattle.io_script.specs.declared.lines.NumberedIo.{NumberedIo as ANumberedIo};
+ghost use Rattle.io_script.specs.IoLines.{IsNamed};
 ghost use Rattle.io_script.specs.IoReading.{no_lines};
 ghost use Rattle.io_script.specs.IoScripts.{AreHitFrom, IsIoRefused, IsIoScript, SpellIoFrom};
 ghost use Rattle.io_script.specs.IoTaking.{links_among, switches_of, IsFabric};
@@ -30,6 +31,8 @@ pub fn parse_io(alloc: Global, bytes: &[u8]) -> Result<IoScript, ScriptEnd>
         io.script.lines.items io.lines.items) }
     ensures passes { IfOk result (λ io. Passes io.script.names.items io.script.lines.items) }
     ensures no_events { IfOk result (λ io. NoEvents io.script.lines.items) }
+    ensures named { IfOk result (λ io.
+        All (λ line. IsNamed io.script.names.items line.io) io.lines.items) }
     ensures refused { (refusal : _) → IsErrOf result (ScriptEnd.Refused refusal)
         → IsIoRefused bytes.now refusal.line refusal.reason }
     // What is spelled so is answered and what is refused so is refused, unless memory runs out.

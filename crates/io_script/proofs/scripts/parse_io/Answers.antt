@@ -5,6 +5,7 @@ use Rattle.fabric_script.specs.SetUps.{for_event}
 use Rattle.script_input.specs.Inputs.{texts_behind, texts_of}
 use Rattle.io_script.specs.IoScripts.{IsIoRefused}
 use Rattle.io_script.proofs.IoFabric.{fabric_of}
+use Rattle.io_script.proofs.IoNamed.{script_named}
 use Rattle.io_script.proofs.IoOnce.{only_io_refusal, only_io_script}
 use Rattle.io_script.proofs.IoWhole.{line_refused, not_parted, set_up_refused, whole_script}
 use Rattle.io_script.proofs.scripts.parse_io.Goals as goal
@@ -85,6 +86,12 @@ returns-in_ok-lines-in-Some-clause-script c =
     script.lines.items c.split_input-count.result.2 split.set_up split.lines
     c.in_ok-script.ensures.script texts behind c.in_ok-lines-in-Some.lines.items
     (c.in_ok-lines-in-Some.ensures.lines _ fabric)
+
+pub returns-in_ok-lines-in-Some-clause-named : goal.returns-in_ok-lines-in-Some-clause-named
+returns-in_ok-lines-in-Some-clause-named c =
+    script_named c.args.bytes.now c.in_ok-script.script.names.items
+    c.in_ok-script.script.lines.items c.in_ok-lines-in-Some.lines.items
+    (returns-in_ok-lines-in-Some-clause-script c)
 
 pub returns-in_ok-lines-in-Some-clause-only : goal.returns-in_ok-lines-in-Some-clause-only
 returns-in_ok-lines-in-Some-clause-only c =
