@@ -1,3 +1,3 @@
-mod Machines
+pub mod Machines
 mod Plains
-mod Stepping
+pub mod Stepping

@@ -93,6 +93,13 @@ impl Walker {
         self.machine.id
     }
 
+    /// Whether it has made a turn.
+    pub fn has_begun(&self) -> bool
+        ensures { result ≡ self.now.machine.begun }
+    {
+        self.machine.begun
+    }
+
     /// How many turns answered `Going`.
     pub fn going(&self) -> u32
         ensures { result ≡ self.now.going }
