@@ -1,0 +1,5 @@
+mod Distinct
+mod Playing
+mod Stopping
+mod Begun
+mod Telling

@@ -1,0 +1,39 @@
+use Rattle.std.proofs.Common.{◌≡◌, ◌-◌, ◌∙◌, arith, ap, sym}
+use Rattle.contest_machine.specs.Turns.{after_turns}
+use Rattle.fabric_contest.specs.Contests.{both_of}
+use Rattle.fabric_contest.specs.Orders.{sides_behind}
+use Rattle.fabric_contest.proofs.Stopping.{stopped_end, turns_left, turns_made}
+use Rattle.fabric_contest.proofs.contest.Contest.later_turns.Goals as goal
+
+pub loop-init : goal.loop-init
+loop-init c =
+    let same : c.args.count - 0 ≡ c.args.count = omega arith in
+    record {
+      small = c.requires.small;
+      can = c.requires.can;
+      left = ap (λ n. after_turns (both_of c.args.self.now) (sides_behind n c.args.first)) same;
+    }
+
+pub loop-preserved : goal.loop-preserved
+loop-preserved c = record {
+  small = c.next_number-number.ensures.small;
+  can = c.in_ok-turn.ensures.can;
+  left = turns_left (both_of c.loop.self) (both_of c.turn.new.self)
+      (after_turns (both_of c.args.self.now) (sides_behind c.args.count c.args.first))
+      c.args.count c.loop.counter c.loop.number c.next_number-number.result c.side_by.result
+      c.loop-test.true c.loop.invariant.left c.next_number-number.ensures.next c.side_by.ensures
+      c.in_ok-turn.ensures.both;
+}
+
+pub returns-then-has_stopped-clause-both : goal.returns-then-has_stopped-clause-both
+returns-then-has_stopped-clause-both c =
+    stopped_end c.loop.self (sym c.has_stopped.ensures ∙ c.if-has_stopped.true)
+    (sides_behind (c.args.count - c.loop.counter) c.loop.number)
+    (after_turns (both_of c.args.self.now) (sides_behind c.args.count c.args.first))
+    c.loop.invariant.left
+
+pub returns-clause-both : goal.returns-clause-both
+returns-clause-both c =
+    turns_made (both_of c.loop.self) (both_of c.loop.self)
+    (after_turns (both_of c.args.self.now) (sides_behind c.args.count c.args.first))
+    c.args.count c.loop.counter c.loop.number c.loop.number (omega arith) c.loop.invariant.left

@@ -1,0 +1,128 @@
+//! `Contest`: two hosts, and the fabric that they contest.
+ghost use Rattle.std.specs.Prelude.{◌≡◌, ◌≢◌, ◌&&◌, ◌<◌, OnOk, IfOk};
+ghost use Rattle.fabric_script.specs.Scripts.{Passes};
+ghost use Rattle.host_enumerate.specs.Devised.{IsHost, devices_of, links_of};
+ghost use Rattle.contest_machine.specs.Turns.{turn_of, after_turns};
+ghost use Rattle.fabric_contest.specs.Contests.{new_both, both_of, has_stopped, CanTurn};
+ghost use Rattle.fabric_contest.specs.Orders.{sides_behind, turns_of};
+
+use crate::orders::{first_number, next_number, side_by};
+use fabric_script::Script;
+use host_contest::{PlainFabric, Walker};
+use link_watch::Side;
+use rio_chars::NoMemory;
+use std::alloc::Global;
+
+/// How many turns are made at most behind the first two.
+const LATER_TURNS: u32 = 99_998;
+
+/// Two walkers of one fabric. Side A is the first. After `NoMemory` it is of no use.
+#[derive(Drop)]
+pub struct Contest {
+    pub(crate) fabric: PlainFabric,
+    pub(crate) first: Walker,
+    pub(crate) second: Walker,
+}
+
+impl Contest {
+    /// The fabric of a script that passes, and two walkers that have made no turn, of two hosts of
+    /// it.
+    pub fn new(alloc: Global, script: &Script, first: u8, second: u8) -> Result<Contest, NoMemory>
+        requires passes { Passes script.now.names.items script.now.lines.items }
+        requires first { IsHost (devices_of script.now.lines.items)
+            (links_of script.now.lines.items) first }
+        requires second { IsHost (devices_of script.now.lines.items)
+            (links_of script.now.lines.items) second }
+        requires differ { first ≢ second }
+        ensures both { IfOk result (λ contest. both_of contest
+            ≡ new_both script.now.lines.items first second) }
+        ensures can { IfOk result (λ contest. CanTurn contest) }
+    {
+        let fabric = PlainFabric::new(alloc, script)?;
+        let first = Walker::new(alloc, &fabric, first);
+        let second = Walker::new(alloc, &fabric, second);
+        Ok(Contest {
+            fabric,
+            first,
+            second,
+        })
+    }
+
+    /// One turn of one of the hosts.
+    pub fn turn(&mut self, alloc: Global, side: Side) -> Result<(), NoMemory>
+        requires can { CanTurn self.old }
+        ensures both { OnOk result (both_of self.new ≡ turn_of (both_of self.old) side) }
+        ensures can { OnOk result (CanTurn self.new) }
+    {
+        match side {
+            Side::A => self.turn_first(alloc),
+            Side::B => self.turn_second(alloc),
+        }
+    }
+
+    /// One turn of the first host.
+    fn turn_first(&mut self, alloc: Global) -> Result<(), NoMemory>
+        requires can { CanTurn self.old }
+        ensures both { OnOk result (both_of self.new ≡ turn_of (both_of self.old) Side.A) }
+        ensures can { OnOk result (CanTurn self.new) }
+    {
+        self.first.turn(alloc, &mut self.fabric)?;
+        Ok(())
+    }
+
+    /// One turn of the second host.
+    fn turn_second(&mut self, alloc: Global) -> Result<(), NoMemory>
+        requires can { CanTurn self.old }
+        ensures both { OnOk result (both_of self.new ≡ turn_of (both_of self.old) Side.B) }
+        ensures can { OnOk result (CanTurn self.new) }
+    {
+        self.second.turn(alloc, &mut self.fabric)?;
+        Ok(())
+    }
+
+    /// The turns that a number stands for, 100,000 of them. None is made once both hosts have
+    /// ended, since it would change nothing.
+    pub fn turns_by(&mut self, alloc: Global, seed: u32) -> Result<(), NoMemory>
+        requires can { CanTurn self.old }
+        ensures both { OnOk result (both_of self.new ≡ after_turns (both_of self.old)
+            (turns_of seed)) }
+        ensures can { OnOk result (CanTurn self.new) }
+    {
+        self.turn(alloc, Side::A)?;
+        self.turn(alloc, Side::B)?;
+        self.later_turns(alloc, first_number(seed), LATER_TURNS)
+    }
+
+    /// So many turns at most, by the numbers of the generator behind this one.
+    fn later_turns(&mut self, alloc: Global, first: u32, count: u32) -> Result<(), NoMemory>
+        requires small { first < 2147483648 }
+        requires can { CanTurn self.old }
+        ensures both { OnOk result (both_of self.new ≡ after_turns (both_of self.old)
+            (sides_behind count first)) }
+        ensures can { OnOk result (CanTurn self.new) }
+    {
+        let mut number = first;
+        for _ in 0..count {
+            if self.has_stopped() {
+                return Ok(());
+            }
+            number = next_number(number);
+            self.turn(alloc, side_by(number))?;
+        }
+        Ok(())
+    }
+
+    /// Whether both hosts have begun and make no access any more.
+    pub fn has_stopped(&self) -> bool
+        ensures { result ≡ (has_stopped self.now.first && has_stopped self.now.second) }
+    {
+        has_stopped(&self.first) && has_stopped(&self.second)
+    }
+}
+
+/// Whether a host has begun and makes no access any more.
+fn has_stopped(walker: &Walker) -> bool
+    ensures { result ≡ has_stopped walker.now }
+{
+    walker.has_begun() && walker.has_ended()
+}

@@ -1,0 +1,20 @@
+//! Two hosts contest the fabric of a script, in the order of turns that a number stands for.
+//!
+//! Promised: what is written is the word of each host and the map of each that is done, as they
+//! stand after 100,000 turns of the machines of `contest_machine`, over the registers that the
+//! set-up lines make. Want of memory comes before anything is written.
+//!
+//! Left out: packets and links, as in `host_contest`; and which nodes may be hosts, which
+//! `host_enumerate` says.
+//!
+//! - [`write_contest`] makes the turns of a number and writes what became of both hosts, or tells
+//!   the [`ContestEnd`].
+//! - [`Contest`] has the fabric and both walkers, and makes single turns, and those of a number.
+#![tactic(auto)]
+
+mod contest;
+mod lines;
+mod orders;
+
+pub use contest::Contest;
+pub use lines::{ContestEnd, write_contest};
