@@ -1,5 +1,5 @@
 -- Steps of the machine, of a walker that was changed in part before.
-use Rattle.std.proofs.Common.{◌≡◌, ◌≤◌, ◌==◌, ◌++◌, ◌+◌, ◌-◌, ◌*◌, ◌&&◌, ℕ, suc, take, ne_eqb, nat_lt, Bool, true, false, List, [], ◌∷◌, length, Option, Some, None, Result, Ok, Err, OnOk, arith, refl, sym, ap, subst, ◌∙◌, if◌then◌else◌}
+use Rattle.std.proofs.Common.{◌≡◌, ◌≤◌, ◌==◌, ◌++◌, ◌+◌, ◌-◌, ◌*◌, ◌&&◌, ℕ, suc, take, ne_eqb, nat_lt, Bool, true, false, List, [], ◌∷◌, length, Some, None, Result, Ok, Err, OnOk, arith, refl, sym, ap, subst, ◌∙◌, if◌then◌else◌}
 use Rattle.std.proofs.lemmas.Bool.{eqb-true}
 use Rattle.fabric_map.specs.declared.map.Device.{Device}
 use Rattle.fabric_map.specs.declared.map.Kind.TheVariants.{Endpoint, Switch}

@@ -1,8 +1,8 @@
 -- Where the ports of plain registers lead, and what an access leaves there.
-use Rattle.std.proofs.Common.{◌≡◌, ℕ, ◌<◌, length, Option, Some, None, refl, sym, ap, subst, ◌∙◌}
+use Rattle.std.proofs.Common.{◌≡◌, ℕ, ◌<◌, Option, Some, None, sym, ap, ◌∙◌}
 use Rattle.fabric_script.specs.declared.ports.PortRef.{PortRef}
 use Rattle.maint_registers.specs.Devices.{Device}
-use Rattle.fabric_map.specs.Topology.{Topology, IsTopology, port_at, behind, along, entered}
+use Rattle.fabric_map.specs.Topology.{Topology, IsTopology, port_at, behind}
 use Rattle.fabric_map.specs.Routes.{Registers}
 use Rattle.fabric_map.proofs.Ways.{behind-link}
 use Rattle.host_enumerate.specs.declared.maint.Access.{Access}

@@ -1,10 +1,10 @@
 -- One access of a walker over a fabric, and its turns.
-use Rattle.std.proofs.Common.{◌≡◌, ℕ, ◌<◌, ◌≤◌, Bool, true, false, List, length, Option, Some, None, arith, refl, sym, ap, subst, ◌∙◌, if◌then◌else◌, length-append}
+use Rattle.std.proofs.Common.{◌≡◌, ℕ, ◌<◌, ◌≤◌, true, false, length, Option, Some, None, arith, refl, sym, ap, subst, ◌∙◌, length-append}
 use Rattle.std.proofs.lemmas.List.{length-map}
 use Rattle.std.proofs.lemmas.Option.{same_Some}
 use Rattle.fabric_script.specs.declared.ports.PortRef.{PortRef}
 use Rattle.fabric_map.specs.declared.map.Device.{Device}
-use Rattle.fabric_map.specs.Topology.{Topology, IsTopology, entered}
+use Rattle.fabric_map.specs.Topology.{IsTopology, entered}
 use Rattle.fabric_map.specs.Routes.{Registers}
 use Rattle.fabric_map.specs.Plain.{registers_of}
 use Rattle.fabric_map.specs.Numbered.{paths_of}

@@ -107,6 +107,13 @@ impl Walker {
         self.going
     }
 
+    /// What came of its last turn, `Going` if it had none.
+    pub fn last(&self) -> Turn
+        ensures { result ≡ self.now.last }
+    {
+        self.last
+    }
+
     /// The map of the fabric, once a turn has answered `Done`.
     pub fn map(&self) -> Option<&Map>
         ensures some { IsSome result ↔ IsTrue (is_done self.now.machine) }

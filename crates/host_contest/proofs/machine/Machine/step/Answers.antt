@@ -1,12 +1,10 @@
-use Rattle.std.proofs.Common.{◌≡◌, ◌∙◌, sym, ap}
+use Rattle.std.proofs.Common.{◌∙◌, sym}
 use Rattle.fabric_map.specs.Topology.{entered}
 use Rattle.fabric_map.specs.Plain.{registers_of}
-use Rattle.contest_machine.specs.Machine.{stepped}
 use Rattle.host_contest.specs.Machines.{machine_of}
 use Rattle.host_contest.specs.Plain.{view_of, registers_at}
-use Rattle.host_contest.specs.Steps.{state_in}
 use Rattle.host_contest.proofs.Machines.{on_ok}
-use Rattle.host_contest.proofs.Stepping.{few, idle, unreached, answered_so, same_state, can_after}
+use Rattle.host_contest.proofs.Stepping.{few, unreached, answered_so, same_state, can_after}
 use Rattle.host_contest.proofs.machine.Machine.step.Goals as goal
 
 pub told-requires-clause-few : goal.told-requires-clause-few

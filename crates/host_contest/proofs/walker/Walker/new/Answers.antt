@@ -1,4 +1,4 @@
-use Rattle.std.proofs.Common.{◌≡◌, true, false, ◌∙◌, ap}
+use Rattle.std.proofs.Common.{◌≡◌, false, ◌∙◌, ap}
 use Rattle.host_contest.specs.Machines.{new_walker, is_done}
 use Rattle.host_contest.specs.Plain.{view_of}
 use Rattle.host_contest.proofs.Machines.{no_view, new_is_not_done}
