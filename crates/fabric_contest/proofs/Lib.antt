@@ -3,3 +3,4 @@ mod Playing
 mod Stopping
 mod Begun
 mod Telling
+mod AllTurns

@@ -4,9 +4,10 @@ use Rattle.fabric_map.specs.Topology.{IsTopology}
 use Rattle.fabric_map.specs.Routes.{Registers}
 use Rattle.fabric_map.specs.Plain.{registers_of}
 use Rattle.link_watch.specs.declared.side.Side.TheVariants.{A, B}
+use Rattle.contest_machine.specs.declared.stages.Turn.{Turn}
 use Rattle.contest_machine.specs.Machine.{Walker, State}
 use Rattle.contest_machine.specs.Contest.{IsContest}
-use Rattle.contest_machine.specs.Turns.{turned, Both, turn_of}
+use Rattle.contest_machine.specs.Turns.{turned, came_of, Both, turn_of}
 use Rattle.contest_machine.specs.Within.{IsWithin}
 use Rattle.contest_machine.proofs.Apart.{turned_holds, HoldsFor}
 use Rattle.host_contest.specs.declared.plain.PlainFabric.{PlainFabric}
@@ -78,3 +79,10 @@ module _ (old new : PlainFabric) (w after o : walkers.Walker)
 
   pub self_can : CanStep new w.host after.machine → CanStep new after.host after.machine
   self_can can = subst (λ n. CanStep new n after.machine) (sym host) can
+
+  -- what came of the turn is told by the machine
+  pub last_turn : (turn : Turn) → after.last ≡ turn
+      → turn ≡ came_of (machine_in old w) (machine_in new after)
+      → after.last ≡ came_of (machine_in old w) (turned (machine_in old w) (regs old)).walker
+  last_turn turn is by =
+      is ∙ (by ∙ ap (λ (s : State). came_of (machine_in old w) s.walker) came)

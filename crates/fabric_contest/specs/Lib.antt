@@ -1,3 +1,5 @@
 pub mod Orders
 pub mod Contests
+pub mod LastTurns
 pub mod ContestTexts
+pub mod Laws

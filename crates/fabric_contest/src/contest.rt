@@ -2,11 +2,14 @@
 ghost use Rattle.std.specs.Prelude.{◌≡◌, ◌≢◌, ◌&&◌, ◌<◌, OnOk, IfOk};
 ghost use Rattle.fabric_script.specs.Scripts.{Passes};
 ghost use Rattle.host_enumerate.specs.Devised.{IsHost, devices_of, links_of};
+ghost use Rattle.contest_machine.specs.declared.stages.Turn.TheVariants.{Going};
 ghost use Rattle.contest_machine.specs.Turns.{turn_of, after_turns};
 ghost use Rattle.fabric_contest.specs.Contests.{new_both, both_of, has_stopped, CanTurn};
+ghost use Rattle.fabric_contest.specs.LastTurns.{lasts_of, lasts_after, lasts_after_turns};
 ghost use Rattle.fabric_contest.specs.Orders.{sides_behind, turns_of};
 
 use crate::orders::{first_number, next_number, side_by};
+use contest_machine::Turn;
 use fabric_script::Script;
 use host_contest::{PlainFabric, Walker};
 use link_watch::Side;
@@ -37,6 +40,7 @@ impl Contest {
         ensures both { IfOk result (λ contest. both_of contest
             ≡ new_both script.now.lines.items first second) }
         ensures can { IfOk result (λ contest. CanTurn contest) }
+        ensures lasts { IfOk result (λ contest. lasts_of contest ≡ (Going, Going)) }
     {
         let fabric = PlainFabric::new(alloc, script)?;
         let first = Walker::new(alloc, &fabric, first);
@@ -52,6 +56,8 @@ impl Contest {
     pub fn turn(&mut self, alloc: Global, side: Side) -> Result<(), NoMemory>
         requires can { CanTurn self.old }
         ensures both { OnOk result (both_of self.new ≡ turn_of (both_of self.old) side) }
+        ensures lasts { OnOk result (lasts_of self.new
+            ≡ lasts_after (both_of self.old) (lasts_of self.old) side) }
         ensures can { OnOk result (CanTurn self.new) }
     {
         match side {
@@ -64,6 +70,8 @@ impl Contest {
     fn turn_first(&mut self, alloc: Global) -> Result<(), NoMemory>
         requires can { CanTurn self.old }
         ensures both { OnOk result (both_of self.new ≡ turn_of (both_of self.old) Side.A) }
+        ensures lasts { OnOk result (lasts_of self.new
+            ≡ lasts_after (both_of self.old) (lasts_of self.old) Side.A) }
         ensures can { OnOk result (CanTurn self.new) }
     {
         self.first.turn(alloc, &mut self.fabric)?;
@@ -74,10 +82,34 @@ impl Contest {
     fn turn_second(&mut self, alloc: Global) -> Result<(), NoMemory>
         requires can { CanTurn self.old }
         ensures both { OnOk result (both_of self.new ≡ turn_of (both_of self.old) Side.B) }
+        ensures lasts { OnOk result (lasts_of self.new
+            ≡ lasts_after (both_of self.old) (lasts_of self.old) Side.B) }
         ensures can { OnOk result (CanTurn self.new) }
     {
         self.second.turn(alloc, &mut self.fabric)?;
         Ok(())
+    }
+
+    /// The turns of a list, in order. Answers what came of the last turn of each host, `Going` for
+    /// one that had none.
+    pub fn turns(&mut self, alloc: Global, sides: &[Side]) -> Result<(Turn, Turn), NoMemory>
+        requires can { CanTurn self.old }
+        ensures both { OnOk result (both_of self.new ≡ after_turns (both_of self.old) sides.now) }
+        ensures lasts { IfOk result (λ lasts. lasts
+            ≡ lasts_after_turns (both_of self.old) (lasts_of self.old) sides.now) }
+        ensures can { OnOk result (CanTurn self.new) }
+    {
+        for side in sides {
+            self.turn(alloc, *side)?;
+        }
+        Ok(self.lasts())
+    }
+
+    /// What came of the last turn of each host, `Going` for one that had none.
+    fn lasts(&self) -> (Turn, Turn)
+        ensures { result ≡ lasts_of self.now }
+    {
+        (self.first.last(), self.second.last())
     }
 
     /// The turns that a number stands for, 100,000 of them. None is made once both hosts have

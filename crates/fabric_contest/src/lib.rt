@@ -9,12 +9,16 @@
 //!
 //! - [`write_contest`] makes the turns of a number and writes what became of both hosts, or tells
 //!   the [`ContestEnd`].
-//! - [`Contest`] has the fabric and both walkers, and makes single turns, and those of a number.
+//! - [`Contest`] has the fabric and both walkers, and makes single turns, those of a list, and those
+//!   of a number.
+//! - [`contests_keep_apart`] and [`the_greater_host_holds_on`] are laws.
 #![tactic(auto)]
 
 mod contest;
+mod laws;
 mod lines;
 mod orders;
 
 pub use contest::Contest;
+pub use laws::{contests_keep_apart, the_greater_host_holds_on};
 pub use lines::{ContestEnd, write_contest};

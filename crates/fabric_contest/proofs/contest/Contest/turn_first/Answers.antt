@@ -1,4 +1,6 @@
-use Rattle.fabric_contest.proofs.Playing.{first_turns, still_apart, other_can, self_can}
+use Rattle.std.proofs.Common.{ap}
+use Rattle.contest_machine.specs.declared.stages.Turn.{Turn}
+use Rattle.fabric_contest.proofs.Playing.{first_turns, last_turn, still_apart, other_can, self_can}
 use Rattle.fabric_contest.proofs.contest.Contest.turn_first.Goals as goal
 
 pub returns-clause-both : goal.returns-clause-both
@@ -26,3 +28,10 @@ returns-clause-can c =
       entries_first = c.in_ok-turn.ensures.entries;
       entries_second = can.entries_second;
     }
+
+pub returns-clause-lasts : goal.returns-clause-lasts
+returns-clause-lasts c =
+    ap (λ (turn : Turn). (turn, c.args.self.now.second.last))
+    (last_turn c.args.self.now.fabric c.turn.new.fabric c.args.self.now.first c.turn.new.self
+    c.args.self.now.second c.turn.ensures.topology c.turn.ensures.host c.in_ok-turn.ensures.turned
+    c.in_ok-turn.field-0 c.in_ok-turn.ensures.last c.in_ok-turn.ensures.answer)

@@ -1,6 +1,8 @@
+use Rattle.std.proofs.Common.{ap}
+use Rattle.contest_machine.specs.declared.stages.Turn.{Turn}
 use Rattle.contest_machine.proofs.Apart.{swap}
 use Rattle.fabric_contest.specs.Contests.{both_of}
-use Rattle.fabric_contest.proofs.Playing.{second_turns, still_apart, other_can, self_can}
+use Rattle.fabric_contest.proofs.Playing.{second_turns, last_turn, still_apart, other_can, self_can}
 use Rattle.fabric_contest.proofs.contest.Contest.turn_second.Goals as goal
 
 pub returns-clause-both : goal.returns-clause-both
@@ -30,3 +32,10 @@ returns-clause-can c =
       entries_first = can.entries_first;
       entries_second = c.in_ok-turn.ensures.entries;
     }
+
+pub returns-clause-lasts : goal.returns-clause-lasts
+returns-clause-lasts c =
+    ap (λ (turn : Turn). (c.args.self.now.first.last, turn))
+    (last_turn c.args.self.now.fabric c.turn.new.fabric c.args.self.now.second c.turn.new.self
+    c.args.self.now.first c.turn.ensures.topology c.turn.ensures.host c.in_ok-turn.ensures.turned
+    c.in_ok-turn.field-0 c.in_ok-turn.ensures.last c.in_ok-turn.ensures.answer)
