@@ -32,7 +32,7 @@ first_holds_on names lines first second seed hosts free less =
 
 -- ---- the hosts change places
 
-abbrev flip : Both → Both
+abbrev pub flip : Both → Both
 flip both =
     record { first = both.second; second = both.first; registers = both.registers }
 
@@ -41,7 +41,7 @@ flip_turn : (both : Both) (side : Side)
 flip_turn both A = refl
 flip_turn both B = refl
 
-flip_turns : (both : Both) (turns : List Side)
+pub flip_turns : (both : Both) (turns : List Side)
     → after_turns (flip both) (map other_side turns) ≡ flip (after_turns both turns)
 flip_turns both [] = refl
 flip_turns both (side ∷ turns) =

@@ -4,3 +4,4 @@ mod Stopping
 mod Begun
 mod Telling
 mod AllTurns
+mod StayingOpen

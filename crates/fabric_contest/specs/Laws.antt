@@ -1,10 +1,19 @@
 -- What holds of every contest of two hosts of a script.
-use Rattle.std.specs.Prelude.{◌≡◌, ◌≢◌, ℕ, ◌<◌, List}
+use Rattle.std.specs.Prelude.{◌≡◌, ◌≢◌, ℕ, ◌<◌, List, ◌∷◌, ◌++◌, Some}
+use Rattle.link_watch.specs.declared.side.Side.{Side}
+use Rattle.link_watch.specs.declared.side.Side.TheVariants.{A, B}
+use Rattle.fabric_script.specs.declared.ports.PortRef.{PortRef}
+use Rattle.fabric_map.specs.Topology.{entered}
+use Rattle.fabric_map.specs.Routes.{Registers}
+use Rattle.fabric_map.specs.Ways.{IsOpened}
+use Rattle.contest_machine.specs.Machine.{Walker}
+use Rattle.contest_machine.specs.Contest.{Keeps}
+use Rattle.contest_machine.specs.Turns.{Both, turn_of, after_turns}
 use Rattle.fabric_script.specs.declared.lines.Numbered.{Numbered}
 use Rattle.fabric_script.specs.Scripts.{Passes}
 use Rattle.fabric_map.specs.Plain.{registers_of}
 use Rattle.host_enumerate.specs.Devised.{IsHost, devices_of, links_of}
-use Rattle.contest_machine.specs.Laws.{KeepsApart, HoldsOn}
+use Rattle.contest_machine.specs.Laws.{IsNew, KeepsApart, HoldsOn}
 use Rattle.fabric_contest.specs.Contests.{contest_of}
 
 -- the ID of a node
@@ -42,3 +51,35 @@ SecondHoldsOn = (names : List (List ℕ)) (lines : List Numbered) (first second 
     → AreHosts names lines first second → IsUnlocked lines
     → id_of_node lines first < id_of_node lines second
     → HoldsOn (contest_of lines first second seed).second.stage
+
+-- ---- ways
+
+-- A walker keeps each switch that a path passes.
+abbrev pub PassesKept : Walker → List ℕ → Type 0
+PassesKept w path = (first : ℕ) (front rest : List ℕ) (port : ℕ) (at : PortRef)
+    → path ≡ first ∷ front ++ port ∷ rest → entered w.view (first ∷ front) ≡ Some at
+    → Keeps w at.node
+
+-- A walker that keeps all switches of a way, which is open to it, finds it open in these registers.
+abbrev pub StaysOpen : Walker → Registers → Registers → Type 0
+StaysOpen w old new = (path : List ℕ) → PassesKept w path → IsOpened w.view old w.id path
+    → IsOpened w.view new w.id path
+
+-- Two new walkers have different IDs.
+pub record AreNewWalkers (both : Both) : Type 0 where
+  pub new_first : IsNew both.first
+  pub new_second : IsNew both.second
+  pub differ : both.first.id ≢ both.second.id
+  pub first_id : both.first.id < 0xff
+  pub second_id : both.second.id < 0xff
+
+-- Whatever the turns were, the next turn of one walker closes no such way of the other.
+abbrev pub FirstStaysOpen : Type 0
+FirstStaysOpen = (both : Both) (turns : List Side) → AreNewWalkers both
+    → StaysOpen (after_turns both turns).first (after_turns both turns).registers
+    (turn_of (after_turns both turns) B).registers
+
+abbrev pub SecondStaysOpen : Type 0
+SecondStaysOpen = (both : Both) (turns : List Side) → AreNewWalkers both
+    → StaysOpen (after_turns both turns).second (after_turns both turns).registers
+    (turn_of (after_turns both turns) A).registers

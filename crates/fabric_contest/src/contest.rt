@@ -144,6 +144,20 @@ impl Contest {
         Ok(())
     }
 
+    /// The first host.
+    pub fn first(&self) -> &Walker
+        ensures { result.now ≡ self.now.first }
+    {
+        &self.first
+    }
+
+    /// The second host.
+    pub fn second(&self) -> &Walker
+        ensures { result.now ≡ self.now.second }
+    {
+        &self.second
+    }
+
     /// Whether both hosts have begun and make no access any more.
     pub fn has_stopped(&self) -> bool
         ensures { result ≡ (has_stopped self.now.first && has_stopped self.now.second) }

@@ -11,7 +11,7 @@
 //!   the [`ContestEnd`].
 //! - [`Contest`] has the fabric and both walkers, and makes single turns, those of a list, and those
 //!   of a number.
-//! - [`contests_keep_apart`] and [`the_greater_host_holds_on`] are laws.
+//! - [`contests_keep_apart`], [`the_greater_host_holds_on`] and [`kept_ways_stay_open`] are laws.
 #![tactic(auto)]
 
 mod contest;
@@ -20,5 +20,5 @@ mod lines;
 mod orders;
 
 pub use contest::Contest;
-pub use laws::{contests_keep_apart, the_greater_host_holds_on};
+pub use laws::{contests_keep_apart, kept_ways_stay_open, the_greater_host_holds_on};
 pub use lines::{ContestEnd, write_contest};
