@@ -1,0 +1,18 @@
+//! The first turns of two hosts that are linked to each other.
+ghost use Rattle.std.specs.Prelude.{◌≡◌, ◌∷◌, []};
+ghost use Rattle.link_watch.specs.declared.side.Side.TheVariants.{A, B};
+ghost use Rattle.contest_machine.specs.declared.stages.Turn.TheVariants.{Going, Waiting, Lost};
+ghost use Rattle.contest_law.specs.Locks.{answer_of, locks_in_turn};
+ghost use Rattle.contest_law.specs.Examples.{two_hosts};
+
+/// A host of ID 5 that is free reads its lock twice and goes on. Behind the lock of a host of ID 3
+/// it waits, and behind that of a host of ID 9 it is lost. The other host reads nothing meanwhile.
+pub fn a_first_turn_reads_its_own_lock()
+    ensures free { answer_of (two_hosts 0xffff) A ≡ Going }
+    ensures twice { locks_in_turn (two_hosts 0xffff) A A ≡ 0xffff ∷ 5 ∷ [] }
+    ensures lesser { answer_of (two_hosts 3) A ≡ Waiting }
+    ensures once { locks_in_turn (two_hosts 3) A A ≡ 3 ∷ [] }
+    ensures greater { answer_of (two_hosts 9) A ≡ Lost }
+    ensures also { locks_in_turn (two_hosts 9) A A ≡ 9 ∷ [] }
+    ensures other { locks_in_turn (two_hosts 9) B A ≡ [] }
+{}

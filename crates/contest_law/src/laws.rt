@@ -1,0 +1,13 @@
+//! What turns answer.
+ghost use Rattle.contest_law.specs.Laws.{LostIsForAGreater, WaitingIsForALesser};
+
+/// A turn answers `Lost` exactly where a lock that the walker has read, in this turn or before, is
+/// that of a host with a greater ID, and it keeps nothing after this turn.
+pub fn lost_is_for_a_greater()
+    ensures { LostIsForAGreater }
+{}
+
+/// A turn answers `Waiting` exactly where a lock that it reads is that of a host with a lesser ID.
+pub fn waiting_is_for_a_lesser()
+    ensures { WaitingIsForALesser }
+{}
