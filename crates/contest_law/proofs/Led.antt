@@ -19,6 +19,7 @@ use Rattle.contest_machine.specs.declared.stages.Tried.{Tried}
 use Rattle.contest_machine.specs.declared.stages.Stage.{Stage}
 use Rattle.contest_machine.specs.declared.stages.Stage.TheVariants.{Ask, Claim, Check, Test, Features, Information, Status, Free, Done, Lost}
 use Rattle.contest_machine.specs.Machine.{Walker, asked, write, routes_to, own_id, last_path, but_last, freeing, port_after, gone_on, taken, judged, numbered, set_up, outward, settled, told, told_at, reached, stepped}
+use Rattle.contest_machine.specs.Laws.{IsNew}
 use Rattle.contest_law.proofs.Lasting.{AreSameDevices}
 use Rattle.contest_law.proofs.Telling.{IsAtSwitch, is_at_switch, is_linked, leads_on, host_leads_on}
 
@@ -261,3 +262,9 @@ step_led w before old proper fits same led = go w.todo w.stage w.path led
         (record w { todo = p ∷ rest; stage = stage; path = path })
         (asked p.path (Write p.offset p.value)) led
         (λ at enters. settled_led w p rest stage path proper led.0 led.1)
+
+pub new_led : (w : Walker) → IsNew w → IsLed w
+new_led w new = (
+  subst (AreAtSwitches w.view) (sym new.tried) tt,
+  subst (IsLedAt w) (sym new.stage) (subst (λ p. IsSome (entered w.view p)) (sym new.path) refl),
+)

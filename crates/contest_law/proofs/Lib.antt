@@ -4,3 +4,8 @@ pub mod Lasting
 pub mod Telling
 pub mod Led
 pub mod Waiting
+pub mod Costing
+pub mod Spending
+pub mod Paying
+pub mod Fair
+pub mod Counted

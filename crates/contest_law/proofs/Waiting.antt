@@ -31,7 +31,7 @@ use Rattle.contest_law.specs.Locks.{walker_of, answer_of, lock_at, lock_next, lo
 use Rattle.contest_law.specs.Laws.{HasLesser, WaitingIsForALesser}
 use Rattle.contest_law.proofs.Steps.{gone_by, status_reads_none}
 use Rattle.contest_law.proofs.Lasting.{AreSameDevices, step_lasts, step_same}
-use Rattle.contest_law.proofs.Led.{AreAtSwitches, IsLedAt, IsLed, step_led}
+use Rattle.contest_law.proofs.Led.{IsLedAt, IsLed, step_led, new_led}
 use Rattle.maint_registers.proofs.SameLaws.{same_device}
 
 -- the turn that led from one walker to the other did not wait
@@ -266,7 +266,7 @@ step_waits w old fits led = go w.todo w.stage led
 
 -- ---- one turn
 
-came_same : (w v after : Walker) (stage : Stage) → w.todo ≡ v.todo
+pub came_same : (w v after : Walker) (stage : Stage) → w.todo ≡ v.todo
     → came_at w after stage ≡ came_at v after stage
 came_same w v after Ask same = ap (λ t. waits t after.todo) same
 came_same w v after Claim same = refl
@@ -507,10 +507,7 @@ pub new_between : (before : Registers) (view : Topology) (id : ℕ) (proper : Is
     → IsNew w → IsBetweenTurns before view id proper shown fits w before
 new_between before view id proper shown fits w view_is id_is new = record {
   stands = record {
-    led = (
-      subst (AreAtSwitches w.view) (sym new.tried) tt,
-      subst (IsLedAt w) (sym new.stage) (subst (λ p. IsSome (entered w.view p)) (sym new.path) refl),
-    );
+    led = new_led w new;
     view_is = view_is;
     id_is = id_is;
     same = λ node. same_device (before node);

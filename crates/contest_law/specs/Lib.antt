@@ -1,3 +1,4 @@
 pub mod Locks
+pub mod Going
 pub mod Laws
 pub mod Examples

@@ -3,6 +3,7 @@ ghost use Rattle.std.specs.Prelude.{◌≡◌, ◌∷◌, []};
 ghost use Rattle.link_watch.specs.declared.side.Side.TheVariants.{A, B};
 ghost use Rattle.contest_machine.specs.declared.stages.Turn.TheVariants.{Going, Waiting, Lost};
 ghost use Rattle.contest_law.specs.Locks.{answer_of, locks_in_turn};
+ghost use Rattle.contest_law.specs.Going.{going_over};
 ghost use Rattle.contest_law.specs.Examples.{two_hosts};
 
 /// A host of ID 5 that is free reads its lock twice and goes on. Behind the lock of a host of ID 3
@@ -15,4 +16,11 @@ pub fn a_first_turn_reads_its_own_lock()
     ensures greater { answer_of (two_hosts 9) A ≡ Lost }
     ensures also { locks_in_turn (two_hosts 9) A A ≡ 9 ∷ [] }
     ensures other { locks_in_turn (two_hosts 9) B A ≡ [] }
+{}
+
+/// Of three turns, of which the host makes two, both are counted if it is free, and none if it
+/// waits.
+pub fn turns_that_go_on_are_counted()
+    ensures two { going_over (two_hosts 0xffff) A (A ∷ B ∷ A ∷ []) ≡ 2 }
+    ensures none { going_over (two_hosts 3) A (A ∷ B ∷ A ∷ []) ≡ 0 }
 {}

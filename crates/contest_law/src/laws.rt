@@ -1,4 +1,5 @@
 //! What turns answer.
+ghost use Rattle.contest_law.specs.Going.{GoingIsBounded};
 ghost use Rattle.contest_law.specs.Laws.{LostIsForAGreater, WaitingIsForALesser};
 
 /// A turn answers `Lost` exactly where a lock that the walker has read, in this turn or before, is
@@ -10,4 +11,9 @@ pub fn lost_is_for_a_greater()
 /// A turn answers `Waiting` exactly where a lock that it reads is that of a host with a lesser ID.
 pub fn waiting_is_for_a_lesser()
     ensures { WaitingIsForALesser }
+{}
+
+/// Over every list of turns no more than 40,000 turns of a host answer `Going`.
+pub fn few_turns_go_on()
+    ensures { GoingIsBounded }
 {}

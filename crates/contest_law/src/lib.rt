@@ -3,18 +3,19 @@
 //! waits and which retreats is this project's profile).
 //!
 //! Promised: a turn answers `Lost` exactly for a greater lock, and `Waiting` exactly for a lesser
-//! one.
+//! one. A host goes on in no more than 40,000 turns, whatever the other does.
 //!
 //! Left out: code that runs, which `host_contest` has.
 //!
-//! - `specs/Locks.antt` says which locks a turn reads, `specs/Laws.antt` has the laws, and
-//!   `specs/Examples.antt` the least fabric of two hosts.
-//! - [`lost_is_for_a_greater`] and [`waiting_is_for_a_lesser`] are the laws.
-//! - [`a_first_turn_reads_its_own_lock`] is an example.
+//! - `specs/Locks.antt` says which locks a turn reads, `specs/Going.antt` how many turns go on,
+//!   `specs/Laws.antt` when a turn waits or is lost, and `specs/Examples.antt` the least fabric of
+//!   two hosts.
+//! - [`lost_is_for_a_greater`], [`waiting_is_for_a_lesser`] and [`few_turns_go_on`] are the laws.
+//! - [`a_first_turn_reads_its_own_lock`] and [`turns_that_go_on_are_counted`] are examples.
 #![tactic(auto)]
 
 mod examples;
 mod laws;
 
-pub use examples::a_first_turn_reads_its_own_lock;
-pub use laws::{lost_is_for_a_greater, waiting_is_for_a_lesser};
+pub use examples::{a_first_turn_reads_its_own_lock, turns_that_go_on_are_counted};
+pub use laws::{few_turns_go_on, lost_is_for_a_greater, waiting_is_for_a_lesser};

@@ -1,0 +1,48 @@
+-- How many turns of a host go on, and how two hosts begin.
+use Rattle.std.specs.Prelude.{◌≡◌, ◌≢◌, ℕ, ◌+◌, ◌<◌, ◌≤◌, List, [], ◌∷◌, ◌++◌}
+use Rattle.fabric_map.specs.Topology.{IsTopology}
+use Rattle.fabric_map.specs.Fitting.{Fits}
+use Rattle.link_watch.specs.Sides.{other_side}
+use Rattle.link_watch.specs.declared.side.Side.{Side}
+use Rattle.link_watch.specs.declared.side.Side.TheVariants.{A, B}
+use Rattle.contest_machine.specs.declared.stages.Turn.{Turn}
+use Rattle.contest_machine.specs.declared.stages.Turn.TheVariants.{Going, Waiting, Done, Lost}
+use Rattle.contest_machine.specs.declared.stages.Stage.TheVariants as stages
+use Rattle.contest_machine.specs.Turns.{Both, turn_of, after_turns}
+use Rattle.contest_machine.specs.Laws.{IsNew}
+use Rattle.contest_law.specs.Locks.{walker_of, answer_of}
+
+-- a turn that answers Going is counted
+abbrev pub going_one : Turn → ℕ
+going_one Going = 1
+going_one Waiting = 0
+going_one Done = 0
+going_one Lost = 0
+
+-- the same of a turn of the second side, if the turns of the first are counted
+abbrev pub going_in_turn : Both → Side → Side → ℕ
+going_in_turn both A A = going_one (answer_of both A)
+going_in_turn both A B = 0
+going_in_turn both B A = 0
+going_in_turn both B B = going_one (answer_of both B)
+
+-- how many turns of a side answer Going
+abbrev pub going_over : Both → Side → List Side → ℕ
+going_over both side [] = 0
+going_over both side (turn ∷ turns) =
+    going_in_turn both side turn + going_over (turn_of both turn) side turns
+
+-- Two hosts at their start, whose IDs differ and which give the ID 0 first. The registers show the
+-- devices and links of the fabric, as each sees it.
+pub record AreBegun (both : Both) : Type 0 where
+  pub new : (side : Side) → IsNew (walker_of both side)
+  pub next : (side : Side) → (walker_of both side).next ≡ 0
+  pub differ : both.first.id ≢ both.second.id
+  pub ids : (side : Side) → (walker_of both side).id < 0xff
+  pub proper : (side : Side) → IsTopology (walker_of both side).view
+  pub shown : (side : Side) → Fits (walker_of both side).view both.registers
+
+-- However many turns are made, no more than 40,000 of a host answer Going.
+abbrev pub GoingIsBounded : Type 0
+GoingIsBounded = (both : Both) (turns : List Side) (side : Side) → AreBegun both
+    → going_over both side turns ≤ 40000
