@@ -289,7 +289,7 @@ new_claims : (w : Walker) (now : Registers) → IsNew w → claims_left w now �
 new_claims w now new =
     subst (λ s. claims_left_at w now s ≡ 64) (sym new.stage) (ap (λ d. room d) new.devices)
 
-pub begun_left_for : (both : Both) (side : Side) → AreBegun both → left_for both side ≡ 27784
+begun_left_for : (both : Both) (side : Side) → AreBegun both → left_for both side ≡ 27784
 begun_left_for both A begun =
     let turns = new_turns both.first both.registers (begun.new A) in
     let claims = new_claims both.second both.registers (begun.new B) in
@@ -301,6 +301,13 @@ begun_left_for both B begun =
 
 pub going_bounded : GoingIsBounded
 going_bounded both turns side begun =
+    let all = turns_counted both.registers both side turns (begun_for both side begun) in
+    let most = begun_left_for both side begun in
+    omega (arith, all, most)
+
+pub left_at_most : (both : Both) (turns : List Side) (side : Side) → AreBegun both
+    → left_for (after_turns both turns) side ≤ 27784
+left_at_most both turns side begun =
     let all = turns_counted both.registers both side turns (begun_for both side begun) in
     let most = begun_left_for both side begun in
     omega (arith, all, most)

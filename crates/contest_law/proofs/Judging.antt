@@ -285,7 +285,7 @@ step_judged id locks w old holds = go w.todo w.stage holds
 
 -- ---- what the turn answers
 
-lost_stage : (w after : Walker) (stage : Stage) → came_at w after stage ≡ Turns.Lost
+pub lost_stage : (w after : Walker) (stage : Stage) → came_at w after stage ≡ Turns.Lost
     → stage ≡ Lost
 lost_stage w after Ask is = absurd (waiting w.todo after.todo is)
   where

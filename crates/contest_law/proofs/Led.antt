@@ -41,7 +41,7 @@ IsLedAt w Information = IsAtSwitch w.view w.path × (w.todo ≡ [])
 IsLedAt w Status = w.tried ≢ []
 IsLedAt w Free = w.devices ≢ []
 IsLedAt w Done = Unit {0}
-IsLedAt w Lost = w.todo ≡ []
+IsLedAt w Lost = (w.todo ≡ []) × (w.devices ≡ [])
 
 abbrev pub IsLed : Walker → Type 0
 IsLed w = AreAtSwitches w.view w.tried × IsLedAt w w.stage
@@ -61,7 +61,7 @@ gone_led w (top ∷ rest) all =
     go false on = on
 
 freeing_led : (w : Walker) (devices : List Device) → IsLed (freeing w devices)
-freeing_led w [] = (tt, refl)
+freeing_led w [] = (tt, (refl, refl))
 freeing_led w (device ∷ rest) = (tt, λ e. cc)
 
 judged_led : (w : Walker) (lock : ℕ) → w.todo ≡ [] → AreAtSwitches w.view w.tried → IsAtDevice w
@@ -235,7 +235,7 @@ settled_led w p rest stage path proper all led = go rest stage path led
     go (q ∷ rest) Status path led = (all, led)
     go (q ∷ rest) Free path led = (all, led)
     go (q ∷ rest) Done path led = (all, led)
-    go (q ∷ rest) Lost path led = lost (q ∷ rest) led
+    go (q ∷ rest) Lost path led = lost (q ∷ rest) led.0
     go [] Ask path led = (all, led)
     go [] Claim path led = lost [] led.1
     go [] Check path led = lost [] led.1
@@ -247,7 +247,7 @@ settled_led w p rest stage path proper all led = go rest stage path led
     go [] Status path led = (all, led)
     go [] Free path led = (all, led)
     go [] Done path led = (all, led)
-    go [] Lost path led = lost [] led
+    go [] Lost path led = lost [] led.0
 
 pub step_led : (w : Walker) (before old : Registers) → IsTopology w.view → Fits w.view before
     → AreSameDevices before old → IsLed w → IsLed (stepped w old).walker

@@ -9,3 +9,4 @@ pub mod Spending
 pub mod Paying
 pub mod Fair
 pub mod Counted
+pub mod Alone

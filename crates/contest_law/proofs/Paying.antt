@@ -321,7 +321,7 @@ settled_spends w old new p rest stage path within mine led = go rest stage path 
       claims = omega arith;
       takes = λ node claimed free. absurd (cc);
     }
-    go rest Lost path within mine led = lost rest led
+    go rest Lost path within mine led = lost rest led.0
 
 -- One access: fewer turns are left, if it goes on.
 pub step_spends : (w : Walker) (before old : Registers) → w.id < 0xff → Fits w.view before

@@ -99,8 +99,13 @@ module _ (P : List ℕ → Walker → Type 0)
           (turns_with (locks ++ locks_in_turn both side turn) (turn_of both turn) side turns
           (turn_with locks both side turn holds))
 
+-- turns, and then more
+pub after_more : (both : Both) (turns later : List Side)
+    → after_turns both (turns ++ later) ≡ after_turns (after_turns both turns) later
+after_more both [] later = refl
+after_more both (turn ∷ turns) later = after_more (turn_of both turn) turns later
+
 -- one turn more
 pub after_one_more : (both : Both) (turns : List Side) (side : Side)
     → after_turns both (turns ++ side ∷ []) ≡ turn_of (after_turns both turns) side
-after_one_more both [] side = refl
-after_one_more both (turn ∷ turns) side = after_one_more (turn_of both turn) turns side
+after_one_more both turns side = after_more both turns (side ∷ [])

@@ -1,6 +1,7 @@
 -- How many turns of a host go on, and how two hosts begin.
 use Rattle.std.specs.Prelude.{◌≡◌, ◌≢◌, ℕ, ◌+◌, ◌<◌, ◌≤◌, List, [], ◌∷◌, ◌++◌}
 use Rattle.fabric_map.specs.Topology.{IsTopology}
+use Rattle.fabric_map.specs.Routes.{Registers}
 use Rattle.fabric_map.specs.Fitting.{Fits}
 use Rattle.link_watch.specs.Sides.{other_side}
 use Rattle.link_watch.specs.declared.side.Side.{Side}
@@ -8,6 +9,7 @@ use Rattle.link_watch.specs.declared.side.Side.TheVariants.{A, B}
 use Rattle.contest_machine.specs.declared.stages.Turn.{Turn}
 use Rattle.contest_machine.specs.declared.stages.Turn.TheVariants.{Going, Waiting, Done, Lost}
 use Rattle.contest_machine.specs.declared.stages.Stage.TheVariants as stages
+use Rattle.contest_machine.specs.Machine.{Walker}
 use Rattle.contest_machine.specs.Turns.{Both, turn_of, after_turns}
 use Rattle.contest_machine.specs.Laws.{IsNew}
 use Rattle.contest_law.specs.Locks.{walker_of, answer_of}
@@ -46,3 +48,39 @@ pub record AreBegun (both : Both) : Type 0 where
 abbrev pub GoingIsBounded : Type 0
 GoingIsBounded = (both : Both) (turns : List Side) (side : Side) → AreBegun both
     → going_over both side turns ≤ 40000
+
+-- ---- once the other is lost
+
+-- nothing is locked
+abbrev pub IsUnlocked : Registers → Type 0
+IsUnlocked registers = (node : ℕ) → (registers node).lock ≡ 0xffff
+
+-- how many of these turns are those of a side
+abbrev pub turns_of : Side → List Side → ℕ
+turns_of side [] = 0
+turns_of A (A ∷ turns) = turns_of A turns + 1
+turns_of A (B ∷ turns) = turns_of A turns
+turns_of B (A ∷ turns) = turns_of B turns
+turns_of B (B ∷ turns) = turns_of B turns + 1
+
+-- the walker is done, and has nothing to write any more
+abbrev pub HasNumbered : Walker → Type 0
+HasNumbered w = (w.stage ≡ stages.Done) × (w.todo ≡ [])
+
+-- the other walker was lost in these turns, and nothing was locked before them
+pub record IsLeftAlone (both : Both) (earlier : List Side) (side : Side) : Type 0 where
+  pub begun : AreBegun both
+  pub unlocked : IsUnlocked both.registers
+  pub lost : (walker_of (after_turns both earlier) (other_side side)).stage ≡ stages.Lost
+
+-- A host that is left alone waits no more.
+abbrev pub AloneIsNoWait : Type 0
+AloneIsNoWait = (both : Both) (earlier later : List Side) (side : Side)
+    → IsLeftAlone both earlier side
+    → answer_of (after_turns both (earlier ++ later)) side ≢ Waiting
+
+-- It has numbered the fabric after 40,000 turns of its own, at the latest.
+abbrev pub AloneIsDone : Type 0
+AloneIsDone = (both : Both) (earlier later : List Side) (side : Side)
+    → IsLeftAlone both earlier side → 40000 ≤ turns_of side later
+    → HasNumbered (walker_of (after_turns both (earlier ++ later)) side)
