@@ -1,8 +1,10 @@
 -- Two hosts that are linked to each other: the least fabric that two contest.
-use Rattle.std.specs.Prelude.{ℕ, true, false, [], ◌∷◌}
+use Rattle.std.specs.Prelude.{ℕ, true, false, List, [], ◌∷◌, ◌++◌}
 use Rattle.maint_registers.specs.Devices.{Device, new_endpoint}
 use Rattle.fabric_map.specs.Plain.{topology_of, registers_of}
 use Rattle.host_enumerate.specs.Examples.{pair_links}
+use Rattle.link_watch.specs.declared.side.Side.{Side}
+use Rattle.link_watch.specs.declared.side.Side.TheVariants.{A, B}
 use Rattle.contest_machine.specs.declared.stages.Stage.TheVariants.{Ask}
 use Rattle.contest_machine.specs.Machine.{Walker}
 use Rattle.contest_machine.specs.Turns.{Both}
@@ -32,3 +34,15 @@ two_hosts lock = record {
   second = beginner 1 7;
   registers = registers_of (endpoint_locked 5 lock ∷ new_endpoint 7 true ∷ []);
 }
+
+-- four turns of the first, and three of the second
+abbrev pub till_waiting : List Side
+till_waiting = A ∷ B ∷ A ∷ B ∷ A ∷ B ∷ A ∷ []
+
+-- five turns of each, in turn
+abbrev pub five_each : List Side
+five_each = A ∷ B ∷ A ∷ B ∷ A ∷ B ∷ A ∷ B ∷ A ∷ B ∷ []
+
+-- and five more of the second
+abbrev pub till_done : List Side
+till_done = five_each ++ (B ∷ B ∷ B ∷ B ∷ B ∷ [])

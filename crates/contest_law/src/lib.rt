@@ -13,13 +13,16 @@
 //!   two hosts.
 //! - [`lost_is_for_a_greater`], [`waiting_is_for_a_lesser`], [`few_turns_go_on`] and
 //!   [`who_is_left_alone_is_done`] are the laws.
-//! - [`a_first_turn_reads_its_own_lock`] and [`turns_that_go_on_are_counted`] are examples.
+//! - [`a_first_turn_reads_its_own_lock`], [`turns_that_go_on_are_counted`] and
+//!   [`the_greater_of_a_pair_is_done`] are examples.
 #![tactic(auto)]
 
 mod examples;
 mod laws;
 
-pub use examples::{a_first_turn_reads_its_own_lock, turns_that_go_on_are_counted};
+pub use examples::{
+    a_first_turn_reads_its_own_lock, the_greater_of_a_pair_is_done, turns_that_go_on_are_counted,
+};
 pub use laws::{
     few_turns_go_on, lost_is_for_a_greater, waiting_is_for_a_lesser, who_is_left_alone_is_done,
 };
