@@ -1,5 +1,5 @@
 -- How many turns a walker has left at most, and how many locks it may still take.
-use Rattle.std.proofs.Common.{◌≡◌, ◌≢◌, ℕ, zero, suc, ◌+◌, ◌*◌, ◌-◌, ◌≤◌, ◌<◌, ◌==◌, nat_lt, Bool, true, false, eqb, List, [], ◌∷◌, ◌++◌, length, Option, Some, None, arith, subst, sym, refl, ap, ◌∙◌, if◌then◌else◌, length-append}
+use Rattle.std.proofs.Common.{◌≡◌, ◌≢◌, ℕ, zero, suc, ◌+◌, ◌*◌, ◌-◌, ◌≤◌, ◌==◌, nat_lt, Bool, true, false, eqb, List, [], ◌∷◌, ◌++◌, length, Option, Some, None, arith, refl, if◌then◌else◌, length-append}
 use Rattle.std.proofs.lemmas.Bool.{ltb-true}
 use Rattle.fabric_script.specs.declared.ports.PortRef.{PortRef}
 use Rattle.fabric_map.specs.declared.map.Kind.{Kind}
@@ -8,7 +8,6 @@ use Rattle.fabric_map.specs.declared.map.Device.{Device}
 use Rattle.fabric_map.specs.Topology.{entered}
 use Rattle.fabric_map.specs.Routes.{Registers}
 use Rattle.fabric_map.specs.Numbered.{toward}
-use Rattle.contest_machine.specs.declared.stages.Pending.{Pending}
 use Rattle.contest_machine.specs.declared.stages.Tried.{Tried}
 use Rattle.contest_machine.specs.declared.stages.Turn.{Turn}
 use Rattle.contest_machine.specs.declared.stages.Turn.TheVariants as Turns

@@ -1,7 +1,6 @@
 -- Over all turns a host goes on no more often than it has turns left at first.
-use Rattle.std.proofs.Common.{◌≡◌, ◌≢◌, ℕ, ◌+◌, ◌*◌, ◌-◌, ◌≤◌, ◌<◌, Bool, true, false, List, [], ◌∷◌, ◌++◌, length, IsSome, Contains, arith, subst, sym, refl, ap, ◌∙◌, if◌then◌else◌}
+use Rattle.std.proofs.Common.{◌≡◌, ℕ, ◌+◌, ◌*◌, ◌≤◌, Bool, true, false, List, [], ◌∷◌, ◌++◌, length, Contains, arith, subst, sym, refl, ap, ◌∙◌, if◌then◌else◌}
 use Rattle.maint_registers.proofs.SameLaws.{same_device}
-use Rattle.fabric_map.specs.Topology.{node_at}
 use Rattle.fabric_map.specs.Routes.{Registers}
 use Rattle.fabric_map.specs.Numbered.{paths_of}
 use Rattle.fabric_map.proofs.Lists.{not_in_empty}
@@ -9,16 +8,15 @@ use Rattle.link_watch.specs.declared.side.Side.{Side}
 use Rattle.link_watch.specs.declared.side.Side.TheVariants.{A, B}
 use Rattle.contest_machine.specs.declared.stages.Stage.{Stage}
 use Rattle.contest_machine.specs.declared.stages.Stage.TheVariants.{Ask, Claim, Check, Test, Features, Information, Status, Free, Done, Lost}
-use Rattle.contest_machine.specs.declared.stages.Turn.TheVariants as Turns
 use Rattle.contest_machine.specs.Machine.{Walker, State, kept, fresh, stepped}
 use Rattle.contest_machine.specs.Turns.{is_locking, locked_on, turned, came_at, came_of, Both, turn_of, after_turns}
 use Rattle.contest_machine.specs.Laws.{IsNew}
 use Rattle.contest_machine.specs.Within.{AreShort, IsBoundedAt, IsWithin}
-use Rattle.contest_machine.proofs.Apart.{swap, begun_holds, turned_by}
-use Rattle.contest_law.specs.Locks.{walker_of, answer_of, state_of}
+use Rattle.contest_machine.proofs.Apart.{begun_holds, turned_by}
+use Rattle.contest_law.specs.Locks.{walker_of}
 use Rattle.contest_law.specs.Going.{going_one, going_in_turn, going_over, AreBegun, GoingIsBounded}
 use Rattle.contest_law.proofs.Led.{new_led}
-use Rattle.contest_law.proofs.Waiting.{came_same}
+use Rattle.contest_law.proofs.WaitingTurns.{came_same}
 use Rattle.contest_law.proofs.Costing.{ports_left, room, turns_left_at, turns_left, claims_left_at, claims_left, going_most}
 use Rattle.contest_law.proofs.Fair.{IsFit, AreFair, swap_fair, step_fair, begun_fair, left_of, own_step, their_step}
 

@@ -1,35 +1,25 @@
 -- Each turn that goes on leaves a host fewer turns, and no turn of the other gives it more than the
 -- other pays for.
-use Rattle.std.proofs.Common.{◌≡◌, ◌≢◌, ℕ, ◌+◌, ◌*◌, ◌-◌, ◌≤◌, ◌<◌, ◌==◌, Bool, true, false, eqb, List, [], ◌∷◌, ◌++◌, length, Option, Some, None, IsSome, Contains, arith, subst, sym, refl, ap, ◌∙◌, if◌then◌else◌, eq-eqb}
+use Rattle.std.proofs.Common.{◌≡◌, ◌≢◌, ℕ, ◌+◌, ◌*◌, ◌≤◌, ◌<◌, Bool, true, false, Option, Some, None, arith, subst, sym, refl, ap, ◌∙◌, eq-eqb}
 use Rattle.std.proofs.lemmas.Bool.{eqb-true, eqb-false}
 use Rattle.fabric_script.specs.declared.ports.PortRef.{PortRef}
 use Rattle.maint_registers.specs.Devices as registers
-use Rattle.maint_registers.proofs.SameLaws.{same_device}
-use Rattle.fabric_map.specs.Topology.{IsTopology, entered, node_at}
+use Rattle.fabric_map.specs.Topology.{entered}
 use Rattle.fabric_map.specs.Routes.{Registers}
 use Rattle.fabric_map.specs.Fitting.{Fits}
-use Rattle.fabric_map.specs.Numbered.{paths_of}
-use Rattle.fabric_map.proofs.Lists.{not_in_empty}
-use Rattle.link_watch.specs.declared.side.Side.{Side}
-use Rattle.link_watch.specs.declared.side.Side.TheVariants.{A, B}
 use Rattle.contest_machine.specs.declared.stages.Stage.{Stage}
 use Rattle.contest_machine.specs.declared.stages.Stage.TheVariants.{Ask, Claim, Check, Test, Features, Information, Status, Free, Done, Lost}
-use Rattle.contest_machine.specs.declared.stages.Turn.{Turn}
-use Rattle.contest_machine.specs.declared.stages.Turn.TheVariants as Turns
-use Rattle.contest_machine.specs.Machine.{Walker, State, kept, fresh, stepped}
-use Rattle.contest_machine.specs.Turns.{is_locking, locked_on, turned, came_at, came_of, Both, turn_of, after_turns}
-use Rattle.contest_machine.specs.Contest.{IsMine, HasClaimed, IsContest}
-use Rattle.contest_machine.specs.Laws.{IsNew}
-use Rattle.contest_machine.specs.Within.{IsBounded, IsBoundedAt, AreShort, IsWithin}
+use Rattle.contest_machine.specs.Machine.{Walker, stepped}
+use Rattle.contest_machine.specs.Turns.{came_of}
+use Rattle.contest_machine.specs.Contest.{IsMine, IsContest}
+use Rattle.contest_machine.specs.Within.{IsWithin}
 use Rattle.contest_machine.proofs.Frame.{Does, Nothing, Writes, Takes, Frees, IsTurn, untouched}
-use Rattle.contest_machine.proofs.Apart.{swap, step_leaves, step_holds, begun_contest, begun_holds, turned_by}
+use Rattle.contest_machine.proofs.Apart.{swap, step_leaves, step_holds, begun_contest}
 use Rattle.contest_machine.proofs.Bounding.{stepped_within}
-use Rattle.contest_law.specs.Locks.{walker_of, answer_of, state_of}
-use Rattle.contest_law.specs.Going.{going_one, going_in_turn, going_over, AreBegun, GoingIsBounded}
+use Rattle.contest_law.specs.Going.{going_one}
 use Rattle.contest_law.proofs.Lasting.{AreSameDevices, step_lasts, step_same}
-use Rattle.contest_law.proofs.Led.{IsLedAt, IsLed, step_led, new_led}
-use Rattle.contest_law.proofs.Waiting.{came_same}
-use Rattle.contest_law.proofs.Costing.{ports_left, room, sought, lock_is, if_failed, turns_left_at, turns_left, if_won, claims_left_at, claims_left, going_most}
+use Rattle.contest_law.proofs.Led.{IsLedAt, IsLed, step_led}
+use Rattle.contest_law.proofs.Costing.{lock_is, if_failed, turns_left_at, turns_left, if_won, claims_left_at, claims_left}
 use Rattle.contest_law.proofs.Spending.{Spends}
 use Rattle.contest_law.proofs.Paying.{step_spends}
 

@@ -1,7 +1,7 @@
 -- A walker frees what it keeps, or is lost, once it has read a greater lock, and not before.
-use Rattle.std.proofs.Common.{◌≡◌, ◌≢◌, ℕ, ◌+◌, ◌*◌, ◌/◌, ◌%◌, ◌<◌, ◌==◌, ◌↔◌, nat_lt, Bool, true, false, eqb, List, [], ◌∷◌, ◌++◌, append-nil, Option, Some, None, Contains, arith, ◌⊎◌, inl, inr, subst, sym, refl, ap, ◌∙◌, if◌then◌else◌}
+use Rattle.std.proofs.Common.{◌≡◌, ◌≢◌, ℕ, ◌+◌, ◌*◌, ◌/◌, ◌%◌, ◌<◌, ◌↔◌, nat_lt, Bool, true, false, eqb, List, [], ◌∷◌, ◌++◌, append-nil, Option, Some, None, Contains, arith, ◌⊎◌, inl, inr, subst, sym, refl, ap, ◌∙◌, if◌then◌else◌}
 use Rattle.std.proofs.lemmas.Bool.{eqb-true, eqb-false, ltb-true, ltb-false}
-use Rattle.std.proofs.lemmas.List.Elements.{Contains-append_left, Contains-append_right, Contains-append_cases}
+use Rattle.std.proofs.lemmas.List.Elements.{Contains-append_right, Contains-append_cases}
 use Rattle.fabric_script.specs.declared.ports.PortRef.{PortRef}
 use Rattle.fabric_map.specs.declared.map.Kind.TheVariants.{Endpoint}
 use Rattle.fabric_map.specs.declared.map.Device.{Device}
@@ -16,15 +16,14 @@ use Rattle.link_watch.specs.declared.side.Side.{Side}
 use Rattle.contest_machine.specs.declared.stages.Asked.{Asked}
 use Rattle.contest_machine.specs.declared.stages.Pending.{Pending}
 use Rattle.contest_machine.specs.declared.stages.Tried.{Tried}
-use Rattle.contest_machine.specs.declared.stages.Turn.{Turn}
 use Rattle.contest_machine.specs.declared.stages.Turn.TheVariants as Turns
 use Rattle.contest_machine.specs.declared.stages.Stage.{Stage}
 use Rattle.contest_machine.specs.declared.stages.Stage.TheVariants.{Ask, Claim, Check, Test, Features, Information, Status, Free, Done, Lost}
-use Rattle.contest_machine.specs.Machine.{Walker, asked, write, routes_to, fresh, kept, last_path, but_last, freeing, gone_on, taken, judged, numbered, set_up, outward, settled, told, told_at, reached, stepped}
-use Rattle.contest_machine.specs.Turns.{waits, ends, came_at, came_of, Both, turn_of, after_turns}
+use Rattle.contest_machine.specs.Machine.{Walker, asked, write, routes_to, fresh, kept, last_path, but_last, freeing, gone_on, taken, judged, numbered, outward, settled, told, told_at, reached, stepped}
+use Rattle.contest_machine.specs.Turns.{waits, ends, came_at, came_of, after_turns}
 use Rattle.contest_machine.specs.Laws.{IsNew}
 use Rattle.contest_machine.proofs.Reading.{lock_told}
-use Rattle.contest_law.specs.Locks.{walker_of, answer_of, reads_lock, lock_at, lock_next, state_of, locks_over}
+use Rattle.contest_law.specs.Locks.{walker_of, lock_at, lock_next, state_of, locks_over}
 use Rattle.contest_law.specs.Laws.{HasGreater, LostIsForAGreater}
 use Rattle.contest_law.proofs.Steps.{gone_by, status_reads_none, turns_with, after_one_more}
 
@@ -329,7 +328,8 @@ module _ (id : ℕ) (locks : List ℕ) (w after : Walker) where
       → HasGreater id locks → paths_of after.devices ++ [] ≡ []
   keeps_none stage nothing holds some = all after.devices nothing
     where
-      all : (devices : List Device) → paths_of devices ++ fresh after.stage after.path ≡ [] → paths_of devices ++ [] ≡ []
+      all : (devices : List Device) → paths_of devices ++ fresh after.stage after.path ≡ []
+          → paths_of devices ++ [] ≡ []
       all [] is = refl
       all (device ∷ rest) is = absurd (cc)
 

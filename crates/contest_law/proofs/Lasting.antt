@@ -1,6 +1,6 @@
 -- What no access changes: a walker's view, its ID and that it has begun, and of each device its
 -- kind, ports and links.
-use Rattle.std.proofs.Common.{◌≡◌, ◌≢◌, ℕ, ◌+◌, ◌*◌, ◌/◌, ◌%◌, ◌==◌, nat_lt, Bool, true, false, eqb, List, [], ◌∷◌, ◌++◌, Option, Some, None, subst, sym, refl, ap, ◌∙◌, if◌then◌else◌}
+use Rattle.std.proofs.Common.{◌≡◌, ℕ, ◌+◌, ◌*◌, ◌/◌, ◌%◌, nat_lt, Bool, true, false, eqb, List, [], ◌∷◌, ◌++◌, Option, Some, None, subst, sym, refl, ◌∙◌, if◌then◌else◌}
 use Rattle.std.proofs.lemmas.Bool.{eqb-true}
 use Rattle.fabric_script.specs.declared.ports.PortRef.{PortRef}
 use Rattle.maint_registers.specs.Devices as registers
@@ -20,7 +20,7 @@ use Rattle.contest_machine.specs.declared.stages.Pending.{Pending}
 use Rattle.contest_machine.specs.declared.stages.Tried.{Tried}
 use Rattle.contest_machine.specs.declared.stages.Stage.{Stage}
 use Rattle.contest_machine.specs.declared.stages.Stage.TheVariants.{Ask, Claim, Check, Test, Features, Information, Status, Free, Done, Lost}
-use Rattle.contest_machine.specs.Machine.{Walker, write, routes_to, last_path, but_last, freeing, gone_on, taken, judged, numbered, outward, settled, told, told_at, wants, reached, reaches, stepped}
+use Rattle.contest_machine.specs.Machine.{Walker, write, routes_to, but_last, freeing, gone_on, taken, judged, numbered, outward, settled, told, told_at, wants, reached, reaches, stepped}
 use Rattle.contest_law.proofs.Steps.{gone_by}
 
 -- ---- the walker

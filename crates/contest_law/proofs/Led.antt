@@ -1,15 +1,13 @@
 -- What a walker asks is asked of a device: the paths that it tries lead to devices, those of the
 -- switches whose ports it tries to switches.
-use Rattle.std.proofs.Common.{◌≡◌, ◌≢◌, ℕ, ◌+◌, ◌*◌, ◌/◌, ◌%◌, ◌==◌, nat_lt, Bool, true, false, eqb, List, [], ◌∷◌, ◌++◌, length, Option, Some, None, IsSome, subst, sym, refl, ap, ◌∙◌, if◌then◌else◌}
+use Rattle.std.proofs.Common.{◌≡◌, ◌≢◌, ℕ, ◌+◌, ◌*◌, ◌/◌, ◌%◌, nat_lt, Bool, true, false, eqb, List, [], ◌∷◌, ◌++◌, length, Option, Some, None, IsSome, subst, sym, refl, if◌then◌else◌}
 use Rattle.std.proofs.lemmas.Bool.{eqb-true}
 use Rattle.fabric_script.specs.declared.ports.PortRef.{PortRef}
 use Rattle.fabric_map.specs.declared.map.Kind.TheVariants.{Endpoint}
 use Rattle.fabric_map.specs.declared.map.Device.{Device}
 use Rattle.fabric_map.specs.Topology.{Topology, IsTopology, entered}
-use Rattle.fabric_map.specs.Walked.{onward}
 use Rattle.fabric_map.specs.Routes.{Registers}
 use Rattle.fabric_map.specs.Fitting.{Fits}
-use Rattle.fabric_map.proofs.Leading.{some_from_same}
 use Rattle.host_enumerate.specs.declared.maint.Access.TheVariants.{Read, Write}
 use Rattle.host_enumerate.specs.Accesses.{answered}
 use Rattle.host_enumerate.specs.Underway.{id_after, met_as}
@@ -18,7 +16,7 @@ use Rattle.contest_machine.specs.declared.stages.Pending.{Pending}
 use Rattle.contest_machine.specs.declared.stages.Tried.{Tried}
 use Rattle.contest_machine.specs.declared.stages.Stage.{Stage}
 use Rattle.contest_machine.specs.declared.stages.Stage.TheVariants.{Ask, Claim, Check, Test, Features, Information, Status, Free, Done, Lost}
-use Rattle.contest_machine.specs.Machine.{Walker, asked, write, routes_to, own_id, last_path, but_last, freeing, port_after, gone_on, taken, judged, numbered, set_up, outward, settled, told, told_at, reached, stepped}
+use Rattle.contest_machine.specs.Machine.{Walker, asked, write, routes_to, own_id, last_path, but_last, freeing, port_after, gone_on, taken, judged, numbered, outward, settled, told, reached, stepped}
 use Rattle.contest_machine.specs.Laws.{IsNew}
 use Rattle.contest_law.proofs.Lasting.{AreSameDevices}
 use Rattle.contest_law.proofs.Telling.{IsAtSwitch, is_at_switch, is_linked, leads_on, host_leads_on}
@@ -256,7 +254,8 @@ step_led w before old proper fits same led = go w.todo w.stage w.path led
     go : (todo : List Pending) (stage : Stage) (path : List ℕ)
         → IsLed (record w { todo = todo; stage = stage; path = path })
         → IsLed (stepped (record w { todo = todo; stage = stage; path = path }) old).walker
-    go [] stage path led = stage_led (record w { path = path }) before old proper fits same stage led
+    go [] stage path led =
+        stage_led (record w { path = path }) before old proper fits same stage led
     go (p ∷ rest) stage path led =
         reached_led w before old proper fits same
         (record w { todo = p ∷ rest; stage = stage; path = path })

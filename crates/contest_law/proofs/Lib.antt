@@ -4,9 +4,12 @@ pub mod Lasting
 pub mod Telling
 pub mod Led
 pub mod Waiting
+pub mod WaitingTurns
 pub mod Costing
 pub mod Spending
 pub mod Paying
 pub mod Fair
 pub mod Counted
+pub mod Greatest
+pub mod OwnLocks
 pub mod Alone

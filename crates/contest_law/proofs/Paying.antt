@@ -1,8 +1,7 @@
 -- Every access that goes on leaves its walker fewer turns.
-use Rattle.std.proofs.Common.{◌≡◌, ◌≢◌, ℕ, ◌+◌, ◌*◌, ◌-◌, ◌/◌, ◌%◌, ◌≤◌, ◌<◌, Bool, true, false, List, [], ◌∷◌, ◌++◌, length, Option, Some, None, IsSome, option_map, unwrap_or, Contains, arith, ◌⊎◌, inl, inr, subst, sym, refl, ap, ◌∙◌, append-nil}
-use Rattle.std.proofs.lemmas.List.Elements.{Contains-append_left, Contains-append_right, Contains-append_cases}
+use Rattle.std.proofs.Common.{◌≡◌, ◌≢◌, ℕ, ◌+◌, ◌*◌, ◌/◌, ◌%◌, ◌≤◌, ◌<◌, true, List, [], ◌∷◌, ◌++◌, length, Option, Some, None, IsSome, option_map, Contains, arith, subst, sym, refl, ap, ◌∙◌, append-nil}
+use Rattle.std.proofs.lemmas.List.Elements.{Contains-append_left, Contains-append_right}
 use Rattle.fabric_script.specs.declared.ports.PortRef.{PortRef}
-use Rattle.maint_registers.specs.Devices as registers
 use Rattle.maint_registers.specs.Devices.{is_switch}
 use Rattle.maint_registers.proofs.AccessLaws.{port_information-read}
 use Rattle.maint_registers.proofs.SameLaws.{same_kind}
@@ -15,7 +14,7 @@ use Rattle.fabric_map.specs.Numbered.{paths_of}
 use Rattle.fabric_map.proofs.Few.{entered-inside, entered-port}
 use Rattle.fabric_map.proofs.Growing.{node_at-entered}
 use Rattle.fabric_map.proofs.Leading.{some_from_same}
-use Rattle.fabric_map.proofs.Lists.{Contains-first, Contains-cases, not_in_empty}
+use Rattle.fabric_map.proofs.Lists.{Contains-first}
 use Rattle.host_enumerate.specs.declared.maint.Access.TheVariants.{Read, Write}
 use Rattle.host_enumerate.specs.Accesses.{after_read, answered, after_access}
 use Rattle.host_enumerate.specs.Underway.{met_as}
@@ -24,7 +23,7 @@ use Rattle.contest_machine.specs.declared.stages.Pending.{Pending}
 use Rattle.contest_machine.specs.declared.stages.Tried.{Tried}
 use Rattle.contest_machine.specs.declared.stages.Stage.{Stage}
 use Rattle.contest_machine.specs.declared.stages.Stage.TheVariants.{Ask, Claim, Check, Test, Features, Information, Status, Free, Done, Lost}
-use Rattle.contest_machine.specs.Machine.{Walker, asked, kept, last_path, but_last, freeing, numbered, settled, told, told_at, reached, stepped}
+use Rattle.contest_machine.specs.Machine.{Walker, asked, kept, last_path, but_last, numbered, settled, told, told_at, reached, stepped}
 use Rattle.contest_machine.specs.Contest.{AreOnce, IsMine}
 use Rattle.contest_machine.specs.Turns.{came_of}
 use Rattle.contest_law.specs.Going.{going_one}
@@ -36,7 +35,7 @@ use Rattle.contest_machine.proofs.Reading.{lock_told}
 use Rattle.contest_law.proofs.Lasting.{AreSameDevices}
 use Rattle.contest_law.proofs.Telling.{IsAtSwitch}
 use Rattle.contest_law.proofs.Led.{AreAtSwitches, IsLedAt, IsLed}
-use Rattle.contest_law.proofs.Costing.{room, turns_left, room_less}
+use Rattle.contest_law.proofs.Costing.{turns_left, room_less}
 use Rattle.contest_law.proofs.Spending.{Spends, few_kept, few_devices, one_less, ask_spends, check_spends, claim_spends, test_spends, features_spends, information_spends, status_spends, free_spends}
 
 entered_some : (o : Option PortRef) → IsSome (option_map (λ (p : PortRef). p.node) o) → IsSome o
@@ -112,7 +111,8 @@ module _ (w : Walker) (before old : Registers) (fits : w.id < 0xff) (shown : Fit
       omega (arith, few)
 
   -- the device that is claimed is one more
-  few_claimed : IsWithin (between Claim) → IsMine (between Claim) old → IsSome (entered w.view w.path)
+  few_claimed : IsWithin (between Claim) → IsMine (between Claim) old
+      → IsSome (entered w.view w.path)
       → length w.devices + 1 ≤ 64
   few_claimed within mine leads =
       let few = once_few w.view within.proper (paths_of w.devices ++ w.path ∷ [])

@@ -1,46 +1,36 @@
 -- Each access that goes on leaves a walker fewer turns.
-use Rattle.std.proofs.Common.{◌≡◌, ◌≢◌, ℕ, ◌+◌, ◌*◌, ◌-◌, ◌/◌, ◌%◌, ◌≤◌, ◌<◌, ◌==◌, nat_lt, Bool, true, false, eqb, List, [], ◌∷◌, ◌++◌, length, Option, Some, None, IsSome, Contains, arith, ◌⊎◌, inl, inr, subst, sym, refl, ap, ◌∙◌, if◌then◌else◌, length-append, append-nil, eq-eqb, ne_eqb}
-use Rattle.std.proofs.lemmas.Bool.{cases_eq, eqb-true, eqb-false, ltb-true, ltb-false}
+use Rattle.std.proofs.Common.{◌≡◌, ◌≢◌, ℕ, ◌+◌, ◌*◌, ◌/◌, ◌%◌, ◌≤◌, ◌<◌, ◌==◌, nat_lt, Bool, true, false, eqb, List, [], ◌∷◌, ◌++◌, length, Option, Some, arith, ◌⊎◌, inl, inr, subst, sym, refl, ap, ◌∙◌, if◌then◌else◌, length-append, eq-eqb, ne_eqb}
+use Rattle.std.proofs.lemmas.Bool.{cases_eq, eqb-true, eqb-false}
 use Rattle.std.proofs.lemmas.List.{length-map}
-use Rattle.std.proofs.lemmas.List.Elements.{Contains-append_left, Contains-append_right, Contains-append_cases}
 use Rattle.fabric_script.specs.declared.ports.PortRef.{PortRef}
 use Rattle.maint_registers.specs.Devices as registers
 use Rattle.maint_registers.specs.Devices.{is_switch}
 use Rattle.maint_registers.specs.Access.{locked}
-use Rattle.maint_registers.proofs.AccessLaws.{port_information-read}
-use Rattle.maint_registers.proofs.SameLaws.{same_kind}
 use Rattle.fabric_map.specs.declared.map.Kind.TheVariants.{Endpoint, Switch}
 use Rattle.fabric_map.specs.declared.map.Device.{Device}
-use Rattle.fabric_map.specs.Topology.{Topology, IsTopology, ports_of, entered, node_at}
+use Rattle.fabric_map.specs.Topology.{entered, node_at}
 use Rattle.fabric_map.specs.Routes.{Registers}
 use Rattle.fabric_map.specs.Fitting.{Fits}
 use Rattle.fabric_map.specs.Numbered.{paths_of}
-use Rattle.fabric_map.proofs.Few.{entered-inside, entered-port}
-use Rattle.fabric_map.proofs.Growing.{node_at-entered}
-use Rattle.fabric_map.proofs.Lists.{Contains-first, Contains-cases, not_in_empty}
 use Rattle.host_enumerate.specs.declared.maint.Access.TheVariants.{Read, Write}
-use Rattle.host_enumerate.specs.Accesses.{after_read, answered, after_access}
+use Rattle.host_enumerate.specs.Accesses.{answered, after_access}
 use Rattle.host_enumerate.specs.Underway.{id_after, met_as}
-use Rattle.host_enumerate.proofs.Frames.{with_device-at, with_device-other}
+use Rattle.host_enumerate.proofs.Frames.{with_device-at}
 use Rattle.contest_machine.specs.declared.stages.Asked.{Asked}
-use Rattle.contest_machine.specs.declared.stages.Pending.{Pending}
 use Rattle.contest_machine.specs.declared.stages.Tried.{Tried}
 use Rattle.contest_machine.specs.declared.stages.Stage.{Stage}
-use Rattle.contest_machine.specs.declared.stages.Stage.TheVariants.{Ask, Claim, Check, Test, Features, Information, Status, Free, Done, Lost}
-use Rattle.contest_machine.specs.Machine.{Walker, asked, write, routes_to, home_set, kept, fresh, last_path, but_last, freeing, gone_on, taken, judged, numbered, set_up, outward, settled, told, told_at, reached, stepped}
+use Rattle.contest_machine.specs.declared.stages.Stage.TheVariants.{Ask, Claim, Check, Test, Features, Information, Status, Free}
+use Rattle.contest_machine.specs.Machine.{Walker, write, routes_to, kept, but_last, freeing, gone_on, taken, judged, numbered, set_up, outward, told, told_at}
 use Rattle.contest_machine.specs.Turns.{came_of}
-use Rattle.contest_machine.specs.Contest.{Keeps, AreOnce, IsMine, HasClaimed}
+use Rattle.contest_machine.specs.Contest.{IsMine, HasClaimed}
 use Rattle.contest_machine.specs.Within.{IsWithin}
 use Rattle.contest_machine.proofs.Few.{once_few}
-use Rattle.contest_machine.proofs.Lists.{once-push, split_last}
-use Rattle.contest_machine.proofs.Reading.{read-same, lock_told, lock_left, locked-free, locked-other}
+use Rattle.contest_machine.proofs.Reading.{read-same, lock_left, locked-free, locked-other}
 use Rattle.contest_machine.proofs.Stepped.{one_node}
 use Rattle.contest_law.specs.Going.{going_one}
 use Rattle.contest_law.proofs.Steps.{gone_by}
 use Rattle.contest_law.proofs.Lasting.{AreSameDevices}
-use Rattle.contest_law.proofs.Telling.{IsAtSwitch}
-use Rattle.contest_law.proofs.Led.{AreAtSwitches, IsLedAt, IsLed}
-use Rattle.contest_law.proofs.Costing.{ports_left, room, lock_is, if_failed, turns_left_at, turns_left, if_won, claims_left, going_most, routes_most, home_most, own_most, fewer, gone_left, gone_claims, freeing_left, freeing_claims, room_less}
+use Rattle.contest_law.proofs.Costing.{room, lock_is, if_failed, turns_left, if_won, claims_left, going_most, routes_most, home_most, own_most, fewer, gone_left, gone_claims, freeing_left, freeing_claims, room_less}
 
 -- What an access leaves: fewer turns, if it goes on, and no more locks to take; if it takes one,
 -- fewer.
@@ -71,11 +61,13 @@ one_less w after left before less =
 
 is_lock : (now : Registers) (lock : ℕ) (at : PortRef) (o : Option PortRef) → o ≡ Some at
     → (now at.node).lock ≡ lock → lock_is now lock o ≡ true
-is_lock now lock at o is held = ap (λ p. lock_is now lock p) is ∙ eq-eqb (now at.node).lock lock held
+is_lock now lock at o is held =
+    ap (λ p. lock_is now lock p) is ∙ eq-eqb (now at.node).lock lock held
 
 not_lock : (now : Registers) (lock : ℕ) (at : PortRef) (o : Option PortRef) → o ≡ Some at
     → (now at.node).lock ≢ lock → lock_is now lock o ≡ false
-not_lock now lock at o is other = ap (λ p. lock_is now lock p) is ∙ ne_eqb (now at.node).lock lock other
+not_lock now lock at o is other =
+    ap (λ p. lock_is now lock p) is ∙ ne_eqb (now at.node).lock lock other
 
 -- no more devices are kept than there are
 pub few_kept : (w : Walker) (old : Registers) → IsWithin w → IsMine w old → length (kept w) ≤ 64

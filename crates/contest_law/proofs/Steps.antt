@@ -1,5 +1,5 @@
 -- What holds after each access holds after each turn, and after a port was tried.
-use Rattle.std.proofs.Common.{◌≡◌, ◌≢◌, ℕ, ◌+◌, ◌*◌, Bool, true, false, nat_lt, List, [], ◌∷◌, ◌++◌, append-nil, Option, Some, None, arith, subst, sym, refl, ap, ◌∙◌, if◌then◌else◌, ne_eqb}
+use Rattle.std.proofs.Common.{◌≡◌, ◌≢◌, ℕ, ◌+◌, ◌*◌, Bool, true, false, nat_lt, List, [], ◌∷◌, ◌++◌, append-nil, arith, subst, sym, refl, ap, ◌∙◌, if◌then◌else◌, ne_eqb}
 use Rattle.std.proofs.lemmas.List.{append_assoc}
 use Rattle.fabric_map.specs.Topology.{entered}
 use Rattle.fabric_map.specs.Routes.{Registers}

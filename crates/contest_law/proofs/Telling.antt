@@ -1,7 +1,7 @@
 -- What registers tell a walker of the devices and links of its view.
-use Rattle.std.proofs.Common.{◌≡◌, ◌≢◌, ℕ, ◌+◌, ◌*◌, ◌/◌, ◌%◌, ◌^◌, ◌<◌, ◌≤◌, ◌==◌, nat_lt, Bool, true, false, eqb, List, [], ◌∷◌, Option, Some, None, IsSome, is_some, option_map, unwrap_or, arith, ◌⊎◌, inl, inr, subst, sym, refl, ap, ◌∙◌, if◌then◌else◌, ne_eqb}
-use Rattle.std.specs.Option.{option_and_then, option_or}
-use Rattle.std.proofs.lemmas.Bool.{cases_lt, eqb-true, eq-eqb, lt-ltb}
+use Rattle.std.proofs.Common.{◌≡◌, ◌≢◌, ℕ, ◌+◌, ◌*◌, ◌/◌, ◌%◌, ◌^◌, ◌<◌, ◌≤◌, ◌==◌, nat_lt, Bool, true, false, List, [], ◌∷◌, Option, Some, None, IsSome, is_some, unwrap_or, arith, ◌⊎◌, inl, inr, subst, sym, refl, ap, ◌∙◌, if◌then◌else◌, ne_eqb}
+use Rattle.std.specs.Option.{option_and_then}
+use Rattle.std.proofs.lemmas.Bool.{cases_lt, lt-ltb}
 use Rattle.fabric_script.specs.declared.ports.PortRef.{PortRef}
 use Rattle.maint_registers.specs.Devices.{Device, is_switch}
 use Rattle.maint_registers.specs.Table.{status_offset}
@@ -9,7 +9,7 @@ use Rattle.maint_registers.specs.Access.{value_at}
 use Rattle.maint_registers.proofs.AccessLaws.{features-read, status-read}
 use Rattle.maint_registers.proofs.StatusLaws.{status_port-none}
 use Rattle.maint_registers.proofs.SameLaws.{same_kind}
-use Rattle.fabric_map.specs.Topology.{Topology, IsTopology, port_at, ports_of, followed, behind, entered}
+use Rattle.fabric_map.specs.Topology.{Topology, IsTopology, port_at, followed, behind, entered}
 use Rattle.fabric_map.specs.Walked.{onward}
 use Rattle.fabric_map.specs.Routes.{Registers}
 use Rattle.fabric_map.specs.Fitting.{Fits}
