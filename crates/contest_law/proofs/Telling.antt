@@ -45,7 +45,7 @@ status-none device n port past =
     ) refl
 
 -- what the features tell
-features_told : (device : Device) (port : ℕ)
+pub features_told : (device : Device) (port : ℕ)
     → (answered device port (Read 0x10)).answer.value
     ≡ (if is_switch device then 0x10000108 else 0x8)
 features_told device port =

@@ -3,8 +3,8 @@ pub mod Frame
 pub mod Reading
 pub mod Turning
 pub mod Stepped
-pub mod Staged
-pub mod Freed
+mod Staged
+mod Freed
 pub mod Apart
 pub mod Greater
 pub mod Few

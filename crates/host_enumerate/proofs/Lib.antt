@@ -2,26 +2,26 @@ pub mod Accessed
 pub mod Frames
 pub mod PlainWalks
 mod Pairs
-mod Counting
-mod Meeting
-mod Stepping
+pub mod Counting
+pub mod Meeting
+pub mod Stepping
 mod Lengthening
-mod TakingSwitch
-mod TakingEndpoint
+pub mod TakingSwitch
+pub mod TakingEndpoint
 mod Askable
-mod Keeping
+pub mod Keeping
 mod Asked
-mod Finishing
+pub mod Finishing
 mod Opening
 mod Entries
 mod Routing
 mod Giving
-mod Clearing
+pub mod Clearing
 mod SettingUp
 mod Holders
 mod Preparing
 mod Tagging
-mod Shown
+pub mod Shown
 mod Trying
 mod Tried
 mod Looking

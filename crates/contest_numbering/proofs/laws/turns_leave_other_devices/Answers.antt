@@ -1,0 +1,5 @@
+use Rattle.contest_numbering.proofs.Leaving.{turns_leave_others}
+use Rattle.contest_numbering.proofs.laws.turns_leave_other_devices.Goals as goal
+
+pub returns : goal.returns
+returns c = turns_leave_others
