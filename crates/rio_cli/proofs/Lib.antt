@@ -1,5 +1,6 @@
 pub mod AnswerLaws
 pub mod HostLaws
+pub mod ContestLaws
 pub mod AskLaws
 pub mod NumberingLaws
 pub mod CommandLaws

@@ -10,7 +10,7 @@ use Rattle.trace_check.specs.Outcomes.{HasUnlawful}
 use Rattle.rio_cli.specs.declared.answer.Answer.{Answer}
 use Rattle.rio_cli.specs.declared.refusal.Refusal.{Refusal}
 use Rattle.rio_cli.specs.declared.command.Command.{Command}
-use Rattle.rio_cli.specs.declared.command.Command.TheVariants.{Check, Enumerate}
+use Rattle.rio_cli.specs.declared.command.Command.TheVariants.{Check, Enumerate, Contest}
 use Rattle.rio_cli.specs.declared.status.Status.{Status}
 use Rattle.rio_cli.specs.declared.status.Status.TheVariants.{Done, Words, Script, ReadFault, WriteFault, NoMemory, Undetected, TooLong, Locked, Unlawful}
 use Rattle.rio_cli.specs.Hints.{hint_text}
@@ -33,6 +33,8 @@ excerpt_of (byte ∷ bytes) = codes ": " ++ map shown_byte (take 80 (byte ∷ by
 -- The same for a command. A host is refused at a line behind the last, whose text the words give.
 abbrev pub citation_of : Command → List ℕ → List ℕ
 citation_of (Enumerate node) [] = codes ": enumerate " ++ node
+citation_of (Contest first second seed) [] =
+    codes ": contest " ++ first ++ codes " " ++ second ++ codes " " ++ decimal seed
 citation_of command text = excerpt_of text
 
 -- What is said of a text that is refused for this reason: what in it is to blame, or the reason.
@@ -64,7 +66,7 @@ pub record Explains (command : Command) (bytes : List ℕ) (line reason : ℕ) (
 abbrev pub status_text : Status → List ℕ
 status_text Done = []
 status_text Words = codes
-    "rio: usage: rio replay < SCRIPT, rio decode < CHARACTERS, rio check < TRACE, rio enumerate NODE < SCRIPT, or rio soak NUMBER\n"
+    "rio: usage: rio replay < SCRIPT, rio decode < CHARACTERS, rio check < TRACE, rio enumerate NODE < SCRIPT, rio contest NODE NODE NUMBER < SCRIPT, or rio soak NUMBER\n"
 status_text Script = codes "rio: the input is refused\n"
 status_text Unlawful = codes "rio: the trace is not lawful\n"
 status_text ReadFault = codes "rio: standard input cannot be read\n"

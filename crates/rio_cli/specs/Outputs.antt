@@ -13,12 +13,13 @@ use Rattle.script_input.specs.Inputs.{IsRefusedInput}
 use Rattle.trace_check.specs.Outcomes.{HasUnlawful}
 use Rattle.rio_cli.specs.Checking.{HasTrace, Checks, ChecksFront}
 use Rattle.rio_cli.specs.Numbering.{HasHost, IsRefusedFor, Numbers, FindsLock, NumbersFront}
+use Rattle.rio_cli.specs.Contesting.{HasHosts, IsRefusedForTwo, Contests, ContestsFront}
 use Rattle.rio_cli.specs.Decoding.{SpellsChars, BadWordAt, Decodes, DecodesFront}
 use Rattle.rio_cli.specs.declared.status.Status.{Status}
 use Rattle.rio_cli.specs.declared.status.Status.TheVariants.{Script, Unlawful}
 use Rattle.rio_cli.specs.Inputs.{most_input}
 use Rattle.rio_cli.specs.declared.command.Command.{Command}
-use Rattle.rio_cli.specs.declared.command.Command.TheVariants.{Replay, Decode, Check, Enumerate}
+use Rattle.rio_cli.specs.declared.command.Command.TheVariants.{Replay, Decode, Check, Enumerate, Contest}
 
 -- the line that refuses an input, or says that it is not lawful
 abbrev pub verdict_word : Status → List ℕ
@@ -75,6 +76,7 @@ IsAccepted Replay = SpellsScript
 IsAccepted Decode = λ bytes. (chars : List Char) × SpellsChars bytes chars
 IsAccepted Check = HasTrace
 IsAccepted (Enumerate node) = HasHost node
+IsAccepted (Contest first second seed) = HasHosts first second
 
 -- the input is refused, at this line and for this reason
 abbrev pub IsRefused : Command → List ℕ → ℕ → ℕ → Type 0
@@ -82,6 +84,7 @@ IsRefused Replay = RefusedAt
 IsRefused Decode = λ bytes line reason. BadWordAt bytes line × (reason ≡ 1)
 IsRefused Check = IsRefusedInput
 IsRefused (Enumerate node) = IsRefusedFor node
+IsRefused (Contest first second seed) = IsRefusedForTwo first second
 
 -- the input is carried out, and is not lawful, at this line and for this reason
 abbrev pub IsUnlawful : Command → List ℕ → ℕ → ℕ → Type 0
@@ -100,6 +103,7 @@ Completes Replay = Traces
 Completes Decode = Decodes
 Completes Check = Checks
 Completes (Enumerate node) = Numbers node
+Completes (Contest first second seed) = Contests first second seed
 
 -- the input is carried out, and a front of that was written
 abbrev pub CompletesFront : Command → List ℕ → Option (List ℕ) → Option (List ℕ) → Type 0
@@ -107,6 +111,7 @@ CompletesFront Replay = TracesFront
 CompletesFront Decode = DecodesFront
 CompletesFront Check = ChecksFront
 CompletesFront (Enumerate node) = NumbersFront node
+CompletesFront (Contest first second seed) = ContestsFront first second seed
 
 -- the input is carried out up to an event that a port acted on and that was not sent, and all was written that the
 -- command writes then

@@ -6,7 +6,7 @@ use Rattle.fabric_script.specs.declared.advice.Advice.TheVariants.{Nothing, Carr
 use Rattle.fabric_script.specs.declared.advice.WordKind.{WordKind}
 use Rattle.fabric_script.specs.declared.advice.WordKind.TheVariants as Kinds
 use Rattle.rio_cli.specs.declared.command.Command.{Command}
-use Rattle.rio_cli.specs.declared.command.Command.TheVariants.{Replay, Decode, Check, Enumerate}
+use Rattle.rio_cli.specs.declared.command.Command.TheVariants.{Replay, Decode, Check, Enumerate, Contest}
 
 -- why a line of a script is refused, by the number of the reason, from 0 on; there is no reason 0
 abbrev pub script_reasons : List (List ℕ)
@@ -48,12 +48,18 @@ trace_reason reason =
     else (if leb 21 reason then slice_index_or trace_reasons (reason - 21) (script_reason reason)
     else script_reason reason)
 
+-- why a line of set-up, or the line after the last, is refused for two hosts
+abbrev pub contest_reason : ℕ → List ℕ
+contest_reason reason =
+    if reason == 16 then codes "both hosts are the same node" else script_reason reason
+
 -- why a line of an input is refused or not lawful: a row for each command
 abbrev pub reason_text : Command → ℕ → List ℕ
 reason_text Replay reason = script_reason reason
 reason_text Decode reason = codes "a word of this line is not a character"
 reason_text Check reason = trace_reason reason
 reason_text (Enumerate node) reason = script_reason reason
+reason_text (Contest first second seed) reason = contest_reason reason
 
 -- how a word is spelled
 abbrev pub kind_text : WordKind → List ℕ

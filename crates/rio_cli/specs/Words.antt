@@ -5,7 +5,7 @@ use Rattle.fabric_script.specs.Names.{is_name}
 use Rattle.rio_cli.specs.declared.command.Asked.{Asked}
 use Rattle.rio_cli.specs.declared.command.Asked.TheVariants.{Input, Soak}
 use Rattle.rio_cli.specs.declared.command.Command.{Command}
-use Rattle.rio_cli.specs.declared.command.Command.TheVariants.{Replay, Decode, Check, Enumerate}
+use Rattle.rio_cli.specs.declared.command.Command.TheVariants.{Replay, Decode, Check, Enumerate, Contest}
 
 -- the words that ask for a command: a row for each
 abbrev pub words_for : Command → List (List ℕ)
@@ -13,15 +13,26 @@ words_for Replay = codes "replay" ∷ []
 words_for Decode = codes "decode" ∷ []
 words_for Check = codes "check" ∷ []
 words_for (Enumerate node) = codes "enumerate" ∷ node ∷ []
+words_for (Contest first second seed) =
+    codes "contest" ∷ first ∷ second ∷ decimal seed ∷ []
 
--- a node is spelled as a name
+-- a node is spelled as a name, and a number has room in 32 bits
 abbrev pub IsNamed : Command → Type 0
 IsNamed (Enumerate node) = is_name node ≡ true
+IsNamed (Contest first second seed) =
+    (is_name first ≡ true) × (is_name second ≡ true) × (seed < 2 ^ 32)
 IsNamed _ = ⊤
 
 -- the words ask for this to be done with the input
 abbrev pub Asks : Command → List (List ℕ) → Type 0
 Asks command words = (words ≡ words_for command) × IsNamed command
+
+-- the words ask no two nodes to contest a fabric, and no node to number one
+abbrev pub AskNoContest : List (List ℕ) → Type 0
+AskNoContest words = (first second : List ℕ) (seed : ℕ) → ¬ Asks (Contest first second seed) words
+
+abbrev pub AskNoHost : List (List ℕ) → Type 0
+AskNoHost words = ((node : List ℕ) → ¬ Asks (Enumerate node) words) × AskNoContest words
 
 -- the words that ask for the soak of a number
 abbrev pub soak_words : ℕ → List (List ℕ)

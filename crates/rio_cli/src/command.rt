@@ -1,7 +1,7 @@
 //! What the words after the program's name ask for.
 ghost use Rattle.std.specs.Prelude.{◌≡◌, ◌↔◌, ◌∷◌, [], ℕ, List, IsTrue, MatchOption, map};
 ghost use Rattle.std.specs.String.{string_bytes};
-ghost use Rattle.rio_cli.specs.Words.{AreUnknown, Asks, AsksFor, AsksSoak};
+ghost use Rattle.rio_cli.specs.Words.{AreUnknown, Asks, AskNoContest, AskNoHost, AsksFor, AsksSoak};
 ghost use Rattle.rio_cli.specs.declared.command.Command.{Command as ACommand};
 ghost use Rattle.rio_cli.specs.declared.command.Command.TheVariants as Commands;
 
@@ -18,6 +18,13 @@ pub enum Command {
     Check,
     /// The node of this name numbers the fabric of a script.
     Enumerate(Name),
+    /// The nodes of these names contest the fabric of a script, by the turns that the number stands
+    /// for.
+    Contest {
+        first: Name,
+        second: Name,
+        seed: u32,
+    },
 }
 
 /// What the program is asked for.
@@ -54,9 +61,19 @@ fn command_of(words: &[String]) -> Option<Command>
     } else if is_one(words, "check") {
         Some(Command::Check)
     } else {
-        let node = host_of(words)?;
-        Some(Command::Enumerate(node))
+        command_at(words)
     }
+}
+
+/// What the words ask nodes that they name to do, if they ask for that.
+fn command_at(words: &[String]) -> Option<Command>
+    ensures { MatchOption result (AskNoHost (map string_bytes words.now))
+        (λ command. Asks command (map string_bytes words.now)) }
+{
+    if let Some(node) = host_of(words) {
+        return Some(Command::Enumerate(node));
+    }
+    contest_of(words)
 }
 
 /// The name of the host that the words ask to number a fabric, if they ask for that.
@@ -69,6 +86,41 @@ fn host_of(words: &[String]) -> Option<Name>
         [word, node] => host_in(word.as_str(), node.as_str()),
         _ => None,
     }
+}
+
+/// The contest that the words ask for, if they ask for one.
+fn contest_of(words: &[String]) -> Option<Command>
+    ensures { MatchOption result (AskNoContest (map string_bytes words.now))
+        (λ command. Asks command (map string_bytes words.now)) }
+{
+    match words {
+        [word, first, second, number] => contest_in(
+            word.as_str(),
+            first.as_str(),
+            second.as_str(),
+            number.as_str(),
+        ),
+        _ => None,
+    }
+}
+
+/// The contest, if these are its four words.
+fn contest_in(word: &str, first: &str, second: &str, number: &str) -> Option<Command>
+    ensures { MatchOption result
+        (AskNoContest (word.now ∷ first.now ∷ second.now ∷ number.now ∷ []))
+        (λ command. Asks command (word.now ∷ first.now ∷ second.now ∷ number.now ∷ [])) }
+{
+    if word != "contest" {
+        return None;
+    }
+    let first = read_name(first.as_bytes())?;
+    let second = read_name(second.as_bytes())?;
+    let seed = read_number(number.as_bytes())?;
+    Some(Command::Contest {
+        first,
+        second,
+        seed,
+    })
 }
 
 /// The name of the host, if these are the two words of an enumeration.

@@ -16,6 +16,7 @@
 
 mod answer;
 mod command;
+mod contesting;
 mod decode;
 mod hints;
 mod laws;

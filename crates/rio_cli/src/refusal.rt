@@ -73,6 +73,7 @@ fn expected_at(
         Command::Replay => Ok(None),
         Command::Decode => Ok(None),
         Command::Enumerate(_) => Ok(None),
+        Command::Contest { .. } => Ok(None),
         Command::Check => expected_in_trace(alloc, bytes, line, reason),
     }
 }
@@ -105,7 +106,9 @@ fn push_why(
         × (message.new.items ≡ message.old.items ++ why)) }
 {
     let advice = match command {
-        Command::Replay | Command::Check | Command::Enumerate(_) => advise(alloc, text, reason),
+        Command::Replay | Command::Check | Command::Enumerate(_) | Command::Contest { .. } => {
+            advise(alloc, text, reason)
+        }
         Command::Decode => Advice::Nothing,
     };
     push_advice(message, advice, reason_text(command, reason))
@@ -134,6 +137,18 @@ fn push_citation(message: &mut Vec<u8>, command: &Command, text: &[u8]) -> Resul
         Command::Enumerate(node) if text.is_empty() => {
             message.extend_from_slice(b": enumerate ")?;
             message.extend_from_slice(node.as_slice())
+        }
+        Command::Contest {
+            first,
+            second,
+            seed,
+        } if text.is_empty() => {
+            message.extend_from_slice(b": contest ")?;
+            message.extend_from_slice(first.as_slice())?;
+            message.extend_from_slice(b" ")?;
+            message.extend_from_slice(second.as_slice())?;
+            message.extend_from_slice(b" ")?;
+            push_number(message, *seed)
         }
         _ => push_excerpt(message, text),
     }

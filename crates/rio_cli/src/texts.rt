@@ -1,7 +1,7 @@
 //! Why a line is refused, in words.
 ghost use Rattle.std.specs.Prelude.{◌≡◌, ◌++◌, [], OnOk};
 ghost use Rattle.std.specs.Fmt.{decimal};
-ghost use Rattle.rio_cli.specs.Texts.{reason_text as reason_text_of, script_reason as script_reason_of, advice_text as advice_text_of, kind_text as kind_text_of};
+ghost use Rattle.rio_cli.specs.Texts.{reason_text as reason_text_of, script_reason as script_reason_of, contest_reason as contest_reason_of, advice_text as advice_text_of, kind_text as kind_text_of};
 ghost use Rattle.fabric_script.specs.declared.advice.Advice.TheVariants as AnAdvice;
 ghost use Rattle.fabric_script.specs.declared.advice.WordKind.TheVariants as AWordKind;
 
@@ -16,6 +16,7 @@ pub(crate) fn reason_text(command: &Command, reason: u8) -> &'static [u8]
 {
     match command {
         Command::Replay | Command::Enumerate(_) => script_reason(reason),
+        Command::Contest { .. } => contest_reason(reason),
         Command::Decode => b"a word of this line is not a character",
         Command::Check => trace_reason(reason),
     }
@@ -34,6 +35,16 @@ fn trace_reason(reason: u8) -> &'static [u8]
             b"this packet did not come with the ackID whose turn it is, after the one held before",
         25 => b"more packets are freed than were acknowledged",
         26 => b"a packet is sent that neither waits at the port nor is lent",
+        _ => script_reason(reason),
+    }
+}
+
+/// Why a line of set-up, or the line after the last, is refused for two hosts.
+fn contest_reason(reason: u8) -> &'static [u8]
+    ensures { result.now ≡ contest_reason_of reason }
+{
+    match reason {
+        16 => b"both hosts are the same node",
         _ => script_reason(reason),
     }
 }

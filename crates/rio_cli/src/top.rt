@@ -12,6 +12,7 @@ ghost use Rattle.rio_cli.specs.Answers.{Ended, Refuses, Answers, SaysOfBytes, Sa
 
 use crate::answer::Answer;
 use crate::command::{Asked, Command, asked_by};
+use crate::contesting::contest_bytes;
 use crate::decode::{DecodeEnd, decode_chars};
 use crate::numbering::number;
 use crate::refusal::Refusal;
@@ -118,6 +119,11 @@ fn run_bytes<K: Sink>(alloc: Global, command: Command, bytes: &[u8], sink: &mut 
         Command::Decode => decode_bytes(alloc, bytes, sink),
         Command::Check => check_bytes(alloc, bytes, sink),
         Command::Enumerate(node) => enumerate_bytes(alloc, node, bytes, sink),
+        Command::Contest {
+            first,
+            second,
+            seed,
+        } => contest_bytes(alloc, first, second, seed, bytes, sink),
     }
 }
 
@@ -265,7 +271,7 @@ fn condemn_line<K: Sink>(
 }
 
 /// Writes the line of a refusal and answers it.
-fn refuse_line<K: Sink>(
+pub(crate) fn refuse_line<K: Sink>(
     alloc: Global,
     command: Command,
     bytes: &[u8],
