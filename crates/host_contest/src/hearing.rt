@@ -7,9 +7,10 @@ ghost use Rattle.contest_machine.specs.Within.{AreShort, IsBounded, IsBoundedAt}
 ghost use Rattle.host_contest.specs.Machines.{machine_of, port_left};
 
 use crate::machine::{Machine, last_of};
-use crate::offsets::{ALONG_PATH, FREE};
+use crate::values::FREE;
 use crate::writes::{push_entry, push_routes};
 use contest_machine::{Stage, Tried};
+use host_enumerate::offsets::ALONG_PATH;
 use std::alloc::AllocError;
 
 impl Machine {

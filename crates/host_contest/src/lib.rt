@@ -18,10 +18,10 @@
 
 mod hearing;
 mod machine;
-mod offsets;
 mod plain;
 mod steps;
 mod taking;
+mod values;
 mod walker;
 mod writes;
 

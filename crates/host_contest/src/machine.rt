@@ -8,13 +8,12 @@ ghost use Rattle.contest_machine.specs.Machine.{last_path, taken, asked, status_
 ghost use Rattle.contest_machine.specs.Within.{IsBoundedAt};
 ghost use Rattle.host_contest.specs.Machines.{machine_of, new_walker};
 
-use crate::offsets::{
-    ALONG_PATH, BASE_ID, COMPONENT_TAG, FEATURES, FIRST_STATUS, FREE, HOST_LOCK, PORT_INFORMATION,
-    STATUS_STEP,
-};
 use contest_machine::{Asked, Pending, Stage, Tried};
 use fabric_map::{Device, Map, Path};
 use host_enumerate::Access;
+use host_enumerate::offsets::{
+    COMPONENT_TAG, FEATURES, FIRST_STATUS, HOST_LOCK, PORT_INFORMATION, STATUS_STEP,
+};
 use std::alloc::{AllocError, Global};
 use std::collections::LinkedList;
 

@@ -1,27 +1,17 @@
 //! `PlainFabric`: the registers and links of a script, which the hosts read and write.
-ghost use Rattle.std.specs.Prelude.{◌≡◌, ◌<◌, ◌≤◌, ◌^◌, ℕ, length, IfOk};
-ghost use Rattle.maint_registers.specs.Devices.{IsDevice, IsSameDevice};
-ghost use Rattle.fabric_script.specs.Known.{same_port};
-ghost use Rattle.fabric_script.specs.Peers.{peer_in};
+ghost use Rattle.std.specs.Prelude.{◌≡◌, ◌<◌, ℕ, length, IfOk};
 ghost use Rattle.fabric_script.specs.Scripts.{Passes};
 ghost use Rattle.fabric_map.specs.Topology.{IsTopology, followed, behind, along, entered};
 ghost use Rattle.fabric_map.specs.Plain.{registers_of};
-ghost use Rattle.host_enumerate.specs.Accesses.{answered};
 ghost use Rattle.host_enumerate.specs.Devised.{devices_of, links_of};
 ghost use Rattle.host_contest.specs.Plain.{view_of, answer_at, registers_at};
 
 use fabric_map::Path;
 use fabric_script::{PortRef, Script};
-use host_enumerate::{Access, Answer, devise};
+use host_enumerate::{Access, Answer, devise, peer_in, respond};
 use maint_registers::Registers;
 use rio_chars::NoMemory;
 use std::alloc::Global;
-
-/// The answer to an access that was not done.
-const FAILED: Answer = Answer {
-    status: 7,
-    value: 0,
-};
 
 /// The registers of devices and the links between them. No packet is in it.
 #[derive(Debug, Drop)]
@@ -115,62 +105,4 @@ impl PlainFabric {
             0
         }
     }
-}
-
-/// Whether two ports are one.
-fn same_port(p: PortRef, q: PortRef) -> bool
-    ensures { result ≡ same_port p q }
-{
-    p.node == q.node && p.port == q.port
-}
-
-/// The other end of a port's link, in a list of links.
-fn peer_in(links: &[(PortRef, PortRef)], at: PortRef) -> Option<PortRef>
-    ensures { result ≡ peer_in links.now at }
-{
-    let [link, rest @ ..] = links else {
-        return None;
-    };
-    if same_port(link.0, at) {
-        Some(link.1)
-    } else if same_port(link.1, at) {
-        Some(link.0)
-    } else {
-        peer_in(rest, at)
-    }
-}
-
-/// Does an access that came to a port of a device.
-fn respond(device: &mut Registers, port: u8, access: Access) -> Answer
-    ensures answer { result ≡ (answered device.old port access).answer }
-    ensures becomes { device.new ≡ (answered device.old port access).device }
-    ensures same { IsSameDevice device.old device.new }
-    ensures device { IsDevice device.new }
-    ensures id { device.new.base_id < 256 }
-    ensures lock { device.new.lock < 2 ^ 16 }
-{
-    let answer = match access {
-        Access::Read(offset) => match device.read(offset, port) {
-            Some(value) => done(value),
-            None => FAILED,
-        },
-        Access::Write(offset, value) => {
-            if device.write(offset, value) {
-                done(0)
-            } else {
-                FAILED
-            }
-        }
-    };
-    prove!(device.base_id() <= u8::MAX);
-    prove!(device.lock() <= u16::MAX);
-    prove!(device.ports() <= 16);
-    answer
-}
-
-/// The answer to an access that was done.
-fn done(value: u32) -> Answer
-    ensures { result ≡ record { status = 0; value = value } }
-{
-    Answer { status: 0, value }
 }

@@ -8,10 +8,10 @@ ghost use Rattle.contest_machine.specs.Within.{IsBounded};
 ghost use Rattle.host_contest.specs.Machines.{machine_of, with_device, with_home, with_tried, first_port};
 
 use crate::machine::Machine;
-use crate::offsets::{BASE_ID, COMPONENT_TAG};
 use crate::writes::{push_home, push_routes, push_write};
 use contest_machine::{Stage, Tried};
 use fabric_map::{Device, Kind, Path};
+use host_enumerate::offsets::{BASE_ID, COMPONENT_TAG};
 use std::alloc::AllocError;
 
 impl Machine {

@@ -3,9 +3,10 @@ ghost use Rattle.std.specs.Prelude.{◌≡◌, ◌≤◌, ◌++◌, ◌∷◌, [
 ghost use Rattle.fabric_map.specs.Numbered.{toward};
 ghost use Rattle.contest_machine.specs.Machine.{write, entry_set, route_at, routes_to, cleared_below, home_set};
 
-use crate::offsets::{CLEARED, DEFAULT_PORT, ROUTE_ENTRY, ROUTE_SELECT};
+use crate::values::CLEARED;
 use contest_machine::Pending;
 use fabric_map::{Device, Kind, Path};
+use host_enumerate::offsets::{DEFAULT_PORT, ROUTE_ENTRY, ROUTE_SELECT};
 use std::alloc::AllocError;
 use std::collections::LinkedList;
 

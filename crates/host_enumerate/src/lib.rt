@@ -11,7 +11,8 @@
 //! - [`enumerate`] answers the map of a fabric, or tells the [`EnumEnd`].
 //! - [`Maint`] carries an [`Access`] to a device and brings back the [`Answer`], or tells the [`MaintEnd`].
 //! - [`PlainMaint`] does so for registers and links that it holds itself, those of a script;
-//!   [`devise`] makes these alone. [`judge_host`] says which node of it can be the host, and
+//!   [`devise`] makes these alone, [`peer_in`] follows a link, and [`respond`] lets one device
+//!   answer. `offsets` has the offsets of registers. [`judge_host`] says which node of it can be the host, and
 //!   [`find_host`] which does so by its name, or they tell the [`NoHost`].
 //! - [`write_map`] and [`write_locked`] write the lines of a map, and of a device that another host
 //!   holds.
@@ -28,7 +29,7 @@ mod hosts;
 mod laws;
 mod maint;
 mod map_lines;
-mod offsets;
+pub mod offsets;
 mod plain;
 mod setting;
 mod taking;
@@ -43,5 +44,5 @@ pub use hosts::find_host;
 pub use laws::scripts_make_new_fabrics;
 pub use maint::{Access, Answer, Maint, MaintEnd};
 pub use map_lines::{write_locked, write_map};
-pub use plain::PlainMaint;
+pub use plain::{PlainMaint, peer_in, respond};
 pub use walk::enumerate;

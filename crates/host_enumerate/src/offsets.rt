@@ -2,34 +2,34 @@
 //! Specification 1.3, Part 1, Part 3 and Part 6; `docs/registers.md` has the table).
 
 /// Processing element features.
-pub(crate) const FEATURES: u32 = 0x00_0010;
+pub const FEATURES: u32 = 0x00_0010;
 
 /// How many ports a switch has, and the port on which it was asked.
-pub(crate) const PORT_INFORMATION: u32 = 0x00_0014;
+pub const PORT_INFORMATION: u32 = 0x00_0014;
 
 /// The ID of an endpoint.
-pub(crate) const BASE_ID: u32 = 0x00_0060;
+pub const BASE_ID: u32 = 0x00_0060;
 
 /// The ID of the host that holds the device.
-pub(crate) const HOST_LOCK: u32 = 0x00_0068;
+pub const HOST_LOCK: u32 = 0x00_0068;
 
 /// The component tag.
-pub(crate) const COMPONENT_TAG: u32 = 0x00_006c;
+pub const COMPONENT_TAG: u32 = 0x00_006c;
 
 /// The destination whose entry is read and written.
-pub(crate) const ROUTE_SELECT: u32 = 0x00_0070;
+pub const ROUTE_SELECT: u32 = 0x00_0070;
 
 /// The entry of that destination.
-pub(crate) const ROUTE_ENTRY: u32 = 0x00_0074;
+pub const ROUTE_ENTRY: u32 = 0x00_0074;
 
 /// The port for destinations without an entry.
-pub(crate) const DEFAULT_PORT: u32 = 0x00_0078;
+pub const DEFAULT_PORT: u32 = 0x00_0078;
 
 /// The error and status register of port 0, in a block that begins at 000100.
-pub(crate) const FIRST_STATUS: u32 = 0x00_0158;
+pub const FIRST_STATUS: u32 = 0x00_0158;
 
 /// How far the registers of two neighbouring ports are apart.
-pub(crate) const STATUS_STEP: u32 = 0x20;
+pub const STATUS_STEP: u32 = 0x20;
 
 /// The destination by which a host asks along a path.
-pub(crate) const ALONG_PATH: u8 = 255;
+pub const ALONG_PATH: u8 = 255;

@@ -144,7 +144,7 @@ fn same_port(p: PortRef, q: PortRef) -> bool
 }
 
 /// The other end of a port's link, in a list of links.
-pub(crate) fn peer_in(links: &[(PortRef, PortRef)], at: PortRef) -> Option<PortRef>
+pub fn peer_in(links: &[(PortRef, PortRef)], at: PortRef) -> Option<PortRef>
     ensures { result ≡ peer_in links.now at }
 {
     let [link, rest @ ..] = links else {
@@ -160,7 +160,7 @@ pub(crate) fn peer_in(links: &[(PortRef, PortRef)], at: PortRef) -> Option<PortR
 }
 
 /// Does an access that came to a port of a device.
-pub(crate) fn respond(device: &mut Registers, port: u8, access: Access) -> Answer
+pub fn respond(device: &mut Registers, port: u8, access: Access) -> Answer
     ensures answer { result ≡ (answered device.old port access).answer }
     ensures becomes { device.new ≡ (answered device.old port access).device }
     ensures same { IsSameDevice device.old device.new }
