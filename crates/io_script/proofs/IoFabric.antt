@@ -1,5 +1,5 @@
 -- What the set-up lines say of the nodes and links is what is known behind them.
-use Rattle.std.proofs.Common.{◌≡◌, ◌≢◌, ℕ, ◌+◌, ◌≤◌, ◌==◌, suc, List, [], ◌∷◌, ◌++◌, map, length, length-append, refl, sym, ap, ◌∙◌, subst, append_assoc, append-nil, arith}
+use Rattle.std.proofs.Common.{◌≡◌, ◌≢◌, ℕ, ◌+◌, ◌≤◌, ◌==◌, suc, List, [], ◌∷◌, ◌++◌, length, length-append, refl, sym, ap, ◌∙◌, subst, append_assoc, append-nil, arith}
 use Rattle.std.proofs.lemmas.List.{map-append}
 use Rattle.std.proofs.lemmas.List.Splits.{length-slice_split}
 use Rattle.std.proofs.lemmas.List.Sums.{count_by-le-length, sum_by-append}
@@ -9,7 +9,7 @@ use Rattle.fabric_script.specs.declared.lines.Line.{Line}
 use Rattle.fabric_script.specs.declared.lines.Line.TheVariants.{Endpoint, Switch, Link}
 use Rattle.fabric_script.specs.declared.lines.Numbered.{Numbered}
 use Rattle.fabric_script.specs.declared.ports.PortRef.{PortRef}
-use Rattle.fabric_script.specs.Known.{IsOrderly, Known, known_after, links_after, names_after, nodes_after, nothing_in, of_set_up}
+use Rattle.fabric_script.specs.Known.{Known, known_after, links_after, names_after, nodes_after, nothing_in, of_set_up}
 use Rattle.fabric_script.specs.Reading.{IsFree, new_name_in}
 use Rattle.fabric_script.specs.Scripts.{IsScriptIn, is_skipped, KeptThen, pieces_of, SpellsFrom}
 use Rattle.fabric_script.specs.SetUps.{for_event}

@@ -1,9 +1,8 @@
 -- A text is one line at most, and no reason hits it then.
-use Rattle.std.proofs.Common.{◌≡◌, ◌≢◌, ℕ, ◌+◌, ◌*◌, ◌<◌, ◌≤◌, ◌==◌, Bool, true, false, List, [], ◌∷◌, map, length, get_or, Option, Some, slice_get, refl, sym, ap, ap₂, ◌∙◌, subst, cond, arith}
+use Rattle.std.proofs.Common.{◌≡◌, ℕ, ◌+◌, ◌*◌, ◌==◌, List, [], ◌∷◌, map, length, get_or, Option, Some, slice_get, refl, sym, ap, ap₂, ◌∙◌, subst, cond, arith}
 use Rattle.std.proofs.lemmas.List.{length-map}
 use Rattle.std.specs.List.{join_with_byte}
 use Rattle.std.proofs.lemmas.List.Splits.{join_with_byte-slice_split}
-use Rattle.fabric_script.specs.declared.reasons.Reason.TheVariants.{TooMuchWork, UnknownLine}
 use Rattle.fabric_script.specs.Known.{IsOrderly, Known}
 use Rattle.fabric_script.specs.Lines.{words_of}
 use Rattle.fabric_script.specs.Texts.{AtNode, Bytes, Counted, InDigits, Value, value_text}
@@ -12,7 +11,6 @@ use Rattle.io_script.specs.declared.forms.IoForm.TheVariants as F
 use Rattle.io_script.specs.declared.lines.IoLine.{IoLine}
 use Rattle.io_script.specs.declared.lines.IoLine.TheVariants.{Memory, NRead, NWrite, NWriteR, SWrite, Round}
 use Rattle.io_script.specs.declared.reasons.IoReason.{IoReason}
-use Rattle.io_script.specs.declared.reasons.IoReason.TheVariants.{OfScript, LateMemory}
 use Rattle.io_script.specs.IoForms.{io_fields_of, io_keyword_of}
 use Rattle.io_script.specs.IoLines.{io_form_of, io_line_text, io_line_words, io_values_of}
 use Rattle.io_script.specs.IoReading.{AnIoWord, CostsTooMuch, Earlier, gives_memory, HasIoForm, HitsIo, io_cost_of, IsLate, LeastIoHit, NoIoForm, SpellsIo}

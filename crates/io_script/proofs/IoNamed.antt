@@ -1,5 +1,5 @@
 -- The nodes of the lines of a script have names.
-use Rattle.std.proofs.Common.{◌≡◌, ℕ, ◌+◌, All, List, [], ◌∷◌, length, sym, subst}
+use Rattle.std.proofs.Common.{ℕ, ◌+◌, All, List, [], ◌∷◌, length, sym, subst}
 use Rattle.std.proofs.lemmas.List.Elements.{All-cons, All-nil}
 use Rattle.fabric_script.specs.declared.lines.Numbered.{Numbered}
 use Rattle.fabric_script.specs.Known.{Known}

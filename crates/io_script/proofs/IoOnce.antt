@@ -1,12 +1,11 @@
 -- The bytes spell one script at most or are refused in one way at most, and not both.
-use Rattle.std.proofs.Common.{◌≡◌, ℕ, ◌+◌, ◌⊎◌, inl, inr, Result, Ok, Err, IfOk, IsOk, IsErrOf, List, [], ◌∷◌, length, refl, sym, ap, ap₂, ◌∙◌, subst}
+use Rattle.std.proofs.Common.{◌≡◌, ℕ, ◌+◌, ◌⊎◌, inl, inr, Result, Ok, Err, IfOk, IsOk, IsErrOf, List, [], ◌∷◌, length, refl, sym, ap, ◌∙◌, subst}
 use Rattle.fabric_script.specs.declared.lines.Numbered.{Numbered}
 use Rattle.fabric_script.specs.declared.scripts.Refusal.{Refusal}
 use Rattle.fabric_script.specs.declared.scripts.ScriptEnd.{ScriptEnd}
 use Rattle.fabric_script.specs.declared.scripts.ScriptEnd.TheVariants.{NoMemory, Refused}
 use Rattle.fabric_script.specs.Known.{IsOrderly, Known}
 use Rattle.fabric_script.specs.Scripts.{is_skipped}
-use Rattle.script_input.specs.Inputs.{IsInput}
 use Rattle.script_input.proofs.InputOnce.{accepted_orderly, both_skipped, for_other, input_once, not_input, refused_alone}
 use Rattle.io_script.specs.declared.lines.IoLine.{IoLine}
 use Rattle.io_script.specs.declared.lines.IoScript.{IoScript}

@@ -1,5 +1,5 @@
 -- What the reading of a text finds.
-use Rattle.std.proofs.Common.{◌≡◌, ◌≢◌, ℕ, ◌+◌, ◌<◌, ◌≤◌, nat_lt, suc, Bool, true, false, ◌&&◌, List, [], ◌∷◌, map, length, Option, Some, None, Result, Ok, Err, IfOk, ◌⊎◌, inl, inr, refl, sym, ap, ◌∙◌, subst, cond, arith}
+use Rattle.std.proofs.Common.{◌≡◌, ◌≢◌, ℕ, ◌+◌, ◌≤◌, nat_lt, suc, Bool, true, false, ◌&&◌, List, [], ◌∷◌, map, length, Option, Some, None, Result, Ok, Err, IfOk, ◌⊎◌, inl, inr, refl, sym, ap, ◌∙◌, subst, cond, arith}
 use Rattle.std.proofs.lemmas.Bool.Decides.{nat_tests}
 use Rattle.fabric_script.specs.declared.reasons.Reason.TheVariants.{TooMuchWork, UnknownLine}
 use Rattle.fabric_script.specs.Known.{IsOrderly, Known}
@@ -17,7 +17,7 @@ use Rattle.io_script.specs.IoReading.{AnIoWord, CostsTooMuch, Earlier, gives_mem
 use Rattle.io_script.specs.IoReasons.{io_reason_number}
 use Rattle.io_script.specs.IoTaking.{asks_to_write, data_field, Done, is_streaming, IsFabric, More, read_end, ReadsBehind, standing_hit, TakesAllIo}
 use Rattle.io_script.specs.IoWords.{FitIoAll, HitsIoOne}
-use Rattle.io_script.proofs.IoLineLaws.{io_keyword-injective, one_form}
+use Rattle.io_script.proofs.IoLineLaws.{one_form}
 use Rattle.io_script.proofs.IoOutcome.{io_number_in_range, io_outcome, io_rank, IoOutcome}
 
 -- ---- the reason that hits a line for where it stands
@@ -225,8 +225,8 @@ pub read_as : (known : Known) (names : List (List ℕ)) (switches : List Bool) (
     → words_of text ≡ keyword ∷ words → io_keyword_of form ≡ keyword → form ≡ wanted
     → hit ≡ standing_hit links earlier form → ReadsBehind known wanted words hit read
     → ReadsIo known earlier text read
-read_as known names switches links earlier text keyword words form wanted hit read is begins named same
-    stands behind =
+read_as known names switches links earlier text keyword words form wanted hit read is begins named
+    same stands behind =
     let keyed : words_of text ≡ io_keyword_of form ∷ words
     = begins ∙ ap (λ k. k ∷ words) (sym named) in
     let stood : hit ≡ standing_hit (length known.links) earlier form

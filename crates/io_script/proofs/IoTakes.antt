@@ -1,17 +1,16 @@
 -- What a reader of one word finds is taken, or noted.
-use Rattle.std.proofs.Common.{◌≡◌, ◌≢◌, ℕ, zero, suc, ◌<◌, ◌≤◌, ◌^◌, ◌==◌, ◌%◌, Bool, true, false, not, List, [], ◌∷◌, All, Contains, length, slice_get, slice_index_or, Option, Some, None, Result, Ok, Err, MatchOption, MatchResult, unwrap_or, if◌then◌else◌, inl, inr, refl, sym, ap, ◌∙◌, subst}
-use Rattle.std.specs.Fmt.{decimal}
+use Rattle.std.proofs.Common.{◌≡◌, ◌≢◌, ℕ, zero, suc, ◌<◌, Bool, true, false, List, [], ◌∷◌, All, length, slice_index_or, Option, Result, Ok, Err, MatchResult, unwrap_or, if◌then◌else◌, inl, inr, refl, sym, ap, ◌∙◌, subst}
 use Rattle.fabric_script.specs.declared.known.Node.{Node}
-use Rattle.fabric_script.specs.declared.reasons.Reason.TheVariants.{BadName, UnknownNode, BadNumber, BadHex, WrongKind, BadLength}
-use Rattle.fabric_script.specs.Hits.{DigitsAreBad, HexIsBad, NodeIsBad, NodeIsUnknown, NumberIsBad}
+use Rattle.fabric_script.specs.declared.reasons.Reason.TheVariants.{BadHex, BadLength}
+use Rattle.fabric_script.specs.Hits.{HexIsBad}
 use Rattle.fabric_script.specs.Known.{is_switch, Known}
-use Rattle.fabric_script.specs.Names.{is_name, name_of}
-use Rattle.fabric_script.specs.Texts.{AtNode, Bytes, Counted, digits_text, hex_text, InDigits, Value, value_text}
+use Rattle.fabric_script.specs.Names.{name_of}
+use Rattle.fabric_script.specs.Texts.{Bytes, hex_text, Value, value_text}
 use Rattle.io_packets.specs.Forms.{is_size, is_stream_size}
 use Rattle.io_script.specs.declared.reasons.IoReason.{IoReason}
-use Rattle.io_script.specs.declared.reasons.IoReason.TheVariants.{OfScript, Misaligned}
-use Rattle.io_script.specs.IoForms.{Address, AnEndpoint, Data, Device, IoField, MemorySize, ReadSize, StreamData}
-use Rattle.io_script.specs.IoTaking.{data_field, io_noted_by, io_ok_of, IsFabric, switches_among, TakesIo, with_io_reason}
+use Rattle.io_script.specs.declared.reasons.IoReason.TheVariants.{OfScript}
+use Rattle.io_script.specs.IoForms.{IoField}
+use Rattle.io_script.specs.IoTaking.{data_field, io_noted_by, io_ok_of, switches_among, TakesIo}
 use Rattle.io_script.specs.IoWords.{FitsIo, HitsIoWord, IsMisspelled, IsWrong}
 
 -- a reader that answers what its word says, or a stand-in, takes the word

@@ -51,4 +51,5 @@ module _ (bytes set_up : List ℕ) (names : List (List ℕ)) (lines : List Numbe
         → IsIoRefused bytes line reason
     line_refused line reason hit =
         Behind input
-        (subst (λ n. AreHitFrom (n + 2) (for_event script.0) no_lines texts line reason) counted hit)
+        (subst (λ n. AreHitFrom (n + 2) (for_event script.0) no_lines texts line reason) counted
+        hit)

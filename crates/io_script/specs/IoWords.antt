@@ -33,8 +33,8 @@ is_right known Data (Bytes bytes) = is_size (length bytes)
 is_right known StreamData (Bytes bytes) = is_stream_size (length bytes)
 is_right known _ _ = false
 
--- the reason that hits a word that is not: 11, a switch; 2, another size; 17, an address that begins
--- no double-word; 10, data of another length
+-- the reason that hits a word that is not: 11, a switch; 2, another size; 17, an address that
+-- begins no double-word; 10, data of another length
 abbrev pub wrong_reason : IoField → IoReason
 wrong_reason AnEndpoint = OfScript WrongKind
 wrong_reason Address = Misaligned

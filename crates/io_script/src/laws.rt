@@ -12,7 +12,8 @@ ghost use Rattle.io_script.specs.IoScripts.{IsIoRefused, IsIoScript};
 pub fn one_io_script()
     ensures { (bytes : List ℕ) (names other_names : List (List ℕ))
         (set_up other_set_up : List Numbered) (lines other_lines : List NumberedIo)
-        → IsIoScript bytes names set_up lines → IsIoScript bytes other_names other_set_up other_lines
+        → IsIoScript bytes names set_up lines
+        → IsIoScript bytes other_names other_set_up other_lines
         → (names ≡ other_names) × (set_up ≡ other_set_up) × (lines ≡ other_lines) }
 {}
 

@@ -2,8 +2,8 @@
 //! lines that give endpoints memory, ask for reads and writes, and let rounds pass.
 //!
 //! [`parse_io`] answers the script that bytes spell, or the first line that a reason hits and the
-//! least such reason; [`write_io_line`] goes the other way. The language stands in `specs/`, once for
-//! both directions:
+//! least such reason; [`write_io_line`] goes the other way. The language stands in `specs/`, once
+//! for both directions:
 //!
 //! - `IoForms`: the keyword and the kinds of words of each kind of line;
 //! - `IoLines`: what the words of a line say, and its text;

@@ -22,8 +22,8 @@ use std::alloc::{AllocError, Global};
 /// The script that the bytes spell, of at most 16,777,216 bytes: set-up lines, a line `---`, and
 /// lines that give memory, ask for reads and writes and let rounds pass. An empty line and one that
 /// begins with `#` are skipped and counted. Refused names the first line that any reason hits,
-/// counted from the first of all, and the least reason that hits it; it is 15, at the line after the
-/// last, if no reason hits a set-up line and there is no line `---`.
+/// counted from the first of all, and the least reason that hits it; it is 15, at the line after
+/// the last, if no reason hits a set-up line and there is no line `---`.
 pub fn parse_io(alloc: Global, bytes: &[u8]) -> Result<IoScript, ScriptEnd>
     requires { length bytes.now ≤ 16777216 }
     // What is answered is spelled so, and what is refused is refused so.

@@ -92,8 +92,8 @@ module _ (bytes : List ℕ) where
       (same.0, same.1, cc)
 
   -- what is so of one input is so of the other
-  pub for_other : (Of : List Numbered → Known → List (List ℕ) → Type 0) (lines lines' : List Numbered)
-      (known known' : Known) (texts texts' : List (List ℕ)) → IsInput bytes lines known texts
+  pub for_other : (Of : List Numbered → Known → List (List ℕ) → Type 0)
+      (lines lines' : List Numbered) (known known' : Known) (texts texts' : List (List ℕ)) → IsInput bytes lines known texts
       → IsInput bytes lines' known' texts' → Of lines' known' texts' → Of lines known texts
   for_other Of lines lines' known known' texts texts' one other so =
       let same = input_once lines lines' known known' texts texts' one other in
@@ -125,4 +125,5 @@ module _ (bytes : List ℕ) where
       absurd (not_hit _ _ line reason accepted one)
   refused_alone line reason line' reason' (NotParted accepted none) (Hit other) =
       absurd (not_hit _ _ line' reason' accepted other)
-  refused_alone line reason line' reason' (NotParted one none) (NotParted other none') = (refl, refl)
+  refused_alone line reason line' reason' (NotParted one none) (NotParted other none') =
+      (refl, refl)

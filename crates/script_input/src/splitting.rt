@@ -72,7 +72,8 @@ pub fn next_line(bytes: &[u8]) -> Option<(&[u8], &[u8])>
     }
 }
 
-/// The refusal of an input of so many lines, none of which is `---`: 15, at the line after the last.
+/// The refusal of an input of so many lines, none of which is `---`: 15, at the line after the
+/// last.
 pub fn unparted(lines: u32) -> Refusal
     requires { lines < 4294967295 }
     ensures { result ≡ record { line = lines + 1; reason = 15 } }

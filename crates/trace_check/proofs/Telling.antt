@@ -33,8 +33,8 @@ module _ (bytes : List ℕ) where
   lawful_alone m n one other =
       lawful_once one.known (set_up_all bare one.set_up) one.texts m n
       (accepted_orderly bytes one.set_up one.known one.input.accepted) one.lawful
-      (for_other bytes (λ l k t. IsLawful k (set_up_all bare l) t n) one.set_up other.set_up one.known
-      other.known one.texts other.texts one.input other.input other.lawful)
+      (for_other bytes (λ l k t. IsLawful k (set_up_all bare l) t n) one.set_up other.set_up
+      one.known other.known one.texts other.texts one.input other.input other.lawful)
 
   unlawful_alone : (line reason line' reason' : ℕ) → HasUnlawful bytes line reason
       → HasUnlawful bytes line' reason' → (line ≡ line') × (reason ≡ reason')
@@ -67,7 +67,8 @@ module _ (bytes : List ℕ) where
       → HasUnlawful bytes u.line u.reason
 
   abbrev pub RefusedSo : Result ℕ CheckEnd → Type 0
-  RefusedSo result = (r : Refusal) → IsErrOf result (Refused r) → IsRefusedInput bytes r.line r.reason
+  RefusedSo result = (r : Refusal) → IsErrOf result (Refused r)
+      → IsRefusedInput bytes r.line r.reason
 
   pub only_lawful : (result : Result ℕ CheckEnd) → LawfulSo result → UnlawfulSo result
       → RefusedSo result → (steps : ℕ) → HasLawful bytes steps

@@ -1,6 +1,5 @@
 use Rattle.std.proofs.Common.{inr, refl, sym, subst}
 use Rattle.io_script.specs.declared.forms.IoForm.TheVariants as F
-use Rattle.io_script.specs.declared.lines.IoLine.{IoLine}
 use Rattle.io_script.specs.declared.lines.IoLine.TheVariants.{Memory}
 use Rattle.io_script.specs.IoForms.{io_fields_of}
 use Rattle.io_script.specs.IoLines.{io_values_of}

@@ -8,7 +8,8 @@ returns c = λ known is.
     let last = c.take_load.new.hit in
     let load = rw c.is_streaming.ensures at c.in_ok-load.ensures known in
     let taken = written_words known c.args.form c.write_of.result _ _ c.args.hit last
-    c.take_endpoint-node.result c.take_device-dest.result c.take_address-addr.result c.in_ok-load.load
+    c.take_endpoint-node.result c.take_device-dest.result c.take_address-addr.result
+    c.in_ok-load.load
     c.requires.write c.write_of.ensures.values c.in-Some.ensures
     (More (c.take_endpoint-node.ensures known is)
     (More (c.take_device-dest.ensures known)

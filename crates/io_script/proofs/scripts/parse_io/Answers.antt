@@ -2,7 +2,7 @@ use Rattle.std.proofs.Common.{◌≡◌, ◌+◌, Err, Ok, option_map, sym, ap, 
 use Rattle.fabric_script.specs.declared.scripts.Refusal.{Refusal}
 use Rattle.fabric_script.specs.declared.scripts.ScriptEnd.TheVariants.{Refused}
 use Rattle.fabric_script.specs.SetUps.{for_event}
-use Rattle.script_input.specs.Inputs.{texts_behind, texts_of}
+use Rattle.script_input.specs.Inputs.{texts_of}
 use Rattle.io_script.specs.IoScripts.{IsIoRefused}
 use Rattle.io_script.proofs.IoFabric.{fabric_of}
 use Rattle.io_script.proofs.IoNamed.{script_named}
@@ -66,7 +66,8 @@ returns-in_err-lines-in-Some-clause-only c =
     only_io_script c.args.bytes.now c.from_residual-in_err-lines-in-Some.result (search rules)
     (returns-in_err-lines-in-Some-clause-refused c)
 
-pub returns-in_err-lines-in-Some-clause-refusal_only : goal.returns-in_err-lines-in-Some-clause-refusal_only
+pub returns-in_err-lines-in-Some-clause-refusal_only :
+    goal.returns-in_err-lines-in-Some-clause-refusal_only
 returns-in_err-lines-in-Some-clause-refusal_only c =
     only_io_refusal c.args.bytes.now c.from_residual-in_err-lines-in-Some.result (search rules)
     (returns-in_err-lines-in-Some-clause-refused c)
@@ -99,7 +100,8 @@ returns-in_ok-lines-in-Some-clause-only c =
     (Ok record { script = c.in_ok-script.script; lines = c.in_ok-lines-in-Some.lines })
     (returns-in_ok-lines-in-Some-clause-script c) (λ refusal is. absurd cc)
 
-pub returns-in_ok-lines-in-Some-clause-refusal_only : goal.returns-in_ok-lines-in-Some-clause-refusal_only
+pub returns-in_ok-lines-in-Some-clause-refusal_only :
+    goal.returns-in_ok-lines-in-Some-clause-refusal_only
 returns-in_ok-lines-in-Some-clause-refusal_only c =
     only_io_refusal c.args.bytes.now
     (Ok record { script = c.in_ok-script.script; lines = c.in_ok-lines-in-Some.lines })

@@ -1,5 +1,4 @@
-use Rattle.std.proofs.Common.{◌≡◌, ◌+◌, ◌∷◌, false, true, length, sym, ap, ◌∙◌, subst, arith, rules, tests}
-use Rattle.fabric_script.specs.Known.{Known}
+use Rattle.std.proofs.Common.{◌≡◌, false, true, ap, subst, arith, rules, tests}
 use Rattle.fabric_script.specs.Scripts.{is_skipped}
 use Rattle.script_input.specs.Inputs.{texts_of}
 use Rattle.io_script.proofs.IoThrough.{end_through, IsThrough, keep_on, skip_through}
@@ -32,7 +31,8 @@ loop-text-preserved c = record {
         | else-not-is_skipped w ↦
             let skipped : is_skipped text ≡ true = search (rules, tests) in
             rw (w.lines-is, w.earlier-is)
-            (skip_through known first all lines number c.loop-text.earlier text texts before skipped)
+            (skip_through known first all lines number c.loop-text.earlier text texts before
+            skipped)
       ];
 }
 

@@ -1,9 +1,7 @@
-use Rattle.std.proofs.Common.{◌≡◌, ◌<◌, true, false, not, length, Contains, sym, ap, ◌∙◌, subst, refl, rules, tests, arith, slice_index_or}
+use Rattle.std.proofs.Common.{◌≡◌, true, false, not, Contains, sym, ap, ◌∙◌, subst, refl, rules, arith}
 use Rattle.fabric_script.specs.Hits.{NodeIsBad, NodeIsUnknown}
-use Rattle.fabric_script.specs.Known.{is_switch, Known}
 use Rattle.fabric_script.specs.Names.{is_name}
 use Rattle.fabric_script.specs.Texts.{AtNode}
-use Rattle.io_script.specs.IoTaking.{IsFabric}
 use Rattle.io_script.specs.IoWords.{IsMisspelled, IsWrong}
 use Rattle.io_script.proofs.IoTakes.{named_at, switch_at}
 use Rattle.io_script.proofs.words.read_endpoint.Goals as goal

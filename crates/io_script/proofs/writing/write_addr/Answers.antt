@@ -1,5 +1,3 @@
-use Rattle.std.proofs.Common.{◌++◌, subst, List, ℕ}
-use Rattle.rio_chars.specs.Written.{Writes}
 use Rattle.rio_chars.proofs.WrittenLaws.{Writes-then}
 use Rattle.io_script.proofs.IoTexts.{eight_digits}
 use Rattle.io_script.proofs.writing.write_addr.Goals as goal
