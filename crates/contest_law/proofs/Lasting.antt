@@ -184,7 +184,7 @@ read_is : (device : registers.Device) (o : Option ℕ)
 read_is device None = same_device device
 read_is device (Some value) = same_device device
 
-access_is : (device : registers.Device) (port : ℕ) (access : Access)
+pub access_is : (device : registers.Device) (port : ℕ) (access : Access)
     → IsSameDevice device (answered device port access).device
 access_is device port (Read offset) = read_is device (value_at device offset port)
 access_is device port (Write offset value) =

@@ -14,7 +14,6 @@ use Rattle.contest_machine.specs.Turns.{turned, Both, turn_of, after_turns}
 use Rattle.contest_machine.proofs.Apart.{turned_by}
 use Rattle.contest_law.specs.Locks.{state_of}
 use Rattle.contest_law.proofs.Lasting.{AreSameDevices, step_lasts, step_same}
-use Rattle.contest_numbering.specs.Laws.{LeavesOthers, TurnsLeaveOthers}
 
 -- a device to which no path of a walker leads
 step_outside : (w : Walker) (old : Registers) (node : ℕ) → ¬ IsReached w.view node
@@ -67,11 +66,17 @@ turned_left w old =
       same = λ node. same_device (old node);
     }
 
+-- devices that neither reaches are as before, and each is the same device
+pub record LeavesDevices (both after : Both) : Type 0 where
+  pub outside : (node : ℕ) → ¬ IsReached both.first.view node → ¬ IsReached both.second.view node
+      → after.registers node ≡ both.registers node
+  pub inside : AreSameDevices both.registers after.registers
+
 -- two walkers with the views of these, which left the others' devices
 record AreLeft (both after : Both) : Type 0 where
   first : after.first.view ≡ both.first.view
   second : after.second.view ≡ both.second.view
-  leaves : LeavesOthers both after
+  leaves : LeavesDevices both after
 
 more_left : (before middle after : Registers) → AreSameDevices before middle
     → AreSameDevices middle after → AreSameDevices before after
@@ -114,8 +119,9 @@ turns_left both after [] left = left
 turns_left both after (side ∷ turns) left =
     turns_left both (turn_of after side) turns (turn_left both after side left)
 
-pub turns_leave_others : TurnsLeaveOthers
-turns_leave_others both turns =
+pub devices_left : (both : Both) (turns : List Side)
+    → LeavesDevices both (after_turns both turns)
+devices_left both turns =
     (turns_left both both turns (record {
       first = refl;
       second = refl;

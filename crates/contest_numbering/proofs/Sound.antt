@@ -222,14 +222,14 @@ module _ (device : Device) (value : ℕ) where
     ),
   )
 
-or_else : {X Y : Type 0} (f : X → Option Y) (P : Y → Type 0) (first second : Option X)
+pub or_else : {X Y : Type 0} (f : X → Option Y) (P : Y → Type 0) (first second : Option X)
     → ((y : Y) → option_and_then f first ≡ Some y → P y)
     → ((y : Y) → option_and_then f second ≡ Some y → P y)
     → (y : Y) → option_and_then f (option_or first second) ≡ Some y → P y
 or_else f P None second one two y is = two y is
 or_else f P (Some x) second one two y is = one y is
 
-map_none : {X Y Z : Type 0} (f : X → Option Y) (g : Z → X) (P : Y → Type 0) (o : Option Z)
+pub map_none : {X Y Z : Type 0} (f : X → Option Y) (g : Z → X) (P : Y → Type 0) (o : Option Z)
     → ((z : Z) (y : Y) → f (g z) ≡ Some y → P y)
     → (y : Y) → option_and_then f (option_map g o) ≡ Some y → P y
 map_none f g P None each y is = absurd (cc)

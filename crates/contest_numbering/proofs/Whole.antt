@@ -62,7 +62,7 @@ pub record IsSound (before : Registers) (o : Walker) (state : State) : Type 0 wh
   pub begun : state.walker.begun ≡ true
 
 module _ (before : Registers) (o : Walker) where
-  step_sound : (state : State) → IsSound before o state
+  pub step_sound : (state : State) → IsSound before o state
       → IsSound before o (stepped state.walker state.registers)
   step_sound state sound =
       let w = state.walker in
@@ -106,49 +106,56 @@ ready_from before o state sound = record {
   come = inl (sound.begun, sound.coming);
 }
 
-own_ready : (before : Registers) (w o : Walker) (old : Registers) → IsReady before w o old
-    → IsReady before (turned w old).walker o (turned w old).registers
-own_ready before w o old ready = come ready.come w.begun refl
+module _ (before : Registers) (w o : Walker) (old : Registers) (ready : IsReady before w o old)
   where
-    one : (w.begun ≡ true) → IsComing w old → IsSound before o (state_of w old)
-    one begun coming = record {
-      fair = ready.fair;
-      shown = ready.shown;
-      coming = coming;
-      begun = begun;
-    }
+    -- a walker that has begun
+    pub sound_later : w.begun ≡ true → IsSound before o (state_of w old)
+    sound_later begun = come ready.come
+      where
+        come : HasCome w old → IsSound before o (state_of w old)
+        come (inl (also, coming)) = record {
+          fair = ready.fair;
+          shown = ready.shown;
+          coming = coming;
+          begun = begun;
+        }
+        come (inr (new, untagged)) = absurd (clash begun (ap (λ (v : Walker). v.begun) new))
 
-    started : w ≡ starter w.view w.id false Ask [] → AreOwnUntagged w.view old w.id
-        → IsStarting (record w { begun = true }) old
-    started is untagged =
-        subst (λ (v : Walker). IsStarting (record v { begun = true }) old) (sym is)
-        (record { is = refl; knows = (refl, untagged) })
+    -- and one that begins
+    pub sound_first : w.begun ≡ false → IsSound before o (state_of (record w { begun = true }) old)
+    sound_first not = come ready.come
+      where
+        started : w ≡ starter w.view w.id false Ask [] → AreOwnUntagged w.view old w.id
+            → IsStarting (record w { begun = true }) old
+        started is untagged =
+            subst (λ (v : Walker). IsStarting (record v { begun = true }) old) (sym is)
+            (record { is = refl; knows = (refl, untagged) })
 
-    first : w ≡ starter w.view w.id false Ask [] → AreOwnUntagged w.view old w.id
-        → IsSound before o (state_of (record w { begun = true }) old)
-    first is untagged = record {
-      fair = begun_fair before w o old ready.fair;
-      shown = ready.shown;
-      coming = inr (inl (started is untagged));
-      begun = refl;
-    }
+        come : HasCome w old → IsSound before o (state_of (record w { begun = true }) old)
+        come (inl (begun, coming)) = absurd (clash begun not)
+        come (inr (new, untagged)) = record {
+          fair = begun_fair before w o old ready.fair;
+          shown = ready.shown;
+          coming = inr (inl (started new untagged));
+          begun = refl;
+        }
 
-    come : HasCome w old → (b : Bool) → w.begun ≡ b
-        → IsReady before (if b then stepped w old
-        else locked_on (locked_on (stepped (record w { begun = true }) old))).walker o
-        (if b then stepped w old
-        else locked_on (locked_on (stepped (record w { begun = true }) old))).registers
-    come (inl (begun, coming)) true is =
-        ready_from before o (stepped w old)
-        (step_sound before o (state_of w old) (one begun coming))
-    come (inl (begun, coming)) false is = absurd (clash begun is)
-    come (inr (new, untagged)) true is =
-        absurd (clash is (ap (λ (v : Walker). v.begun) new))
-    come (inr (new, untagged)) false is =
-        ready_from before o (locked_on (locked_on (stepped (record w { begun = true }) old)))
-        (locked_sound before o (locked_on (stepped (record w { begun = true }) old))
-        (locked_sound before o (stepped (record w { begun = true }) old)
-        (step_sound before o (state_of (record w { begun = true }) old) (first new untagged))))
+    own_ready : IsReady before (turned w old).walker o (turned w old).registers
+    own_ready = go w.begun refl
+      where
+        go : (b : Bool) → w.begun ≡ b
+            → IsReady before (if b then stepped w old
+            else locked_on (locked_on (stepped (record w { begun = true }) old))).walker o
+            (if b then stepped w old
+            else locked_on (locked_on (stepped (record w { begun = true }) old))).registers
+        go true is =
+            ready_from before o (stepped w old)
+            (step_sound before o (state_of w old) (sound_later is))
+        go false is =
+            ready_from before o (locked_on (locked_on (stepped (record w { begun = true }) old)))
+            (locked_sound before o (locked_on (stepped (record w { begun = true }) old))
+            (locked_sound before o (stepped (record w { begun = true }) old)
+            (step_sound before o (state_of (record w { begun = true }) old) (sound_first is))))
 
 -- ---- the other's accesses
 
@@ -200,7 +207,7 @@ abbrev pub ReadyFor : Registers → Both → Side → Type 0
 ReadyFor before both A = IsReady before both.first both.second both.registers
 ReadyFor before both B = IsReady before both.second both.first both.registers
 
-turn_ready : (before : Registers) (both : Both) (side turn : Side) → ReadyFor before both side
+pub turn_ready : (before : Registers) (both : Both) (side turn : Side) → ReadyFor before both side
     → ReadyFor before (turn_of both turn) side
 turn_ready before both A A ready = own_ready before both.first both.second both.registers ready
 turn_ready before both A B ready = their_ready before both.first both.second both.registers ready
@@ -247,7 +254,7 @@ new_come w now new next untagged = go w.begun refl
         )
     go false begun = inr (is ∙ ap (λ b. starter w.view w.id b Ask []) begun, untagged)
 
-begun_ready : (both : Both) (side : Side) → AreBegun both
+pub begun_ready : (both : Both) (side : Side) → AreBegun both
     → AreOwnUntagged (walker_of both side).view both.registers (walker_of both side).id
     → ReadyFor both.registers both side
 begun_ready both A begun untagged = record {

@@ -1,9 +1,8 @@
 -- What a host that is done has numbered, whatever the other does.
-use Rattle.std.specs.Prelude.{◌≡◌, ℕ, List}
-use Rattle.maint_registers.specs.Devices.{IsSameDevice}
+use Rattle.std.specs.Prelude.{◌≡◌, ℕ, List, [], ◌∷◌}
 use Rattle.fabric_map.specs.Topology.{IsReached}
 use Rattle.fabric_map.specs.Routes.{Registers}
-use Rattle.fabric_map.specs.Numbered.{entries_of, IsNumbered}
+use Rattle.fabric_map.specs.Numbered.{entries_of, ChangesOnly, IsNumbered}
 use Rattle.host_enumerate.specs.Underway.{AreOwnUntagged}
 use Rattle.link_watch.specs.declared.side.Side.{Side}
 use Rattle.contest_machine.specs.Machine.{Walker}
@@ -35,12 +34,16 @@ OneIsDone = (both : Both) (turns : List Side) (node : ℕ) → AreBegun both
     → ((side : Side) → IsReached (walker_of (after_turns both turns) side).view node)
     → ¬ ((side : Side) → HasNumbered (walker_of (after_turns both turns) side))
 
--- Devices that neither reaches are as before. Of the others only lock, tag, ID, select, routes and
--- default port may differ.
+-- Devices that neither reaches are as before. Of the others only lock, tag, ID, select, default
+-- port, and the entries 0 to 62, of either host's ID and of 255 may differ.
 pub record LeavesOthers (both after : Both) : Type 0 where
   pub outside : (node : ℕ) → ¬ IsReached both.first.view node → ¬ IsReached both.second.view node
       → after.registers node ≡ both.registers node
-  pub inside : (node : ℕ) → IsSameDevice (both.registers node) (after.registers node)
+  pub inside : (node : ℕ) → ChangesOnly (both.first.id ∷ both.second.id ∷ [])
+      (both.registers node) (after.registers node)
 
 abbrev pub TurnsLeaveOthers : Type 0
-TurnsLeaveOthers = (both : Both) (turns : List Side) → LeavesOthers both (after_turns both turns)
+TurnsLeaveOthers = (both : Both) (turns : List Side) → AreBegun both
+    → ((side : Side)
+    → AreOwnUntagged (walker_of both side).view both.registers (walker_of both side).id)
+    → LeavesOthers both (after_turns both turns)

@@ -8,8 +8,9 @@ pub fn who_is_done_keeps_its_map()
     ensures one { OneIsDone }
 {}
 
-/// Whatever turns two hosts make, a device that neither reaches is not changed at all, and no
-/// device changes its kind, its ports or its links.
+/// Whatever turns two hosts make, a device that neither reaches is not changed at all. Of the
+/// others only lock, tag, ID, select, default port, and the entries 0 to 62, of either host's ID
+/// and of 255 change.
 pub fn turns_leave_other_devices()
     ensures { TurnsLeaveOthers }
 {}
