@@ -18,7 +18,7 @@ use Rattle.contest_machine.proofs.Apart.{swap, step_leaves, step_holds, begun_co
 use Rattle.contest_machine.proofs.Bounding.{stepped_within}
 use Rattle.contest_law.specs.Going.{going_one}
 use Rattle.contest_law.proofs.Lasting.{AreSameDevices, step_lasts, step_same}
-use Rattle.contest_law.proofs.Led.{IsLedAt, IsLed, step_led}
+use Rattle.contest_law.proofs.Led.{IsLed, step_led, begun_led}
 use Rattle.contest_law.proofs.Costing.{lock_is, if_failed, turns_left_at, turns_left, if_won, claims_left_at, claims_left}
 use Rattle.contest_law.proofs.Spending.{Spends}
 use Rattle.contest_law.proofs.Paying.{step_spends}
@@ -74,23 +74,11 @@ begun_fair before w o now fair = record {
       bounded = fair.first.within.bounded;
     };
     shown = fair.first.shown;
-    led = (fair.first.led.0, at w.stage fair.first.led.1);
+    led = (fair.first.led.0, begun_led w w.stage fair.first.led.1);
     same = fair.first.same;
   };
   second = fair.second;
 }
-  where
-    at : (stage : Stage) → IsLedAt w stage → IsLedAt (record w { begun = true }) stage
-    at Ask led = led
-    at Claim led = led
-    at Check led = led
-    at Test led = led
-    at Features led = led
-    at Information led = led
-    at Status led = led
-    at Free led = led
-    at Done led = led
-    at Lost led = led
 
 -- ---- what an access leaves the other walker
 

@@ -267,3 +267,17 @@ new_led w new = (
   subst (AreAtSwitches w.view) (sym new.tried) tt,
   subst (IsLedAt w) (sym new.stage) (subst (λ p. IsSome (entered w.view p)) (sym new.path) refl),
 )
+
+-- that a walker has begun changes nothing of it
+pub begun_led : (w : Walker) (stage : Stage) → IsLedAt w stage
+    → IsLedAt (record w { begun = true }) stage
+begun_led w Ask led = led
+begun_led w Claim led = led
+begun_led w Check led = led
+begun_led w Test led = led
+begun_led w Features led = led
+begun_led w Information led = led
+begun_led w Status led = led
+begun_led w Free led = led
+begun_led w Done led = led
+begun_led w Lost led = led

@@ -17,7 +17,7 @@ use Rattle.contest_machine.proofs.Apart.{turned_by}
 use Rattle.contest_law.specs.Locks.{walker_of, answer_of, lock_next, lock_next_on, state_of, locks_at_first, locks_in, locks_in_turn}
 use Rattle.contest_law.specs.Laws.{HasLesser, WaitingIsForALesser}
 use Rattle.contest_law.proofs.Lasting.{AreSameDevices, step_lasts, step_same}
-use Rattle.contest_law.proofs.Led.{IsLedAt, IsLed, step_led, new_led}
+use Rattle.contest_law.proofs.Led.{IsLedAt, IsLed, step_led, new_led, begun_led}
 use Rattle.maint_registers.proofs.SameLaws.{same_device}
 use Rattle.contest_law.proofs.Waiting.{Waits, no_wait_at, step_waits}
 
@@ -148,23 +148,11 @@ module _ (before : Registers) (view : Topology) (id : ℕ) (proper : IsTopology 
   begun_stands : (w : Walker) (old : Registers) → Stands (state_of w old)
       → Stands (state_of (record w { begun = true }) old)
   begun_stands w old stands = record {
-    led = (stands.led.0, at w.stage stands.led.1);
+    led = (stands.led.0, begun_led w w.stage stands.led.1);
     view_is = stands.view_is;
     id_is = stands.id_is;
     same = stands.same;
   }
-    where
-      at : (stage : Stage) → IsLedAt w stage → IsLedAt (record w { begun = true }) stage
-      at Ask led = led
-      at Claim led = led
-      at Check led = led
-      at Test led = led
-      at Features led = led
-      at Information led = led
-      at Status led = led
-      at Free led = led
-      at Done led = led
-      at Lost led = led
 
   turned_waits : (w : Walker) (old : Registers) → (w.begun ≡ false → w.todo ≡ [])
       → Stands (state_of w old) → Waits id w (turned w old).walker (locks_in w old)

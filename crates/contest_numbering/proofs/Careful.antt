@@ -57,7 +57,8 @@ module _ (dest : ℕ) (far : 62 < dest) (not_all : dest ≢ 255) where
   abbrev pub IsLeftAlone : Registers → Registers → Type 0
   IsLeftAlone old new = (node : ℕ) → entry_of (new node) dest ≡ entry_of (old node) dest
 
-  pub record IsKeeping (w : Walker) (old : Registers) (after : Walker) (new : Registers) : Type 0 where
+  pub record IsKeeping (w : Walker) (old : Registers) (after : Walker) (new : Registers)
+      : Type 0 where
     pub careful : IsCareful after new
     pub left : IsLeftAlone old new
 

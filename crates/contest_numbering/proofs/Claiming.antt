@@ -83,9 +83,9 @@ module _ (w : Walker) (old : Registers) (fits : w.id < 0xff) (at : PortRef)
           → IsTakable w.id (way.before node) × (new node ≡ record (way.before node) { lock = w.id })
       won node same held (inl free) =
           let is : way.before node ≡ old at.node = ap (λ n. way.before n) same ∙ was in
+          let lock = locked-free (old at.node).lock w.id free fits in
           let whole : new node ≡ with_lock w.id (old at.node) =
-          ap (λ n. new n) same ∙ (left
-          ∙ ap (λ n. with_lock n (old at.node)) (locked-free (old at.node).lock w.id free fits)) in (
+          ap (λ n. new n) same ∙ (left ∙ ap (λ n. with_lock n (old at.node)) lock) in (
             inl (ap (λ (d : registers.Device). d.lock) is ∙ free),
             whole ∙ ap (with_lock w.id) (sym is),
           )
