@@ -54,18 +54,18 @@ module _ (dest : ℕ) (far : 62 < dest) (not_all : dest ≢ 255) where
       (routes_orderly dest (device ∷ rest) (last_path (device ∷ rest)) 255 all_other)
 
   -- what an access leaves of the entry
-  abbrev pub IsLeftAlone : Registers → Registers → Type 0
-  IsLeftAlone old new = (node : ℕ) → entry_of (new node) dest ≡ entry_of (old node) dest
+  abbrev pub LeavesEntry : Registers → Registers → Type 0
+  LeavesEntry old new = (node : ℕ) → entry_of (new node) dest ≡ entry_of (old node) dest
 
   pub record IsKeeping (w : Walker) (old : Registers) (after : Walker) (new : Registers)
       : Type 0 where
     pub careful : IsCareful after new
-    pub left : IsLeftAlone old new
+    pub left : LeavesEntry old new
 
   -- a write at this port
   pub left_by : (old : Registers) (at : PortRef) (offset value : ℕ)
       → (offset ≡ 0x74 → is_switch (old at.node) ≡ true → dest ≢ (old at.node).select)
-      → IsLeftAlone old (after_access old at (Write offset value))
+      → LeavesEntry old (after_access old at (Write offset value))
   left_by old at offset value apart node = go (cases_eq node at.node)
     where
       go : (node ≡ at.node) ⊎ (node ≢ at.node)

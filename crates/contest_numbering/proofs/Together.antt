@@ -21,7 +21,7 @@ use Rattle.contest_law.specs.Going.{AreBegun}
 use Rattle.contest_law.proofs.Lasting.{step_lasts}
 use Rattle.contest_numbering.specs.Laws.{TurnsLeaveOthers}
 use Rattle.contest_numbering.proofs.Pairing.{HeadOk}
-use Rattle.contest_numbering.proofs.Careful.{IsCareful, IsLeftAlone}
+use Rattle.contest_numbering.proofs.Careful.{IsCareful, LeavesEntry}
 use Rattle.contest_numbering.proofs.Contested.{step_keeping}
 use Rattle.contest_numbering.proofs.Leaving.{devices_left}
 use Rattle.contest_numbering.proofs.Whole.{IsSound, IsReady, ReadyFor, sound_later, sound_first, step_sound, turn_ready, begun_ready}
@@ -51,7 +51,7 @@ module _ (dest : ℕ) (far : 62 < dest) (not_all : dest ≢ 255) (before : Regis
     sound : IsSound before o state
     careful : Careful state.walker state.registers
     theirs : Careful o state.registers
-    left : IsLeftAlone dest far not_all before state.registers
+    left : LeavesEntry dest far not_all before state.registers
     own : dest ≢ state.walker.id
 
   step_aside : (o : Walker) (state : State) → IsAside o state
@@ -81,7 +81,7 @@ module _ (dest : ℕ) (far : 62 < dest) (not_all : dest ≢ 255) (before : Regis
       go false = aside
 
   turned_aside : (w o : Walker) (old : Registers) → IsReady before w o old → Careful w old
-      → Careful o old → IsLeftAlone dest far not_all before old → dest ≢ w.id
+      → Careful o old → LeavesEntry dest far not_all before old → dest ≢ w.id
       → IsAside o (turned w old)
   turned_aside w o old ready careful theirs left own = go w.begun refl
     where
@@ -112,7 +112,7 @@ module _ (dest : ℕ) (far : 62 < dest) (not_all : dest ≢ 255) (before : Regis
     ready : (side : Side) → ReadyFor before both side
     first : Careful both.first both.registers
     second : Careful both.second both.registers
-    left : IsLeftAlone dest far not_all before both.registers
+    left : LeavesEntry dest far not_all before both.registers
     own_first : dest ≢ both.first.id
     own_second : dest ≢ both.second.id
 
