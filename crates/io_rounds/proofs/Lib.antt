@@ -1,0 +1,10 @@
+pub mod CalmLaws
+pub mod EventLaws
+pub mod StateLaws
+pub mod ReplyLaws
+pub mod TakeLaws
+pub mod BeginLaws
+pub mod RoundLaws
+pub mod OnlyLaws
+pub mod DriveLaws
+pub mod LineLaws
