@@ -8,3 +8,4 @@ pub mod RoundLaws
 pub mod OnlyLaws
 pub mod DriveLaws
 pub mod LineLaws
+pub mod IoFitting

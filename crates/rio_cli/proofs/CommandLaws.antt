@@ -5,12 +5,14 @@ use Rattle.std.proofs.lemmas.Fmt.{decimal_injective}
 use Rattle.fabric_script.specs.Known.{of_script, of_set_up}
 use Rattle.fabric_script.proofs.ScriptLaws.{not_refused, refused_once}
 use Rattle.rio_cli.specs.declared.command.Command.{Command}
-use Rattle.rio_cli.specs.declared.command.Command.TheVariants.{Replay, Decode, Check, Enumerate, Contest}
+use Rattle.rio_cli.specs.declared.command.Command.TheVariants.{Replay, Decode, Check, Io, Enumerate, Contest}
 use Rattle.rio_cli.specs.Words.{Asks, AskNoHost, AsksSoak, IsNamed, words_for}
 use Rattle.rio_cli.proofs.WordLaws.{no_bad_word, bad_word_once}
 use Rattle.rio_cli.specs.declared.status.Status.TheVariants.{Script, Unlawful}
 use Rattle.rio_cli.specs.Outputs.{IsAccepted, IsRefused, IsUnlawful, Completes, Exposes, Meets, Declines}
 use Rattle.rio_cli.specs.Checking.{HasTrace}
+use Rattle.io_script.proofs.IoOnce.{io_refused_once}
+use Rattle.rio_cli.proofs.AccessLaws.{accesses_not_refused}
 use Rattle.rio_cli.proofs.ContestLaws.{hosts_not_refused, hosts_refused_once}
 use Rattle.rio_cli.proofs.HostLaws.{host_not_refused, host_refused_once}
 use Rattle.script_input.specs.Inputs.{IsRefusedInput, Hit, NotParted, set_up_bytes}
@@ -32,6 +34,8 @@ not_refused_too Replay bytes line reason is refused =
     not_refused of_script bytes is.0 is.1 line reason is.2 refused
 not_refused_too Decode bytes line reason is refused = no_bad_word bytes is.0 line is.1 refused.0
 not_refused_too Check bytes line reason is refused = trace_not_refused bytes line reason is refused
+not_refused_too Io bytes line reason is refused =
+    accesses_not_refused bytes line reason is refused
 not_refused_too (Enumerate node) bytes line reason is refused =
     host_not_refused node bytes line reason is refused
 not_refused_too (Contest first second seed) bytes line reason is refused =
@@ -61,6 +65,8 @@ refused_once_too Decode bytes line reason line2 reason2 h k =
     (bad_word_once bytes line line2 h.0 k.0, h.1 ∙ sym k.1)
 refused_once_too Check bytes line reason line2 reason2 h k =
     trace_refused_once bytes line reason line2 reason2 h k
+refused_once_too Io bytes line reason line2 reason2 h k =
+    io_refused_once bytes line reason line2 reason2 h k
 refused_once_too (Enumerate node) bytes line reason line2 reason2 h k =
     host_refused_once node bytes line reason line2 reason2 h k
 refused_once_too (Contest first second seed) bytes line reason line2 reason2 h k =
@@ -74,6 +80,7 @@ completed Decode bytes w w' h = (h.decoded.chars, h.decoded.spells)
 completed Check bytes w w' h =
     let is = h.lawful in
     record { set_up = is.set_up; known = is.known; texts = is.texts; input = is.input }
+completed Io bytes w w' h = h.is
 completed (Enumerate node) bytes w w' h = h.is
 completed (Contest first second seed) bytes w w' h = h.is
 
@@ -83,6 +90,7 @@ exposed : (command : Command) (bytes : List ℕ) (w w' : Option (List ℕ))
 exposed Replay bytes w w' h = (h.names, h.script, h.spells)
 exposed Decode bytes w w' h = absurd h
 exposed Check bytes w w' h = absurd h
+exposed Io bytes w w' h = absurd h
 exposed (Enumerate node) bytes w w' h = absurd h
 exposed (Contest first second seed) bytes w w' h = absurd h
 
@@ -92,6 +100,7 @@ met : (command : Command) (bytes : List ℕ) (w w' : Option (List ℕ))
 met Replay bytes w w' h = absurd h
 met Decode bytes w w' h = absurd h
 met Check bytes w w' h = absurd h
+met Io bytes w w' h = absurd h
 met (Enumerate node) bytes w w' h = h.is
 met (Contest first second seed) bytes w w' h = absurd h
 
@@ -102,6 +111,7 @@ unlawful_too Replay bytes line reason h = absurd h
 unlawful_too Decode bytes line reason h = absurd h
 unlawful_too Check bytes line reason h =
     record { set_up = h.set_up; known = h.known; texts = h.texts; input = h.input }
+unlawful_too Io bytes line reason h = absurd h
 unlawful_too (Enumerate node) bytes line reason h = absurd h
 unlawful_too (Contest first second seed) bytes line reason h = absurd h
 
@@ -143,8 +153,9 @@ command_by letter first second seed =
     if letter == 112 then Replay
     else (if letter == 99 then Decode
     else (if letter == 101 then Check
+    else (if letter == 0 then Io
     else (if letter == 117 then Enumerate first
-    else Contest first second seed)))
+    else Contest first second seed))))
 
 -- the command of words and of the number that the fourth of them spells
 abbrev command_in : List (List ℕ) → ℕ → Command
@@ -162,6 +173,7 @@ command_again : (command : Command) → command_in (words_for command) (seed_in 
 command_again Replay = refl
 command_again Decode = refl
 command_again Check = refl
+command_again Io = refl
 command_again (Enumerate node) = refl
 command_again (Contest first second seed) = refl
 
@@ -169,6 +181,7 @@ numeral_again : (command : Command) → numeral (words_for command) ≡ decimal 
 numeral_again Replay = refl
 numeral_again Decode = refl
 numeral_again Check = refl
+numeral_again Io = refl
 numeral_again (Enumerate node) = refl
 numeral_again (Contest first second seed) = refl
 
@@ -176,6 +189,7 @@ seed_low : (command : Command) → IsNamed command → seed_in command < 2 ^ 32
 seed_low Replay is = omega arith
 seed_low Decode is = omega arith
 seed_low Check is = omega arith
+seed_low Io is = omega arith
 seed_low (Enumerate node) is = omega arith
 seed_low (Contest first second seed) is = is.2
 
@@ -190,12 +204,14 @@ same_command a b words h k =
     ∙ ap (command_in (words_for b)) seeds ∙ command_again b
 
 pub unknown : (words : List (List ℕ)) → ¬ Asks Replay words → ¬ Asks Decode words
-    → ¬ Asks Check words → AskNoHost words → (command : Command) → ¬ Asks command words
-unknown words replay decode check none Replay is = replay is
-unknown words replay decode check none Decode is = decode is
-unknown words replay decode check none Check is = check is
-unknown words replay decode check none (Enumerate node) is = none.0 node is
-unknown words replay decode check none (Contest first second seed) is = none.1 first second seed is
+    → ¬ Asks Check words → ¬ Asks Io words → AskNoHost words → (command : Command)
+    → ¬ Asks command words
+unknown words replay decode check io none Replay is = replay is
+unknown words replay decode check io none Decode is = decode is
+unknown words replay decode check io none Check is = check is
+unknown words replay decode check io none Io is = io is
+unknown words replay decode check io none (Enumerate node) is = none.0 node is
+unknown words replay decode check io none (Contest first second seed) is = none.1 first second seed is
 
 -- the words of a soak begin with their own letter
 pub reads_or_soaks : (command : Command) (seed : ℕ) (words : List (List ℕ)) → Asks command words
@@ -206,5 +222,6 @@ reads_or_soaks command seed words h k = apart command (ap letter (sym h.0 ∙ k.
     apart Replay e = omega arith
     apart Decode e = omega arith
     apart Check e = omega arith
+    apart Io e = omega arith
     apart (Enumerate node) e = omega arith
     apart (Contest first second n) e = omega arith

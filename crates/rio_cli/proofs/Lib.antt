@@ -1,6 +1,7 @@
 pub mod AnswerLaws
 pub mod HostLaws
 pub mod ContestLaws
+pub mod AccessLaws
 pub mod AskLaws
 pub mod NumberingLaws
 pub mod CommandLaws

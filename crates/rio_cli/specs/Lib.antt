@@ -2,6 +2,7 @@ pub mod Words
 pub mod Inputs
 pub mod Numbering
 pub mod Contesting
+pub mod Accessing
 pub mod Outputs
 pub mod Statuses
 pub mod Soaking

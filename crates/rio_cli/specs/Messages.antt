@@ -66,7 +66,7 @@ pub record Explains (command : Command) (bytes : List ℕ) (line reason : ℕ) (
 abbrev pub status_text : Status → List ℕ
 status_text Done = []
 status_text Words = codes
-    "rio: usage: rio replay < SCRIPT, rio decode < CHARACTERS, rio check < TRACE, rio enumerate NODE < SCRIPT, rio contest NODE NODE NUMBER < SCRIPT, or rio soak NUMBER\n"
+    "rio: usage: rio replay < SCRIPT, rio decode < CHARACTERS, rio check < TRACE, rio enumerate NODE < SCRIPT, rio contest NODE NODE NUMBER < SCRIPT, rio io < ACCESSES, or rio soak NUMBER\n"
 status_text Script = codes "rio: the input is refused\n"
 status_text Unlawful = codes "rio: the trace is not lawful\n"
 status_text ReadFault = codes "rio: standard input cannot be read\n"

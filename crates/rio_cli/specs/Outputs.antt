@@ -13,13 +13,15 @@ use Rattle.script_input.specs.Inputs.{IsRefusedInput}
 use Rattle.trace_check.specs.Outcomes.{HasUnlawful}
 use Rattle.rio_cli.specs.Checking.{HasTrace, Checks, ChecksFront}
 use Rattle.rio_cli.specs.Numbering.{HasHost, IsRefusedFor, Numbers, FindsLock, NumbersFront}
+use Rattle.io_script.specs.IoScripts.{IsIoRefused}
+use Rattle.rio_cli.specs.Accessing.{HasAccesses, CarriesOut, CarriesFront}
 use Rattle.rio_cli.specs.Contesting.{HasHosts, IsRefusedForTwo, Contests, ContestsFront}
 use Rattle.rio_cli.specs.Decoding.{SpellsChars, BadWordAt, Decodes, DecodesFront}
 use Rattle.rio_cli.specs.declared.status.Status.{Status}
 use Rattle.rio_cli.specs.declared.status.Status.TheVariants.{Script, Unlawful}
 use Rattle.rio_cli.specs.Inputs.{most_input}
 use Rattle.rio_cli.specs.declared.command.Command.{Command}
-use Rattle.rio_cli.specs.declared.command.Command.TheVariants.{Replay, Decode, Check, Enumerate, Contest}
+use Rattle.rio_cli.specs.declared.command.Command.TheVariants.{Replay, Decode, Check, Io, Enumerate, Contest}
 
 -- the line that refuses an input, or says that it is not lawful
 abbrev pub verdict_word : Status → List ℕ
@@ -75,6 +77,7 @@ abbrev pub IsAccepted : Command → List ℕ → Type 0
 IsAccepted Replay = SpellsScript
 IsAccepted Decode = λ bytes. (chars : List Char) × SpellsChars bytes chars
 IsAccepted Check = HasTrace
+IsAccepted Io = HasAccesses
 IsAccepted (Enumerate node) = HasHost node
 IsAccepted (Contest first second seed) = HasHosts first second
 
@@ -83,6 +86,7 @@ abbrev pub IsRefused : Command → List ℕ → ℕ → ℕ → Type 0
 IsRefused Replay = RefusedAt
 IsRefused Decode = λ bytes line reason. BadWordAt bytes line × (reason ≡ 1)
 IsRefused Check = IsRefusedInput
+IsRefused Io = IsIoRefused
 IsRefused (Enumerate node) = IsRefusedFor node
 IsRefused (Contest first second seed) = IsRefusedForTwo first second
 
@@ -102,6 +106,7 @@ abbrev pub Completes : Command → List ℕ → Option (List ℕ) → Option (Li
 Completes Replay = Traces
 Completes Decode = Decodes
 Completes Check = Checks
+Completes Io = CarriesOut
 Completes (Enumerate node) = Numbers node
 Completes (Contest first second seed) = Contests first second seed
 
@@ -110,6 +115,7 @@ abbrev pub CompletesFront : Command → List ℕ → Option (List ℕ) → Optio
 CompletesFront Replay = TracesFront
 CompletesFront Decode = DecodesFront
 CompletesFront Check = ChecksFront
+CompletesFront Io = CarriesFront
 CompletesFront (Enumerate node) = NumbersFront node
 CompletesFront (Contest first second seed) = ContestsFront first second seed
 
@@ -128,6 +134,7 @@ Meets _ = λ bytes written written_after. ⊥
 -- memory ran out while the input was carried out, and so much was written
 abbrev pub RunsOut : Command → List ℕ → Option (List ℕ) → Option (List ℕ) → Type 0
 RunsOut Replay = TracesFront
+RunsOut Io = CarriesFront
 RunsOut (Enumerate node) = NumbersFront node
 RunsOut _ = λ bytes written written_after. Keeps written written_after
 

@@ -6,7 +6,7 @@ use Rattle.fabric_script.specs.declared.advice.Advice.TheVariants.{Nothing, Carr
 use Rattle.fabric_script.specs.declared.advice.WordKind.{WordKind}
 use Rattle.fabric_script.specs.declared.advice.WordKind.TheVariants as Kinds
 use Rattle.rio_cli.specs.declared.command.Command.{Command}
-use Rattle.rio_cli.specs.declared.command.Command.TheVariants.{Replay, Decode, Check, Enumerate, Contest}
+use Rattle.rio_cli.specs.declared.command.Command.TheVariants.{Replay, Decode, Check, Io, Enumerate, Contest}
 
 -- why a line of a script is refused, by the number of the reason, from 0 on; there is no reason 0
 abbrev pub script_reasons : List (List ℕ)
@@ -53,11 +53,21 @@ abbrev pub contest_reason : ℕ → List ℕ
 contest_reason reason =
     if reason == 16 then codes "both hosts are the same node" else script_reason reason
 
+-- why a line of reads and writes of memory is refused
+abbrev pub io_reason : ℕ → List ℕ
+io_reason reason =
+    if reason == 10 then codes "the bytes have a length that is not allowed"
+    else (if reason == 15 then codes "no line --- follows the set-up lines"
+    else (if reason == 17 then codes "the address is no multiple of 8"
+    else (if reason == 18 then codes "a memory is given before all that is asked of it"
+    else script_reason reason)))
+
 -- why a line of an input is refused or not lawful: a row for each command
 abbrev pub reason_text : Command → ℕ → List ℕ
 reason_text Replay reason = script_reason reason
 reason_text Decode reason = codes "a word of this line is not a character"
 reason_text Check reason = trace_reason reason
+reason_text Io reason = io_reason reason
 reason_text (Enumerate node) reason = script_reason reason
 reason_text (Contest first second seed) reason = contest_reason reason
 

@@ -5,13 +5,14 @@ use Rattle.fabric_script.specs.Names.{is_name}
 use Rattle.rio_cli.specs.declared.command.Asked.{Asked}
 use Rattle.rio_cli.specs.declared.command.Asked.TheVariants.{Input, Soak}
 use Rattle.rio_cli.specs.declared.command.Command.{Command}
-use Rattle.rio_cli.specs.declared.command.Command.TheVariants.{Replay, Decode, Check, Enumerate, Contest}
+use Rattle.rio_cli.specs.declared.command.Command.TheVariants.{Replay, Decode, Check, Io, Enumerate, Contest}
 
 -- the words that ask for a command: a row for each
 abbrev pub words_for : Command → List (List ℕ)
 words_for Replay = codes "replay" ∷ []
 words_for Decode = codes "decode" ∷ []
 words_for Check = codes "check" ∷ []
+words_for Io = codes "io" ∷ []
 words_for (Enumerate node) = codes "enumerate" ∷ node ∷ []
 words_for (Contest first second seed) =
     codes "contest" ∷ first ∷ second ∷ decimal seed ∷ []

@@ -16,6 +16,8 @@ pub enum Command {
     Decode,
     /// A trace is checked.
     Check,
+    /// Reads and writes of memory are carried out.
+    Io,
     /// The node of this name numbers the fabric of a script.
     Enumerate(Name),
     /// The nodes of these names contest the fabric of a script, by the turns that the number stands
@@ -60,6 +62,8 @@ fn command_of(words: &[String]) -> Option<Command>
         Some(Command::Decode)
     } else if is_one(words, "check") {
         Some(Command::Check)
+    } else if is_one(words, "io") {
+        Some(Command::Io)
     } else {
         command_at(words)
     }

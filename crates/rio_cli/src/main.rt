@@ -14,6 +14,7 @@
 //! If the system does not give the arguments, the status is 1 and nothing is written.
 #![tactic(auto)]
 
+mod accessing;
 mod answer;
 mod command;
 mod contesting;

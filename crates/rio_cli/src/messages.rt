@@ -27,7 +27,7 @@ fn status_text(status: Status) -> &'static [u8]
     match status {
         Status::Done => b"",
         Status::Words => {
-            b"rio: usage: rio replay < SCRIPT, rio decode < CHARACTERS, rio check < TRACE, rio enumerate NODE < SCRIPT, rio contest NODE NODE NUMBER < SCRIPT, or rio soak NUMBER\n"
+            b"rio: usage: rio replay < SCRIPT, rio decode < CHARACTERS, rio check < TRACE, rio enumerate NODE < SCRIPT, rio contest NODE NODE NUMBER < SCRIPT, rio io < ACCESSES, or rio soak NUMBER\n"
         }
         Status::Script => b"rio: the input is refused\n",
         Status::Unlawful => b"rio: the trace is not lawful\n",

@@ -72,6 +72,7 @@ fn expected_at(
     match command {
         Command::Replay => Ok(None),
         Command::Decode => Ok(None),
+        Command::Io => Ok(None),
         Command::Enumerate(_) => Ok(None),
         Command::Contest { .. } => Ok(None),
         Command::Check => expected_in_trace(alloc, bytes, line, reason),
@@ -109,7 +110,7 @@ fn push_why(
         Command::Replay | Command::Check | Command::Enumerate(_) | Command::Contest { .. } => {
             advise(alloc, text, reason)
         }
-        Command::Decode => Advice::Nothing,
+        Command::Decode | Command::Io => Advice::Nothing,
     };
     push_advice(message, advice, reason_text(command, reason))
 }

@@ -19,6 +19,7 @@ pub(crate) fn reason_text(command: &Command, reason: u8) -> &'static [u8]
         Command::Contest { .. } => contest_reason(reason),
         Command::Decode => b"a word of this line is not a character",
         Command::Check => trace_reason(reason),
+        Command::Io => io_reason(reason),
     }
 }
 
@@ -35,6 +36,19 @@ fn trace_reason(reason: u8) -> &'static [u8]
             b"this packet did not come with the ackID whose turn it is, after the one held before",
         25 => b"more packets are freed than were acknowledged",
         26 => b"a packet is sent that neither waits at the port nor is lent",
+        _ => script_reason(reason),
+    }
+}
+
+/// Why a line of reads and writes of memory is refused.
+fn io_reason(reason: u8) -> &'static [u8]
+    ensures { result.now ≡ reason_text_of Command.Io reason }
+{
+    match reason {
+        10 => b"the bytes have a length that is not allowed",
+        15 => b"no line --- follows the set-up lines",
+        17 => b"the address is no multiple of 8",
+        18 => b"a memory is given before all that is asked of it",
         _ => script_reason(reason),
     }
 }

@@ -10,6 +10,7 @@ ghost use Rattle.rio_cli.specs.Checking.{lawful_text};
 ghost use Rattle.rio_cli.specs.Outputs.{verdict_text};
 ghost use Rattle.rio_cli.specs.Answers.{Ended, Refuses, Answers, SaysOfBytes, SaysOfInput, TellsRefusal, RefusesBytes, RefusesInput};
 
+use crate::accessing::io_bytes;
 use crate::answer::Answer;
 use crate::command::{Asked, Command, asked_by};
 use crate::contesting::contest_bytes;
@@ -118,6 +119,7 @@ fn run_bytes<K: Sink>(alloc: Global, command: Command, bytes: &[u8], sink: &mut 
         Command::Replay => replay_bytes(alloc, bytes, sink),
         Command::Decode => decode_bytes(alloc, bytes, sink),
         Command::Check => check_bytes(alloc, bytes, sink),
+        Command::Io => io_bytes(alloc, bytes, sink),
         Command::Enumerate(node) => enumerate_bytes(alloc, node, bytes, sink),
         Command::Contest {
             first,
