@@ -59,7 +59,7 @@ io_reason reason =
     if reason == 10 then codes "the bytes have a length that is not allowed"
     else (if reason == 15 then codes "no line --- follows the set-up lines"
     else (if reason == 17 then codes "the address is no multiple of 8"
-    else (if reason == 18 then codes "a memory is given before all that is asked of it"
+    else (if reason == 18 then codes "a memory may only be given before all other lines"
     else script_reason reason)))
 
 -- why a line of an input is refused or not lawful: a row for each command

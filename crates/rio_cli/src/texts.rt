@@ -48,7 +48,7 @@ fn io_reason(reason: u8) -> &'static [u8]
         10 => b"the bytes have a length that is not allowed",
         15 => b"no line --- follows the set-up lines",
         17 => b"the address is no multiple of 8",
-        18 => b"a memory is given before all that is asked of it",
+        18 => b"a memory may only be given before all other lines",
         _ => script_reason(reason),
     }
 }
