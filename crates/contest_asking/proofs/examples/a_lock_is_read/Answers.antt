@@ -1,0 +1,19 @@
+use Rattle.std.proofs.Common.{refl}
+use Rattle.contest_asking.proofs.Single.{single_opened}
+use Rattle.contest_asking.specs.Examples.{waiting, waiting_host}
+use Rattle.contest_asking.proofs.examples.a_lock_is_read.Goals as goal
+
+pub returns-clause-wanted : goal.returns-clause-wanted
+returns-clause-wanted c = record {
+  wanted = refl;
+  keeps_on = λ same. cc;
+  some = λ same. cc;
+  leads = refl;
+  opened = single_opened waiting_host.view waiting.registers waiting_host.id 0;
+}
+
+pub returns-clause-carried : goal.returns-clause-carried
+returns-clause-carried c = record { ends = refl; not_host = λ same. cc; returns = refl }
+
+pub returns-clause-not_itself : goal.returns-clause-not_itself
+returns-clause-not_itself c = λ carried. carried.not_host refl
