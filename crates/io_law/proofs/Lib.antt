@@ -1,0 +1,4 @@
+pub mod Texts
+pub mod Memories
+pub mod Keeping
+pub mod ReadLaws
