@@ -13,3 +13,4 @@ pub mod CheckedLaws
 pub mod TableLaws
 pub mod LinearLaws
 pub mod LowerLaws
+pub mod PlaceLaws

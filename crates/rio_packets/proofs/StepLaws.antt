@@ -1,11 +1,17 @@
 -- The steps in which a link form is made.
 use Rattle.std.proofs.Common.{◌≡◌, ℕ, ◌+◌, ◌%◌, ◌/◌, ◌<◌, List, [], ◌∷◌, ◌++◌, length, refl, arith, length-append}
 use Rattle.rio_packets.specs.Register.{running}
+use Rattle.rio_packets.specs.Hops.{closed}
 use Rattle.rio_packets.specs.Making.{with_crc, with_more}
 
 pub with_crc-is : (m : List ℕ) → with_crc m ≡ m ++ running m / 256 ∷ running m % 256 ∷ []
 unfolding with_crc
 with_crc-is m = refl
+
+-- in the other word for it
+pub closed-is : (m : List ℕ) → closed m ≡ m ++ running m / 256 ∷ running m % 256 ∷ []
+unfolding closed
+closed-is m = refl
 
 pub length-with_crc : (m : List ℕ) → length (with_crc m) ≡ length m + 2
 unfolding with_crc

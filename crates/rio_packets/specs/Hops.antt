@@ -1,12 +1,23 @@
--- The packet that a maintenance packet becomes where its hop count is lowered by one
+-- The packet that a maintenance packet becomes if its hop count is lowered by one
 -- (RapidIO Interconnect Specification 1.3, Part 3, maintenance packets; Part 6, packet CRC).
-use Rattle.std.specs.Prelude.{ℕ, ◌-◌, ◌/◌, ◌%◌, List, [], ◌∷◌, ◌++◌, length, take, slice_index, slice_set}
+use Rattle.std.specs.Prelude.{ℕ, ◌-◌, ◌/◌, ◌%◌, ◌==◌, Bool, true, false, List, [], ◌∷◌, ◌++◌, take, slice_index, slice_set}
+use Rattle.rio_packets.specs.Fields.{tt_of, hop_place, crc_place}
 use Rattle.rio_packets.specs.Register.{running}
 
 -- a message followed by the two bytes of its CRC
 unfoldable pub closed : List ℕ → List ℕ
 closed message = message ++ running message / 256 ∷ running message % 256 ∷ []
 
--- byte 6 is one less, and the last two bytes are the CRC of all before them
+-- a message, its CRC, and the pad of a maintenance packet with two-byte IDs
+abbrev pub ended : Bool → List ℕ → List ℕ
+ended false message = closed message
+ended true message = closed message ++ 0 ∷ 0 ∷ []
+
+-- whether the IDs have two bytes each
+abbrev pub is_large : List ℕ → Bool
+is_large bytes = tt_of bytes == 1
+
+-- the hop count is one less, and the CRC is made of all before it
 abbrev pub lowered : List ℕ → List ℕ
-lowered bytes = closed (take (length bytes - 2) (slice_set bytes 6 (slice_index bytes 6 - 1)))
+lowered bytes = ended (is_large bytes) (take (crc_place bytes)
+    (slice_set bytes (hop_place bytes) (slice_index bytes (hop_place bytes) - 1)))

@@ -1,14 +1,13 @@
 //! Laws of link forms, for whoever states something of packets.
-ghost use Rattle.std.specs.Prelude.{◌≡◌, ◌<◌, ◌++◌, ◌↔◌, ℕ, List, Some, None, length, slice_index, replicate, false};
+ghost use Rattle.std.specs.Prelude.{◌≡◌, ◌<◌, ◌++◌, ◌↔◌, ℕ, Bool, List, Some, None, length, slice_index, replicate, false};
 ghost use Rattle.crc_division.specs.Bits.{bits};
 ghost use Rattle.crc_division.specs.Division.{remainder};
 ghost use Rattle.rio_packets.specs.Crc16.{crc16_divisor};
 ghost use Rattle.rio_packets.specs.Making.{most_rest};
 ghost use Rattle.rio_packets.specs.LinkForm.{IsBadLength, IsBody, LinkForm, Passes};
 ghost use Rattle.rio_packets.specs.Carries.{Carries, carried};
-ghost use Rattle.rio_packets.specs.Fields.{Lowered, body_of};
+ghost use Rattle.rio_packets.specs.Fields.{HasFields, Lowered, body_of};
 
-use crate::making::MAX_REST;
 use crate::tables::CRC16_TABLE;
 
 /// Each body has exactly one link form.
@@ -30,6 +29,13 @@ pub fn carried_is_exact()
         → (carried bytes ≡ None) ↔ ((ack : ℕ) (packet : List ℕ) → Carries bytes ack packet → ⊥) }
 {}
 
+/// The fields of a packet that was built are those of its header.
+pub fn built_fields_are_read_back()
+    ensures { (prio ftype : ℕ) (large : Bool) (dest source : ℕ) (rest packet : List ℕ)
+        → prio < 4 → ftype < 16 → LinkForm (body_of prio ftype large dest source rest) packet
+        → HasFields prio ftype large dest source packet }
+{}
+
 /// A packet whose hop count is lowered is one packet.
 pub fn lowered_is_one()
     ensures { (old new other : List ℕ) → Lowered old new → Lowered old other → new ≡ other }
@@ -42,13 +48,14 @@ pub fn crc16_table_has_remainders()
         ≡ remainder (bits 8 byte ++ replicate 16 false) crc16_divisor }
 {}
 
-/// [`MAX_REST`](crate::MAX_REST) bytes may follow the source ID of a packet, and of more none:
+/// [`max_rest`](crate::max_rest) bytes may follow the source ID of a packet, and of more none:
 /// whatever the header, a rest of that length makes no body of bad length, and each longer one
 /// does.
 pub fn longest_rest()
-    ensures is { MAX_REST ≡ most_rest }
-    ensures fits { (prio ftype dest source : ℕ) (rest : List ℕ) → length rest ≡ most_rest
-        → IsBadLength (body_of prio ftype dest source rest) → ⊥ }
-    ensures beyond { (prio ftype dest source : ℕ) (rest : List ℕ) → most_rest < length rest
-        → IsBadLength (body_of prio ftype dest source rest) }
+    ensures fits { (prio ftype dest source : ℕ) (large : Bool) (rest : List ℕ)
+        → length rest ≡ most_rest large
+        → IsBadLength (body_of prio ftype large dest source rest) → ⊥ }
+    ensures beyond { (prio ftype dest source : ℕ) (large : Bool) (rest : List ℕ)
+        → most_rest large < length rest
+        → IsBadLength (body_of prio ftype large dest source rest) }
 {}

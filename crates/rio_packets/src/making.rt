@@ -1,8 +1,8 @@
 //! Packets made from their fields.
-ghost use Rattle.std.specs.Prelude.{◌≡◌, ◌+◌, ◌%◌, ◌<◌, ◌≤◌, ◌↔◌, ◌++◌, [], length, IsErr, IfOk};
+ghost use Rattle.std.specs.Prelude.{◌≡◌, ◌+◌, ◌%◌, ◌<◌, ◌≤◌, ◌↔◌, ◌++◌, [], false, length, IsErr, IfOk, if◌then◌else◌};
 ghost use Rattle.arrayvec.specs.ArrayVec.{array_vec_len};
 ghost use Rattle.rio_packets.specs.LinkForm.{LinkForm, IsBadLength, padded};
-ghost use Rattle.rio_packets.specs.Fields.{body_of};
+ghost use Rattle.rio_packets.specs.Fields.{body_of, types_of};
 ghost use Rattle.rio_packets.specs.Making.{most_rest, with_crc, with_more};
 ghost use Rattle.rio_packets.specs.Register.{running};
 
@@ -10,41 +10,50 @@ use crate::crc::{PRESET, run};
 use crate::packet::{MAX_BYTES, Packet, append};
 use arrayvec::ArrayVec;
 
-/// The most bytes that may follow the source ID of a packet.
-pub const MAX_REST: usize = 268;
+/// The most bytes that may follow the source ID of a packet, with 16-bit IDs or with 8-bit ones.
+pub const fn max_rest(large: bool) -> usize
+    ensures { result ≡ most_rest large }
+{
+    if large { 266 } else { 268 }
+}
 
-/// How many of them come before the first CRC.
-const FIRST_REST: usize = 76;
+/// How many bytes of a body come before the first CRC.
+const FIRST_PART: usize = 80;
 
-/// The fields before the data of a packet with transport type 0
-/// (RapidIO Interconnect Specification 1.3, Part 6, packet header; Part 3, IDs of 8 bits).
+/// The fields before the data of a packet
+/// (RapidIO Interconnect Specification 1.3, Part 6, packet header; Part 3, IDs).
 #[derive(Clone, Copy, Debug, PartialEq, Eq)]
 pub struct Header {
     /// The priority, 0 to 3, of which 3 is the highest.
     pub prio: u8,
     /// The format type, 0 to 15; 8 is maintenance.
     pub ftype: u8,
-    /// The destination ID.
-    pub dest: u8,
-    /// The source ID.
-    pub source: u8,
+    /// The destination ID, below 256 unless the IDs have 16 bits.
+    pub dest: u16,
+    /// The source ID, below 256 unless the IDs have 16 bits.
+    pub source: u16,
+    /// Whether the IDs have 16 bits, which is transport type 1, or 8 bits, which is 0.
+    pub large: bool,
 }
 
 /// The body would have an odd length, or more than 272 bytes.
 #[derive(Clone, Copy, Debug, PartialEq, Eq)]
 pub struct BadLength;
 
-/// The packet whose body is a zero byte, priority and format type in a byte, the two IDs, and
-/// `rest`. `BadLength` comes exactly where this body has an odd length or more than 272 bytes.
+/// The packet whose body is a zero byte, priority, transport type and format type in a byte, the
+/// two IDs, and `rest`. `BadLength` comes exactly if this body has an odd length or more than 272
+/// bytes.
 pub fn build(header: &Header, rest: &[u8]) -> Result<Packet, BadLength>
     requires prio { header.now.prio < 4 }
     requires ftype { header.now.ftype < 16 }
-    ensures ok { IfOk result (λ p. LinkForm
-        (body_of header.now.prio header.now.ftype header.now.dest header.now.source rest.now) p) }
-    ensures bad_length { IsErr result ↔ IsBadLength
-        (body_of header.now.prio header.now.ftype header.now.dest header.now.source rest.now) }
+    requires dest { header.now.large ≡ false → header.now.dest < 256 }
+    requires source { header.now.large ≡ false → header.now.source < 256 }
+    ensures ok { IfOk result (λ p. LinkForm (body_of header.now.prio header.now.ftype
+        header.now.large header.now.dest header.now.source rest.now) p) }
+    ensures bad_length { IsErr result ↔ IsBadLength (body_of header.now.prio header.now.ftype
+        header.now.large header.now.dest header.now.source rest.now) }
 {
-    if rest.len() % 2 != 0 || rest.len() > MAX_REST {
+    if rest.len() % 2 != 0 || rest.len() > max_rest(header.large) {
         return Err(BadLength);
     }
     Ok(made_of(header, rest))
@@ -54,15 +63,15 @@ pub fn build(header: &Header, rest: &[u8]) -> Result<Packet, BadLength>
 fn made_of(header: &Header, rest: &[u8]) -> Packet
     requires prio { header.now.prio < 4 }
     requires ftype { header.now.ftype < 16 }
+    requires dest { header.now.large ≡ false → header.now.dest < 256 }
+    requires source { header.now.large ≡ false → header.now.source < 256 }
     requires even { length rest.now % 2 ≡ 0 }
-    requires most { length rest.now ≤ most_rest }
-    ensures { LinkForm
-        (body_of header.now.prio header.now.ftype header.now.dest header.now.source rest.now)
-        result }
+    requires most { length rest.now ≤ most_rest header.now.large }
+    ensures { LinkForm (body_of header.now.prio header.now.ftype
+        header.now.large header.now.dest header.now.source rest.now) result }
 {
-    let (front, back) = rest.split_at(rest.len().min(FIRST_REST));
-    let mut draft = Draft::new();
-    draft.push(&header.bytes());
+    let mut draft = header.draft();
+    let (front, back) = rest.split_at(rest.len().min(FIRST_PART - draft.bytes.len()));
     draft.push(front);
     draft.push_crc();
     draft.push_more(back);
@@ -83,22 +92,44 @@ impl Default for Packet {
             ftype: 0,
             dest: 0,
             source: 0,
+            large: false,
         };
         made_of(&zeros, &[])
     }
 }
 
 impl Header {
-    /// The first four bytes of the body.
-    fn bytes(&self) -> [u8; 4]
+    /// The bytes before the data.
+    fn draft(&self) -> Draft
         requires prio { self.now.prio < 4 }
         requires ftype { self.now.ftype < 16 }
-        ensures value { result
-            ≡ body_of self.now.prio self.now.ftype self.now.dest self.now.source [] }
-        ensures dest { self.now.dest < 256 }
-        ensures source { self.now.source < 256 }
+        requires dest { self.now.large ≡ false → self.now.dest < 256 }
+        requires source { self.now.large ≡ false → self.now.source < 256 }
+        ensures items { result.bytes.items
+            ≡ body_of self.now.prio self.now.ftype self.now.large self.now.dest self.now.source [] }
+        ensures len { array_vec_len result.bytes ≡ (if self.now.large then 6 else 4) }
+        ensures dest { self.now.dest < 0x10000 }
+        ensures source { self.now.source < 0x10000 }
     {
-        [0, 64 * self.prio + self.ftype, self.dest, self.source]
+        let mut draft = Draft::new();
+        draft.push(&[0, self.types()]);
+        if self.large {
+            draft.push(&self.dest.to_be_bytes());
+            draft.push(&self.source.to_be_bytes());
+        } else {
+            draft.push(&[self.dest as u8, self.source as u8]);
+        }
+        draft
+    }
+
+    /// Priority, transport type and format type in a byte.
+    fn types(&self) -> u8
+        requires prio { self.now.prio < 4 }
+        requires ftype { self.now.ftype < 16 }
+        ensures { result ≡ types_of self.now.large self.now.prio self.now.ftype }
+    {
+        let large = if self.large { 16 } else { 0 };
+        64 * self.prio + large + self.ftype
     }
 }
 
@@ -158,7 +189,7 @@ impl Draft {
         }
     }
 
-    /// Two zero bytes where the length is no multiple of four.
+    /// Two zero bytes if the length is no multiple of four.
     fn pad(&mut self)
         requires even { array_vec_len self.old.bytes % 2 ≡ 0 }
         requires room { array_vec_len self.old.bytes ≤ 276 }
