@@ -1,8 +1,8 @@
 -- What the registers of a numbered ring are.
-use Rattle.std.proofs.Common.{◌≡◌, ◌≢◌, ℕ, ◌<◌, [], ◌∷◌, Some, Contains, arith, ◌⊎◌, inl, inr, refl, ap, subst, ◌∙◌}
+use Rattle.std.proofs.Common.{◌≡◌, ◌≢◌, ℕ, ◌<◌, [], ◌∷◌, Some, Contains, arith, ◌⊎◌, inl, inr, refl, ap, ◌∙◌}
 use Rattle.maint_registers.specs.Routes.{entry_of, next_port}
 use Rattle.fabric_map.specs.Routes.{Registers}
-use Rattle.fabric_map.specs.Examples.{IsRing, ring_devices, ring_entries, endpoint, switch, entry}
+use Rattle.fabric_map.specs.Examples.{IsRing, endpoint, switch, entry}
 use Rattle.fabric_map.proofs.Lists.{Contains-cases, not_in_empty}
 
 module _ (before after : Registers) (is : IsRing before after) where

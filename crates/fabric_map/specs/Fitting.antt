@@ -4,10 +4,12 @@ use Rattle.maint_registers.specs.Devices.{IsDevice, is_switch}
 use Rattle.fabric_map.specs.Topology.{Topology, port_at, ports_of}
 use Rattle.fabric_map.specs.Routes.{Registers}
 
--- Each device shows whether it is a switch, how many ports it has, and which of them have a link.
+-- Each device shows whether it is a switch, how many ports it has, and which of them have a link. Its
+-- IDs and its lock fit their registers.
 pub record Fits (topology : Topology) (registers : Registers) : Type 0 where
   pub devices : (node : ℕ) → node < topology.nodes → IsDevice (registers node)
   pub ids : (node : ℕ) → node < topology.nodes → (registers node).base_id < 256
+  pub large_ids : (node : ℕ) → node < topology.nodes → (registers node).large_id < 65536
   pub locks : (node : ℕ) → node < topology.nodes → (registers node).lock < 65536
   pub endpoints : (node : ℕ) → node < topology.nodes → topology.switch_ports node ≡ None
       → is_switch (registers node) ≡ false

@@ -67,15 +67,15 @@ pub tag-read : (device : Device) (port : ℕ) → value_at device 0x6c port ≡ 
 tag-read device port = reads device 0x6c port ComponentTag (at-tag device)
 
 pub features-read : (device : Device) (port : ℕ)
-    → value_at device 0x10 port ≡ Some (if is_switch device then 0x10000108 else 0x8)
+    → value_at device 0x10 port ≡ Some (if is_switch device then 0x10000118 else 0x18)
 features-read device port = go (is_switch device) refl
   where
     go : (b : _) → is_switch device ≡ b
-        → value_at device 0x10 port ≡ Some (if b then 0x10000108 else 0x8)
-    go true is = reads device 0x10 port (Fixed 0x10000108)
-        (in_its_rows device 0x10 Switch (Fixed 0x10000108) (kind-switch device is) refl)
-    go false is = reads device 0x10 port (Fixed 0x8)
-        (in_its_rows device 0x10 Endpoint (Fixed 0x8) (kind-endpoint device is) refl)
+        → value_at device 0x10 port ≡ Some (if b then 0x10000118 else 0x18)
+    go true is = reads device 0x10 port (Fixed 0x10000118)
+        (in_its_rows device 0x10 Switch (Fixed 0x10000118) (kind-switch device is) refl)
+    go false is = reads device 0x10 port (Fixed 0x18)
+        (in_its_rows device 0x10 Endpoint (Fixed 0x18) (kind-endpoint device is) refl)
 
 pub port_information-read : (device : Device) (port : ℕ) → is_switch device ≡ true
     → value_at device 0x14 port ≡ Some (device.ports * 0x100 + port)
@@ -84,7 +84,7 @@ port_information-read device port is =
     (in_its_rows device 0x14 Switch PortInformation (kind-switch device is) refl)
 
 pub base_id-read : (device : Device) (port : ℕ) → is_switch device ≡ false
-    → value_at device 0x60 port ≡ Some (device.base_id * 0x10000)
+    → value_at device 0x60 port ≡ Some (device.base_id * 0x10000 + device.large_id)
 base_id-read device port is =
     reads device 0x60 port BaseId
     (in_its_rows device 0x60 Endpoint BaseId (kind-endpoint device is) refl)
@@ -106,7 +106,7 @@ base_id-written device value is =
     (in_its_rows device 0x60 Endpoint BaseId (kind-endpoint device is) refl)
 
 pub select-written : (device : Device) (value : ℕ) → is_switch device ≡ true
-    → written_at device 0x70 value ≡ Some (record device { select = value % 0x100 })
+    → written_at device 0x70 value ≡ Some (record device { select = value % 0x400 })
 select-written device value is =
     writes device 0x70 value RouteSelect
     (in_its_rows device 0x70 Switch RouteSelect (kind-switch device is) refl)

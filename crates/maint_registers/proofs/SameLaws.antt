@@ -1,4 +1,4 @@
--- A write leaves a device the same: of its kind, with its ports and its links.
+-- A write leaves a device the same: of its kind, with its ports, its links and its ID of 16 bits.
 use Rattle.std.proofs.Common.{◌≡◌, ℕ, Option, Some, None, refl, ap, subst}
 use Rattle.std.specs.Option.{option_and_then}
 use Rattle.maint_registers.specs.declared.table.Register.{Register}
@@ -8,7 +8,7 @@ use Rattle.maint_registers.specs.Table.{register_at}
 use Rattle.maint_registers.specs.Access.{written_to, written_at}
 
 pub same_device : (device : Device) → IsSameDevice device device
-same_device device = record { kind = refl; ports = refl; linked = refl }
+same_device device = record { kind = refl; ports = refl; linked = refl; large_id = refl }
 
 -- what is a switch stays one
 pub same_kind : (before after : Device) → IsSameDevice before after
@@ -16,24 +16,34 @@ pub same_kind : (before after : Device) → IsSameDevice before after
 same_kind before after same = ap (λ k. is_switch (record before { kind = k })) same.kind
 
 -- a device that is the same but for what was written
-one_same : (device written next : Device) → IsSameDevice device written → Some written ≡ Some next → IsSameDevice device next
+one_same : (device written next : Device) → IsSameDevice device written
+    → Some written ≡ Some next → IsSameDevice device next
 one_same device written next same is =
     let whole : written ≡ next = cc in
     subst (IsSameDevice device) whole same
 
-register_same : (device next : Device) (value : ℕ) (register : Register) → written_to device value register ≡ Some next → IsSameDevice device next
+register_same : (device next : Device) (value : ℕ) (register : Register)
+    → written_to device value register ≡ Some next → IsSameDevice device next
 register_same device next value (Fixed shown) is = absurd (cc)
 register_same device next value PortInformation is = absurd (cc)
-register_same device next value BaseId is = one_same device _ next (record { kind = refl; ports = refl; linked = refl }) is
-register_same device next value HostLock is = one_same device _ next (record { kind = refl; ports = refl; linked = refl }) is
-register_same device next value ComponentTag is = one_same device _ next (record { kind = refl; ports = refl; linked = refl }) is
-register_same device next value RouteSelect is = one_same device _ next (record { kind = refl; ports = refl; linked = refl }) is
-register_same device next value RouteEntry is = one_same device _ next (record { kind = refl; ports = refl; linked = refl }) is
-register_same device next value DefaultPort is = one_same device _ next (record { kind = refl; ports = refl; linked = refl }) is
+register_same device next value BaseId is =
+    one_same device _ next (record { kind = refl; ports = refl; linked = refl; large_id = refl }) is
+register_same device next value HostLock is =
+    one_same device _ next (record { kind = refl; ports = refl; linked = refl; large_id = refl }) is
+register_same device next value ComponentTag is =
+    one_same device _ next (record { kind = refl; ports = refl; linked = refl; large_id = refl }) is
+register_same device next value RouteSelect is =
+    one_same device _ next (record { kind = refl; ports = refl; linked = refl; large_id = refl }) is
+register_same device next value RouteEntry is =
+    one_same device _ next (record { kind = refl; ports = refl; linked = refl; large_id = refl }) is
+register_same device next value DefaultPort is =
+    one_same device _ next (record { kind = refl; ports = refl; linked = refl; large_id = refl }) is
 
-pub written_same : (device next : Device) (offset value : ℕ) → written_at device offset value ≡ Some next → IsSameDevice device next
+pub written_same : (device next : Device) (offset value : ℕ)
+    → written_at device offset value ≡ Some next → IsSameDevice device next
 written_same device next offset value = go (register_at device offset)
   where
-    go : (o : Option Register) → option_and_then (written_to device value) o ≡ Some next → IsSameDevice device next
+    go : (o : Option Register) → option_and_then (written_to device value) o ≡ Some next
+        → IsSameDevice device next
     go None is = absurd (cc)
     go (Some register) is = register_same device next value register is

@@ -14,9 +14,9 @@ use Rattle.maint_registers.specs.Within.{IsWithin}
 
 no_routes_fit : All (λ entry. entry < 0x100) no_routes
 unfolding no_routes
-no_routes_fit = All-replicate (λ entry. entry < 0x100) 256 255 (omega arith)
+no_routes_fit = All-replicate (λ entry. entry < 0x100) 1024 255 (omega arith)
 
-pub no_routes_long : length no_routes ≡ 256
+pub no_routes_long : length no_routes ≡ 1024
 unfolding no_routes
 no_routes_long = refl
 
@@ -24,6 +24,7 @@ pub new_endpoint_within : (id : ℕ) (linked : Bool) → id < 0x100 → IsWithin
 new_endpoint_within id linked range = record {
   ports = omega arith;
   base_id = range;
+  large_id = omega arith;
   lock = omega arith;
   tag = omega arith;
   select = omega arith;
@@ -36,6 +37,7 @@ pub new_switch_within : (ports linked : ℕ) → ports ≤ 16 → IsWithin (new_
 new_switch_within ports linked most = record {
   ports = most;
   base_id = omega arith;
+  large_id = omega arith;
   lock = omega arith;
   tag = omega arith;
   select = omega arith;
@@ -49,6 +51,21 @@ pub base_id_within : (device : Device) (id : ℕ) → IsWithin device → id < 0
 base_id_within device id within range = record {
   ports = within.ports;
   base_id = range;
+  large_id = within.large_id;
+  lock = within.lock;
+  tag = within.tag;
+  select = within.select;
+  destinations = within.destinations;
+  routes = within.routes;
+  default_port = within.default_port;
+}
+
+pub large_within : (device : Device) (id : ℕ) → IsWithin device → id < 0x10000
+    → IsWithin (record device { large_id = id })
+large_within device id within range = record {
+  ports = within.ports;
+  base_id = within.base_id;
+  large_id = range;
   lock = within.lock;
   tag = within.tag;
   select = within.select;
@@ -62,6 +79,7 @@ pub lock_within : (device : Device) (id : ℕ) → IsWithin device → id < 0x10
 lock_within device id within range = record {
   ports = within.ports;
   base_id = within.base_id;
+  large_id = within.large_id;
   lock = range;
   tag = within.tag;
   select = within.select;
@@ -75,6 +93,7 @@ pub tag_within : (device : Device) (tag : ℕ) → IsWithin device → tag < 0x1
 tag_within device tag within range = record {
   ports = within.ports;
   base_id = within.base_id;
+  large_id = within.large_id;
   lock = within.lock;
   tag = range;
   select = within.select;
@@ -83,11 +102,12 @@ tag_within device tag within range = record {
   default_port = within.default_port;
 }
 
-pub select_within : (device : Device) (dest : ℕ) → IsWithin device → dest < 0x100
+pub select_within : (device : Device) (dest : ℕ) → IsWithin device → dest < 0x400
     → IsWithin (record device { select = dest })
 select_within device dest within range = record {
   ports = within.ports;
   base_id = within.base_id;
+  large_id = within.large_id;
   lock = within.lock;
   tag = within.tag;
   select = range;
@@ -104,6 +124,7 @@ route_within device dest port within range =
     record {
       ports = within.ports;
       base_id = within.base_id;
+      large_id = within.large_id;
       lock = within.lock;
       tag = within.tag;
       select = within.select;
@@ -117,6 +138,7 @@ pub default_within : (device : Device) (port : ℕ) → IsWithin device → port
 default_within device port within range = record {
   ports = within.ports;
   base_id = within.base_id;
+  large_id = within.large_id;
   lock = within.lock;
   tag = within.tag;
   select = within.select;
@@ -130,6 +152,7 @@ pub links_within : (device : Device) (linked : ℕ) → IsWithin device
 links_within device linked within = record {
   ports = within.ports;
   base_id = within.base_id;
+  large_id = within.large_id;
   lock = within.lock;
   tag = within.tag;
   select = within.select;
@@ -219,7 +242,10 @@ value_fits : (device : Device) (port : ℕ) (register : Register) → IsWithin d
     → fits register ≡ true → value_of device port register < 0x100000000
 value_fits device port (Fixed value) within range fit = ltb-true value 0x100000000 fit
 value_fits device port PortInformation within range fit = let most = within.ports in omega arith
-value_fits device port BaseId within range fit = let most = within.base_id in omega arith
+value_fits device port BaseId within range fit =
+    let most = within.base_id in
+    let second = within.large_id in
+    omega arith
 value_fits device port HostLock within range fit = let most = within.lock in omega arith
 value_fits device port ComponentTag within range fit = within.tag
 value_fits device port RouteSelect within range fit = let most = within.select in omega arith

@@ -1,33 +1,47 @@
--- What a register shows after a write.
-use Rattle.std.proofs.Common.{◌≡◌, ℕ, ◌%◌, ◌^◌, ◌<◌, Some, option_map, refl, sym, ap, ◌∙◌, subst, arith, get_or-set_same}
+-- What a register shows before a write to it, and after.
+use Rattle.std.proofs.Common.{◌≡◌, ℕ, ◌+◌, ◌%◌, ◌^◌, ◌<◌, Some, option_map, refl, sym, ap, ◌∙◌, subst, arith, get_or-set_same}
 use Rattle.std.specs.Option.{option_and_then}
+use Rattle.std.proofs.lemmas.List.Elements.{All-get_or}
+use Rattle.std.proofs.lemmas.Option.{same_Some}
 use Rattle.maint_registers.specs.declared.table.Register.{Register}
 use Rattle.maint_registers.specs.declared.table.Register.TheVariants.{Fixed, PortInformation, BaseId, HostLock, ComponentTag, RouteSelect, RouteEntry, DefaultPort}
 use Rattle.maint_registers.specs.Devices.{Device, IsDevice}
 use Rattle.maint_registers.specs.Table.{register_at}
 use Rattle.maint_registers.specs.Access.{value_of, value_at, written_to, written_at}
-use Rattle.maint_registers.specs.Laws.{Bits, written_bits, only}
-
-inside : {A : Type 0} (a b : A) → Some a ≡ Some b → a ≡ b
-inside a b e = cc
+use Rattle.maint_registers.specs.Laws.{Bits, written_bits, only, other_bits}
+use Rattle.maint_registers.specs.Within.{IsWithin}
 
 -- a register that stands at its offset shows its value there
 shown : (device : Device) (offset port : ℕ) (register : Register) (value : ℕ)
-    → register_at device offset ≡ Some register → value_of device port register ≡ value → value_at device offset port ≡ Some value
-shown device offset port register value at is = ap (option_map (value_of device port)) at ∙ ap (λ n. Some n) is
+    → register_at device offset ≡ Some register → value_of device port register ≡ value
+    → value_at device offset port ≡ Some value
+shown device offset port register value at is =
+    ap (option_map (value_of device port)) at ∙ ap (λ n. Some n) is
 
-module _ (device next : Device) (offset value port : ℕ) (is_device : IsDevice device) (range : value < 2 ^ 32) where
+module _ (device next : Device) (offset value port : ℕ)
+    (is_device : IsDevice device) (range : value < 2 ^ 32) where
+  -- the register shows afterwards what was written, and its other bits
+  abbrev becomes : Register → Bits → Type 0
+  becomes register bits =
+      value_at next offset port ≡ Some (only bits value + other_bits device register)
+
   -- one step from a device that was written to what it shows
-  step : (register : Register) (bits wanted : Bits) (written : Device) → Some written ≡ Some next → Some wanted ≡ Some bits
-      → register_at written offset ≡ Some register → value_of written port register ≡ only wanted value
-      → value_at next offset port ≡ Some (only bits value)
+  step : (register : Register) (bits wanted : Bits) (written : Device)
+      → Some written ≡ Some next → Some wanted ≡ Some bits
+      → register_at written offset ≡ Some register
+      → value_of written port register ≡ only wanted value + other_bits device register
+      → becomes register bits
   step register bits wanted written e w at is =
-      subst (λ (d : Device). value_at d offset port ≡ Some (only bits value)) (inside written next e)
-      (shown written offset port register (only bits value) at (is ∙ ap (λ (b : Bits). only b value) (inside wanted bits w)))
+      subst (λ (d : Device).
+      value_at d offset port ≡ Some (only bits value + other_bits device register))
+      (same_Some written next e)
+      (shown written offset port register (only bits value + other_bits device register) at
+      (is ∙ ap (λ (b : Bits). only b value + other_bits device register)
+      (same_Some wanted bits w)))
 
   after : (register : Register) (bits : Bits) → register_at device offset ≡ Some register
       → written_bits register ≡ Some bits → written_to device value register ≡ Some next
-      → value_at next offset port ≡ Some (only bits value)
+      → becomes register bits
   after (Fixed n) bits at w e = cc
   after PortInformation bits at w e = cc
   after HostLock bits at w e = cc
@@ -35,13 +49,60 @@ module _ (device next : Device) (offset value port : ℕ) (is_device : IsDevice 
   after ComponentTag bits at w e = step ComponentTag bits _ _ e w at (omega arith)
   after RouteSelect bits at w e = step RouteSelect bits _ _ e w at (omega arith)
   after RouteEntry bits at w e =
-      let here = get_or-set_same device.routes device.select (value % 256) 255 (let r = is_device.destinations in let s = is_device.selected in omega arith) in
+      let routes = is_device.destinations in
+      let selected = is_device.selected in
+      let here = get_or-set_same device.routes device.select (value % 256) 255 (omega arith) in
       step RouteEntry bits _ _ e w at (omega (arith, here))
   after DefaultPort bits at w e = step DefaultPort bits _ _ e w at (omega arith)
 
-pub shows_written : (device next : Device) (offset value port : ℕ) (register : Register) (bits : Bits)
-    → IsDevice device → register_at device offset ≡ Some register → written_bits register ≡ Some bits → value < 2 ^ 32
-    → written_at device offset value ≡ Some next → value_at next offset port ≡ Some (only bits value)
+pub shows_written : (device next : Device) (offset value port : ℕ) (register : Register)
+    (bits : Bits) → IsDevice device → register_at device offset ≡ Some register
+    → written_bits register ≡ Some bits → value < 2 ^ 32
+    → written_at device offset value ≡ Some next
+    → value_at next offset port ≡ Some (only bits value + other_bits device register)
 shows_written device next offset value port register bits is at has range wrote =
     after device next offset value port is range register bits at has
     (sym (ap (option_and_then (written_to device value)) at) ∙ wrote)
+
+module _ (device : Device) (port : ℕ) (within : IsWithin device) where
+  abbrev has_both : Register → Bits → Type 0
+  has_both register bits =
+      value_of device port register
+      ≡ only bits (value_of device port register) + other_bits device register
+
+  is_both : (register : Register) (bits wanted : Bits) → Some wanted ≡ Some bits
+      → has_both register wanted → has_both register bits
+  is_both register bits wanted w is = subst (has_both register) (same_Some wanted bits w) is
+
+  -- what each register shows that a write changes
+  both : (register : Register) (bits : Bits) → written_bits register ≡ Some bits
+      → has_both register bits
+  both (Fixed n) bits w = cc
+  both PortInformation bits w = cc
+  both HostLock bits w = cc
+  both BaseId bits w =
+      let base = within.base_id in
+      let large = within.large_id in
+      is_both BaseId bits _ w (omega arith)
+  both ComponentTag bits w =
+      let most = within.tag in is_both ComponentTag bits _ w (omega arith)
+  both RouteSelect bits w =
+      let most = within.select in is_both RouteSelect bits _ w (omega arith)
+  both RouteEntry bits w =
+      let routes = within.destinations in
+      let selected = within.select in
+      let most = All-get_or (λ e. e < 0x100) device.routes device.select 255 (omega arith)
+      within.routes in
+      is_both RouteEntry bits _ w (omega (arith, most))
+  both DefaultPort bits w =
+      let most = within.default_port in is_both DefaultPort bits _ w (omega arith)
+
+pub shows_both : (device : Device) (offset port value : ℕ) (register : Register) (bits : Bits)
+    → IsWithin device → register_at device offset ≡ Some register
+    → written_bits register ≡ Some bits → value_at device offset port ≡ Some value
+    → value ≡ only bits value + other_bits device register
+shows_both device offset port value register bits within at has shows =
+    subst (λ n. n ≡ only bits n + other_bits device register)
+    (same_Some (value_of device port register) value
+    (sym (ap (option_map (value_of device port)) at) ∙ shows))
+    (both device port within register bits has)

@@ -11,7 +11,7 @@ use Rattle.maint_registers.specs.Routes.{entry_of}
 abbrev pub value_of : Device → ℕ → Register → ℕ
 value_of device port (Fixed value) = value
 value_of device port PortInformation = device.ports * 0x100 + port
-value_of device port BaseId = device.base_id * 0x10000
+value_of device port BaseId = device.base_id * 0x10000 + device.large_id
 value_of device port HostLock = device.lock
 value_of device port ComponentTag = device.tag
 value_of device port RouteSelect = device.select
@@ -35,7 +35,7 @@ written_to device value BaseId = Some (record device { base_id = value / 0x10000
 written_to device value HostLock =
     Some (record device { lock = locked device.lock (value % 0x10000) })
 written_to device value ComponentTag = Some (record device { tag = value })
-written_to device value RouteSelect = Some (record device { select = value % 0x100 })
+written_to device value RouteSelect = Some (record device { select = value % 0x400 })
 written_to device value RouteEntry =
     Some (record device { routes = slice_set device.routes device.select (value % 0x100) })
 written_to device value DefaultPort = Some (record device { default_port = value % 0x100 })

@@ -20,6 +20,10 @@ routed dest port device = record device { routes = slice_set device.routes dest 
 abbrev pub defaulted : ℕ → Device → Device
 defaulted port device = record device { default_port = port }
 
+-- an endpoint has this ID of 16 bits
+abbrev pub large_set : ℕ → Device → Device
+large_set id device = record device { large_id = id }
+
 -- a host with this ID holds a device
 abbrev pub held_by : ℕ → Device → Device
 held_by id device = record device { lock = id }

@@ -1,25 +1,26 @@
 -- What writes do, in the words of the table: which bits they change, and who holds a device; and which port
 -- shows a link that is set.
-use Rattle.std.specs.Prelude.{◌≡◌, ◌≢◌, ℕ, ◌*◌, ◌/◌, ◌%◌, ◌^◌, ◌<◌, ◌↔◌, Option, Some, None}
+use Rattle.std.specs.Prelude.{◌≡◌, ◌≢◌, ℕ, ◌+◌, ◌*◌, ◌/◌, ◌%◌, ◌^◌, ◌<◌, ◌↔◌, Option, Some, None}
 use Rattle.maint_registers.specs.declared.table.Register.{Register}
 use Rattle.maint_registers.specs.declared.table.Register.TheVariants.{Fixed, PortInformation, BaseId, HostLock, ComponentTag, RouteSelect, RouteEntry, DefaultPort}
 use Rattle.maint_registers.specs.Devices.{Device, IsDevice, with_link}
 use Rattle.maint_registers.specs.Table.{status_of, register_at}
 use Rattle.maint_registers.specs.Access.{value_at, written_at, locked}
+use Rattle.maint_registers.specs.Within.{IsWithin}
 
 -- some bits of a register: the lowest of them, and how many they are
 pub record Bits : Type 0 where
   pub lowest : ℕ
   pub count : ℕ
 
--- the bits that a write to a register changes, the others being 0; the lock has a rule of its own
+-- the bits that a write to a register changes; the lock has a rule of its own
 abbrev pub written_bits : Register → Option Bits
 written_bits (Fixed value) = None
 written_bits PortInformation = None
 written_bits BaseId = Some record { lowest = 16; count = 8 }
 written_bits HostLock = None
 written_bits ComponentTag = Some record { lowest = 0; count = 32 }
-written_bits RouteSelect = Some record { lowest = 0; count = 8 }
+written_bits RouteSelect = Some record { lowest = 0; count = 10 }
 written_bits RouteEntry = Some record { lowest = 0; count = 8 }
 written_bits DefaultPort = Some record { lowest = 0; count = 8 }
 
@@ -27,7 +28,14 @@ written_bits DefaultPort = Some record { lowest = 0; count = 8 }
 abbrev pub only : Bits → ℕ → ℕ
 only bits value = value / 2 ^ bits.lowest % 2 ^ bits.count * 2 ^ bits.lowest
 
--- Whoever writes to a register then reads there what was written in the bits that the register has, and 0 in all others.
+-- what a register shows in its other bits, which a write leaves: the ID of 16 bits beside that of 8
+-- bits, else 0
+abbrev pub other_bits : Device → Register → ℕ
+other_bits device BaseId = device.large_id
+other_bits device register = 0
+
+-- Whoever writes to a register then reads there what was written in the bits that a write changes,
+-- and in all others what stood there.
 abbrev pub ShowsWritten : Type 0
 ShowsWritten = (device next : Device) (offset value port : ℕ) (register : Register) (bits : Bits)
     → IsDevice device
@@ -35,7 +43,16 @@ ShowsWritten = (device next : Device) (offset value port : ℕ) (register : Regi
     → written_bits register ≡ Some bits
     → value < 2 ^ 32
     → written_at device offset value ≡ Some next
-    → value_at next offset port ≡ Some (only bits value)
+    → value_at next offset port ≡ Some (only bits value + other_bits device register)
+
+-- What a register shows is its bits that a write changes, and its other bits beside them.
+abbrev pub ShowsBoth : Type 0
+ShowsBoth = (device : Device) (offset port value : ℕ) (register : Register) (bits : Bits)
+    → IsWithin device
+    → register_at device offset ≡ Some register
+    → written_bits register ≡ Some bits
+    → value_at device offset port ≡ Some value
+    → value ≡ only bits value + other_bits device register
 
 -- A host that writes its ID to a lock holds the device afterwards exactly if the lock was free.
 abbrev pub IsTakenIfFree : Type 0
@@ -54,6 +71,11 @@ LockStays = (device next : Device) (offset value : ℕ) → offset ≢ 0x68
 abbrev pub TagStays : Type 0
 TagStays = (device next : Device) (offset value : ℕ) → offset ≢ 0x6c
     → written_at device offset value ≡ Some next → next.tag ≡ device.tag
+
+-- No write changes the ID of 16 bits.
+abbrev pub LargeStays : Type 0
+LargeStays = (device next : Device) (offset value : ℕ)
+    → written_at device offset value ≡ Some next → next.large_id ≡ device.large_id
 
 -- A port whose link is set shows it.
 abbrev pub ShowsLink : Type 0

@@ -16,9 +16,9 @@ abbrev pub table : List Row
 table =
     (0x000000, Some (Fixed 0x0001ffff), Some (Fixed 0x0002ffff))  -- identity
     ∷ (0x00000c, Some (Fixed 0x00000100), Some (Fixed 0x00000100))  -- assembly information
-    ∷ (0x000010, Some (Fixed 0x00000008), Some (Fixed 0x10000108))  -- features
+    ∷ (0x000010, Some (Fixed 0x00000018), Some (Fixed 0x10000118))  -- features
     ∷ (0x000014, None, Some PortInformation)
-    ∷ (0x000034, None, Some (Fixed 0x000000ff))  -- route limit
+    ∷ (0x000034, None, Some (Fixed 0x000003ff))  -- route limit
     ∷ (0x000060, Some BaseId, None)
     ∷ (0x000068, Some HostLock, Some HostLock)
     ∷ (0x00006c, Some ComponentTag, Some ComponentTag)

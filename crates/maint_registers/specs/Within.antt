@@ -7,10 +7,11 @@ use Rattle.maint_registers.specs.Access.{value_at, written_at}
 pub record IsWithin (device : Device) : Type 0 where
   pub ports : device.ports ≤ 16
   pub base_id : device.base_id < 0x100
+  pub large_id : device.large_id < 0x10000
   pub lock : device.lock < 0x10000
   pub tag : device.tag < 0x100000000
-  pub select : device.select < 0x100
-  pub destinations : length device.routes ≡ 256
+  pub select : device.select < 0x400
+  pub destinations : length device.routes ≡ 1024
   pub routes : All (λ entry. entry < 0x100) device.routes
   pub default_port : device.default_port < 0x100
 
@@ -31,6 +32,10 @@ ReadsWord = (device : Device) (offset port value : ℕ) → IsWithin device → 
     → value_at device offset port ≡ Some value → value < 0x100000000
 
 -- Every value that fits may be set.
+abbrev pub LargeStaysWithin : Type 0
+LargeStaysWithin = (device : Device) (id : ℕ) → IsWithin device → id < 0x10000
+    → IsWithin (record device { large_id = id })
+
 abbrev pub LockStaysWithin : Type 0
 LockStaysWithin = (device : Device) (id : ℕ) → IsWithin device → id < 0x10000
     → IsWithin (record device { lock = id })

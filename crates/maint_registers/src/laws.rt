@@ -1,12 +1,21 @@
 //! Laws of registers, for whoever states something of devices.
-ghost use Rattle.maint_registers.specs.Laws.{ShowsWritten, IsTakenIfFree, StaysForOthers, LockStays, TagStays, ShowsLink, OthersStay};
+ghost use Rattle.maint_registers.specs.Laws.{ShowsWritten, ShowsBoth, LargeStays, LockStays, TagStays};
+ghost use Rattle.maint_registers.specs.Laws.{IsTakenIfFree, StaysForOthers};
+ghost use Rattle.maint_registers.specs.Laws.{ShowsLink, OthersStay};
 ghost use Rattle.maint_registers.specs.Within.{NewEndpointIsWithin, NewSwitchIsWithin, ReadsWord};
-ghost use Rattle.maint_registers.specs.Within.{WrittenStaysWithin, LockStaysWithin, LinksStayWithin};
-ghost use Rattle.maint_registers.specs.Within.{RouteStaysWithin, DefaultStaysWithin};
+ghost use Rattle.maint_registers.specs.Within.{WrittenStaysWithin, LargeStaysWithin};
+ghost use Rattle.maint_registers.specs.Within.{LockStaysWithin, RouteStaysWithin};
+ghost use Rattle.maint_registers.specs.Within.{DefaultStaysWithin, LinksStayWithin};
 
-/// A write changes the bits that the register has, and no others.
+/// A write changes some bits of a register, and leaves the others.
 pub fn write_changes_its_bits()
-    ensures { ShowsWritten }
+    ensures written { ShowsWritten }
+    ensures both { ShowsBoth }
+{}
+
+/// No write changes the ID of 16 bits.
+pub fn writes_leave_large_id()
+    ensures { LargeStays }
 {}
 
 /// A host takes a lock exactly if it was free, and nobody but its holder frees it.
@@ -37,6 +46,7 @@ pub fn new_devices_are_within()
 /// Each number of a device goes on to fit its register, whatever is written or set.
 pub fn devices_stay_within()
     ensures written { WrittenStaysWithin }
+    ensures large { LargeStaysWithin }
     ensures lock { LockStaysWithin }
     ensures route { RouteStaysWithin }
     ensures default_port { DefaultStaysWithin }

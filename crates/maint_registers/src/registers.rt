@@ -1,12 +1,15 @@
 //! `Registers`: what a device holds, and where a switch sends packets.
 ghost use Rattle.std.specs.Prelude.{◌≡◌, ◌≤◌, ◌<◌, Bool, true, false, slice_set, IsTrue, IfSome};
 ghost use Rattle.maint_registers.specs.Devices.{IsDevice, is_switch, with_link, no_routes, new_endpoint, new_switch};
-ghost use Rattle.maint_registers.specs.Routes.{next_port, port_named};
+ghost use Rattle.maint_registers.specs.Routes.{entry_of, next_port, port_named};
 
 use std::marker::Model;
 
 /// How many destinations a route table has.
-const DESTINATIONS: usize = 256;
+const DESTINATIONS: usize = 1024;
+
+/// An endpoint has no 16-bit ID of its own yet.
+const NO_LARGE_ID: u16 = 0xffff;
 
 /// No host holds the device (RapidIO Interconnect Specification 1.3, Part 3, host base device ID lock).
 pub(crate) const FREE: u16 = 0xffff;
@@ -29,9 +32,10 @@ pub struct Registers {
     pub(crate) ports: u8,
     pub(crate) linked: u16,
     pub(crate) base_id: u8,
+    pub(crate) large_id: u16,
     pub(crate) lock: u16,
     pub(crate) tag: u32,
-    pub(crate) select: u8,
+    pub(crate) select: u16,
     pub(crate) routes: [u8; DESTINATIONS],
     pub(crate) default_port: u8,
 }
@@ -59,7 +63,8 @@ fn no_routes() -> [u8; DESTINATIONS]
 }
 
 impl Registers {
-    /// The registers of an endpoint with this ID, whose one port has a link or none. No host holds it, and its tag is 0.
+    /// The registers of an endpoint with this 8-bit ID, whose one port has a link or none. It has no
+    /// 16-bit ID, which is FFFF, no host holds it, and its tag is 0.
     pub fn endpoint(id: u8, linked: bool) -> Registers
         ensures { result ≡ new_endpoint id linked }
     {
@@ -68,6 +73,7 @@ impl Registers {
             ports: 1,
             linked: u16::from(linked),
             base_id: id,
+            large_id: NO_LARGE_ID,
             lock: FREE,
             tag: 0,
             select: 0,
@@ -88,6 +94,7 @@ impl Registers {
             ports,
             linked,
             base_id: 0,
+            large_id: 0,
             lock: FREE,
             tag: 0,
             select: 0,
@@ -112,12 +119,30 @@ impl Registers {
         self.ports
     }
 
-    /// Returns the ID of an endpoint, or 0 of a switch (RapidIO Interconnect Specification 1.3, Part 3, base device ID).
+    /// Returns the 8-bit ID of an endpoint, or 0 of a switch
+    /// (RapidIO Interconnect Specification 1.3, Part 3, base device ID).
     pub fn base_id(&self) -> u8
         ensures value { result ≡ self.now.base_id }
         ensures switch { is_switch self.now ≡ true → result ≡ 0 }
     {
         self.base_id
+    }
+
+    /// Returns the 16-bit ID of an endpoint, FFFF at first, or 0 of a switch
+    /// (RapidIO Interconnect Specification 1.3, Part 3, base device ID).
+    pub fn large_id(&self) -> u16
+        ensures value { result ≡ self.now.large_id }
+        ensures switch { is_switch self.now ≡ true → result ≡ 0 }
+    {
+        self.large_id
+    }
+
+    /// Sets the 16-bit ID of an endpoint.
+    pub fn set_large(&mut self, id: u16)
+        requires { is_switch self.old ≡ false }
+        ensures { self.new ≡ record self.old { large_id = id } }
+    {
+        self.large_id = id;
     }
 
     /// Returns the ID of the host that holds the device, or FFFF if none does
@@ -135,20 +160,33 @@ impl Registers {
         self.lock = id;
     }
 
-    /// Returns the port to which a switch sends packets for a destination: its entry, or the default port if the entry is
-    /// 255. `None` comes exactly if that number is not below the number of ports, or if the device is an endpoint
+    /// Returns the port to which a switch sends packets for a destination of either size: its entry,
+    /// or the default port if the entry is 255 or the table has none, which is so from 1,024 on.
+    /// `None` comes exactly if that number is not below the number of ports, or if the device is an
+    /// endpoint
     /// (RapidIO Interconnect Specification 1.3, Part 3, route tables; both meanings of 255 are this project's profile).
-    pub fn next_port(&self, dest: u8) -> Option<u8>
+    pub fn next_port(&self, dest: u16) -> Option<u8>
         ensures value { result ≡ next_port self.now dest }
         ensures range { IfSome result (λ port. port < self.now.ports) }
     {
-        let entry = self.routes[dest as usize];
-        let port = match entry {
+        let port = match self.entry(dest) {
             NO_ENTRY => self.default_port,
-            _ => entry,
+            entry => entry,
         };
         let is_port = self.kind == Kind::Switch && port < self.ports;
         is_port.then_some(port)
+    }
+
+    /// The entry of a destination; a destination past the table has none.
+    pub(crate) fn entry(&self, dest: u16) -> u8
+        ensures { result ≡ entry_of self.now dest }
+    {
+        let place = usize::from(dest);
+        if place < DESTINATIONS {
+            self.routes[place]
+        } else {
+            NO_ENTRY
+        }
     }
 
     /// Says that a port below 16 has a link.
@@ -161,8 +199,9 @@ impl Registers {
     }
 
     /// Sets the entry of a destination in the route table of a switch.
-    pub fn set_route(&mut self, dest: u8, port: u8)
-        requires { IsTrue (is_switch self.old) }
+    pub fn set_route(&mut self, dest: u16, port: u8)
+        requires switch { IsTrue (is_switch self.old) }
+        requires destination { dest < 1024 }
         ensures { self.new ≡ record self.old { routes = slice_set self.old.routes dest port } }
     {
         self.routes[dest as usize] = port;

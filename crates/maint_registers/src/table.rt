@@ -13,7 +13,7 @@ enum Register {
     Fixed(u32),
     /// How many ports a switch has, and the port on which it was asked.
     PortInformation,
-    /// The ID of an endpoint.
+    /// The IDs of an endpoint: that of 8 bits, which can be written, and that of 16 bits.
     BaseId,
     /// The ID of the host that holds the device.
     HostLock,
@@ -65,11 +65,11 @@ impl Registers {
         match register {
             Register::Fixed(value) => value,
             Register::PortInformation => u32::from(self.ports) << 8 | u32::from(port),
-            Register::BaseId => u32::from(self.base_id) << 16,
+            Register::BaseId => u32::from(self.base_id()) << 16 | u32::from(self.large_id()),
             Register::HostLock => u32::from(self.lock),
             Register::ComponentTag => self.tag,
             Register::RouteSelect => u32::from(self.select),
-            Register::RouteEntry => u32::from(self.routes[self.select as usize]),
+            Register::RouteEntry => u32::from(self.entry(self.select)),
             Register::DefaultPort => u32::from(self.default_port),
         }
     }
@@ -86,7 +86,7 @@ impl Registers {
             Register::BaseId => self.base_id = (value >> 16 & 0xff) as u8,
             Register::HostLock => self.lock = locked(self.lock, (value & 0xffff) as u16),
             Register::ComponentTag => self.tag = value,
-            Register::RouteSelect => self.select = (value & 0xff) as u8,
+            Register::RouteSelect => self.select = (value & 0x3ff) as u16,
             Register::RouteEntry => self.routes[self.select as usize] = (value & 0xff) as u8,
             Register::DefaultPort => self.default_port = (value & 0xff) as u8,
         }
@@ -124,7 +124,7 @@ fn endpoint_register(offset: u32) -> Option<Register>
     Some(match offset {
         0x00_0000 => Register::Fixed(0x0001_ffff),
         0x00_000c => Register::Fixed(0x0000_0100),
-        0x00_0010 => Register::Fixed(0x0000_0008),
+        0x00_0010 => Register::Fixed(0x0000_0018),
         0x00_0060 => Register::BaseId,
         0x00_0068 => Register::HostLock,
         0x00_006c => Register::ComponentTag,
@@ -139,9 +139,9 @@ fn switch_register(offset: u32) -> Option<Register>
     Some(match offset {
         0x00_0000 => Register::Fixed(0x0002_ffff),
         0x00_000c => Register::Fixed(0x0000_0100),
-        0x00_0010 => Register::Fixed(0x1000_0108),
+        0x00_0010 => Register::Fixed(0x1000_0118),
         0x00_0014 => Register::PortInformation,
-        0x00_0034 => Register::Fixed(0x0000_00ff),
+        0x00_0034 => Register::Fixed(0x0000_03ff),
         0x00_0068 => Register::HostLock,
         0x00_006c => Register::ComponentTag,
         0x00_0070 => Register::RouteSelect,

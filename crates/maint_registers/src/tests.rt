@@ -1,6 +1,6 @@
 //! The registers of both kinds of device, by the table of `docs/registers.md`, whose values are those of RapidIO
 //! Interconnect Specification 1.3 and this project's profile.
-ghost use Rattle.std.specs.Prelude.{IsTrue};
+ghost use Rattle.std.specs.Prelude.{◌≡◌, false, IsTrue};
 ghost use Rattle.maint_registers.specs.Devices.{is_switch};
 
 use crate::Registers;
@@ -34,7 +34,9 @@ const fn written(offset: u32, first: u32, after: u32) -> Row {
 }
 
 /// An endpoint with ID 5 and a link.
-fn endpoint() -> Registers {
+fn endpoint() -> Registers
+    ensures { is_switch result ≡ false }
+{
     Registers::endpoint(5, true)
 }
 
@@ -64,8 +66,8 @@ fn an_endpoint_has_its_column(rt: HostRuntime) {
     let rows = [
         shown(0x00, 0x0001_ffff),
         shown(0x0c, 0x0000_0100),
-        shown(0x10, 0x0000_0008),
-        written(0x60, 0x0005_0000, 0x0034_0000),
+        shown(0x10, 0x0000_0018),
+        written(0x60, 0x0005_ffff, 0x0034_ffff),
         written(0x68, 0x0000_ffff, 0x0000_5678),
         written(0x6c, 0x0000_0000, 0x1234_5678),
         shown(0x158, 0x0000_0002),
@@ -81,12 +83,12 @@ fn a_switch_has_its_column(rt: HostRuntime) {
     let rows = [
         shown(0x00, 0x0002_ffff),
         shown(0x0c, 0x0000_0100),
-        shown(0x10, 0x1000_0108),
+        shown(0x10, 0x1000_0118),
         shown(0x14, 0x0000_0403),
-        shown(0x34, 0x0000_00ff),
+        shown(0x34, 0x0000_03ff),
         written(0x68, 0x0000_ffff, 0x0000_5678),
         written(0x6c, 0x0000_0000, 0x1234_5678),
-        written(0x70, 0x0000_0000, 0x0000_0078),
+        written(0x70, 0x0000_0000, 0x0000_0278),
         written(0x74, 0x0000_00ff, 0x0000_0078),
         written(0x78, 0x0000_00ff, 0x0000_0078),
         shown(0x158, 0x0000_0002),
@@ -144,10 +146,42 @@ fn a_route_is_an_entry_or_the_default(rt: HostRuntime) {
 #[test]
 fn an_entry_is_written_for_the_destination_selected(rt: HostRuntime) {
     let mut registers = switch();
-    assert!(rt; registers.write(0x70, 200));
+    assert!(rt; registers.write(0x70, 1000));
     assert!(rt; registers.write(0x74, 2));
-    assert_eq!(rt; registers.next_port(200), Some(2));
+    assert_eq!(rt; registers.next_port(1000), Some(2));
     assert_eq!(rt; registers.next_port(0), None);
+}
+
+#[test]
+fn a_destination_has_the_entry_of_its_number(rt: HostRuntime) {
+    let mut registers = switch();
+    registers.set_default(3);
+    registers.set_route(0, 0);
+    registers.set_route(255, 1);
+    registers.set_route(256, 2);
+    registers.set_route(1023, 1);
+    for (dest, port) in [
+        (0, 0),
+        (255, 1),
+        (256, 2),
+        (257, 3),
+        (1023, 1),
+        (1024, 3),
+        (65535, 3),
+    ] {
+        assert_eq!(rt; registers.next_port(dest), Some(port), "{dest}");
+    }
+}
+
+#[test]
+fn a_16_bit_id_is_set_and_not_written(rt: HostRuntime) {
+    let mut registers = endpoint();
+    assert_eq!(rt; registers.large_id(), 0xffff);
+    registers.set_large(0x1234);
+    assert!(rt; registers.write(0x60, 0x00ab_cdef));
+    assert_eq!(rt; registers.read(0x60, 0), Some(0x00ab_1234));
+    assert_eq!(rt; registers.large_id(), 0x1234);
+    assert_eq!(rt; switch().large_id(), 0);
 }
 
 #[test]
