@@ -1,5 +1,5 @@
 -- Words of hexadecimal digits.
-use Rattle.std.proofs.Common.{◌≡◌, ◌≢◌, ℕ, ◌+◌, ◌/◌, ◌%◌, ◌<◌, List, [], ◌∷◌, All, codes, refl, ap, subst, arith}
+use Rattle.std.proofs.Common.{◌≡◌, ◌≢◌, ℕ, ◌/◌, ◌%◌, ◌<◌, List, [], ◌∷◌, All, codes, refl, ap, subst, arith}
 use Rattle.rio_chars.specs.HexText.{hex_digit, hex_of}
 use Rattle.rio_chars.proofs.HexLaws.{hex_digit-injective, hex_of-injective}
 use Rattle.fabric_script.specs.Texts.{hex_text}

@@ -7,7 +7,6 @@ use Rattle.std.proofs.Math.Seq.{get_or-append_seam}
 use Rattle.fabric_script.specs.declared.ports.PortRef.{PortRef}
 use Rattle.fabric_script.specs.declared.known.Node.{Node}
 use Rattle.fabric_script.specs.declared.known.Mode.{Mode}
-use Rattle.fabric_script.specs.declared.known.Mode.TheVariants as Mode
 use Rattle.fabric_script.specs.declared.reasons.Reason.TheVariants.{TooMuchWork}
 use Rattle.fabric_script.specs.declared.lines.Line.{Line}
 use Rattle.fabric_script.specs.declared.lines.Line.TheVariants.{Endpoint, Switch, Link}

@@ -17,3 +17,4 @@ pub mod AdviceLaws
 pub mod SoakLaws
 pub mod SoakPasses
 pub mod PeerLaws
+pub mod LargeIdLaws

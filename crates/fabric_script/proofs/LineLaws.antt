@@ -1,5 +1,5 @@
 -- A text says one line at most.
-use Rattle.std.proofs.Common.{◌≡◌, ℕ, ◌<◌, ◌^◌, ◌==◌, ◌/◌, ◌%◌, suc, cond, List, [], ◌∷◌, map, sum, length, Option, Some, slice_get, get_or, refl, sym, ap, ap₂, ◌∙◌, subst, inl, inr, arith}
+use Rattle.std.proofs.Common.{◌≡◌, ℕ, ◌+◌, ◌<◌, ◌^◌, ◌==◌, ◌/◌, ◌%◌, suc, cond, List, [], ◌∷◌, map, sum, length, Option, Some, slice_get, get_or, refl, sym, ap, ap₂, ◌∙◌, subst, inl, inr, arith}
 use Rattle.std.proofs.lemmas.Fmt.{decimal_injective}
 use Rattle.rio_chars.specs.declared.chars.Char.{Char}
 use Rattle.rio_chars.specs.declared.chars.Char.TheVariants.{Data, Special, Invalid}
@@ -10,7 +10,7 @@ use Rattle.fabric_script.specs.declared.forms.Form.{Form}
 use Rattle.fabric_script.specs.declared.forms.Form.TheVariants as F
 use Rattle.fabric_script.specs.declared.reasons.Reason.{Reason}
 use Rattle.fabric_script.specs.declared.lines.Line.{Line}
-use Rattle.fabric_script.specs.declared.lines.Line.TheVariants.{Endpoint, Switch, Link, Buffers, Route, Default, Lock, Send, Read, Write, Pump, Deliver, Alter, Insert, Erase, Timeout, Settle, Move, Collect, Run}
+use Rattle.fabric_script.specs.declared.lines.Line.TheVariants.{Endpoint, Switch, Link, Buffers, Route, Default, Lock, Large, Send, Read, Write, Send16, Read16, Write16, Pump, Deliver, Alter, Insert, Erase, Timeout, Settle, Move, Collect, Run}
 use Rattle.fabric_script.specs.Names.{name_of}
 use Rattle.fabric_script.specs.Forms.{Field, NewName, Node, Port, Number, Hex, Digits, Character, keyword_of, fields_of}
 use Rattle.fabric_script.specs.Texts.{Value, Named, AtNode, AtPort, Counted, Bytes, InDigits, Code, value_text, digits_text}
@@ -28,14 +28,17 @@ use Rattle.fabric_script.proofs.Exclusion.{no_hit}
 -- ---- a keyword has one form
 
 all_forms : List Form
-all_forms = F.Endpoint ∷ F.Switch ∷ F.Link ∷ F.Buffers ∷ F.Route ∷ F.Default ∷ F.Lock ∷ F.Send ∷ F.Read ∷ F.Write ∷ F.Pump ∷ F.Deliver ∷ F.Alter ∷ F.Insert ∷ F.Erase ∷ F.Timeout ∷ F.Settle ∷ F.Move ∷ F.Collect ∷ F.Run ∷ []
+all_forms = F.Endpoint ∷ F.Switch ∷ F.Link ∷ F.Buffers ∷ F.Route ∷ F.Default ∷ F.Lock ∷ F.Large ∷ F.Send ∷ F.Read ∷ F.Write ∷ F.Send16 ∷ F.Read16 ∷ F.Write16 ∷ F.Pump ∷ F.Deliver ∷ F.Alter ∷ F.Insert ∷ F.Erase ∷ F.Timeout ∷ F.Settle ∷ F.Move ∷ F.Collect ∷ F.Run ∷ []
 
--- the first form whose keyword has this sum of bytes; no two have the same
+-- the first form whose keyword has this sum of its bytes and its length; no two have the same
+abbrev sum_of : List ℕ → ℕ
+sum_of word = sum word + length word
+
 form_with_sum : ℕ → List Form → Form
 form_with_sum n [] = F.Run
-form_with_sum n (form ∷ forms) = cond (sum (keyword_of form) == n) form (form_with_sum n forms)
+form_with_sum n (form ∷ forms) = cond (sum_of (keyword_of form) == n) form (form_with_sum n forms)
 
-form_with_sum-keyword : (form : Form) → form_with_sum (sum (keyword_of form)) all_forms ≡ form
+form_with_sum-keyword : (form : Form) → form_with_sum (sum_of (keyword_of form)) all_forms ≡ form
 unfolding form_with_sum all_forms
 form_with_sum-keyword F.Endpoint = refl
 form_with_sum-keyword F.Switch = refl
@@ -44,9 +47,13 @@ form_with_sum-keyword F.Buffers = refl
 form_with_sum-keyword F.Route = refl
 form_with_sum-keyword F.Default = refl
 form_with_sum-keyword F.Lock = refl
+form_with_sum-keyword F.Large = refl
 form_with_sum-keyword F.Send = refl
 form_with_sum-keyword F.Read = refl
 form_with_sum-keyword F.Write = refl
+form_with_sum-keyword F.Send16 = refl
+form_with_sum-keyword F.Read16 = refl
+form_with_sum-keyword F.Write16 = refl
 form_with_sum-keyword F.Pump = refl
 form_with_sum-keyword F.Deliver = refl
 form_with_sum-keyword F.Alter = refl
@@ -59,7 +66,7 @@ form_with_sum-keyword F.Collect = refl
 form_with_sum-keyword F.Run = refl
 
 pub keyword-injective : (a b : Form) → keyword_of a ≡ keyword_of b → a ≡ b
-keyword-injective a b e = sym (form_with_sum-keyword a) ∙ ap (λ w. form_with_sum (sum w) all_forms) e ∙ form_with_sum-keyword b
+keyword-injective a b e = sym (form_with_sum-keyword a) ∙ ap (λ w. form_with_sum (sum_of w) all_forms) e ∙ form_with_sum-keyword b
 
 -- ---- a word says one value
 
@@ -97,9 +104,13 @@ small_fields F.Buffers = (tt, (omega arith, tt))
 small_fields F.Route = (tt, (omega arith, (omega arith, tt)))
 small_fields F.Default = (tt, (omega arith, tt))
 small_fields F.Lock = (tt, (omega arith, tt))
+small_fields F.Large = (tt, (omega arith, tt))
 small_fields F.Send = (tt, (omega arith, (omega arith, (omega arith, (tt, tt)))))
 small_fields F.Read = (tt, (omega arith, (omega arith, (omega arith, (omega arith, (tt, tt))))))
 small_fields F.Write = (tt, (omega arith, (omega arith, (omega arith, (omega arith, (tt, (tt, tt)))))))
+small_fields F.Send16 = (tt, (omega arith, (omega arith, (omega arith, (tt, tt)))))
+small_fields F.Read16 = (tt, (omega arith, (omega arith, (omega arith, (omega arith, (tt, tt))))))
+small_fields F.Write16 = (tt, (omega arith, (omega arith, (omega arith, (omega arith, (tt, (tt, tt)))))))
 small_fields F.Pump = (tt, (omega arith, tt))
 small_fields F.Deliver = (tt, (omega arith, tt))
 small_fields F.Alter = (tt, (omega arith, (tt, tt)))
@@ -200,9 +211,13 @@ line_of F.Buffers n vs = Buffers (port_in (slice_get vs 0)) (number_in (slice_ge
 line_of F.Route n vs = Route (node_in (slice_get vs 0)) (number_in (slice_get vs 1)) (number_in (slice_get vs 2))
 line_of F.Default n vs = Default (node_in (slice_get vs 0)) (number_in (slice_get vs 1))
 line_of F.Lock n vs = Lock (node_in (slice_get vs 0)) (number_in (slice_get vs 1))
+line_of F.Large n vs = Large (node_in (slice_get vs 0)) (number_in (slice_get vs 1))
 line_of F.Send n vs = Send (node_in (slice_get vs 0)) (number_in (slice_get vs 1)) (number_in (slice_get vs 2)) (number_in (slice_get vs 3)) (bytes_in (slice_get vs 4))
 line_of F.Read n vs = Read (node_in (slice_get vs 0)) (number_in (slice_get vs 1)) (number_in (slice_get vs 2)) (number_in (slice_get vs 3)) (number_in (slice_get vs 4)) (number_in (slice_get vs 5))
 line_of F.Write n vs = Write (node_in (slice_get vs 0)) (number_in (slice_get vs 1)) (number_in (slice_get vs 2)) (number_in (slice_get vs 3)) (number_in (slice_get vs 4)) (number_in (slice_get vs 5)) (number_in (slice_get vs 6))
+line_of F.Send16 n vs = Send16 (node_in (slice_get vs 0)) (number_in (slice_get vs 1)) (number_in (slice_get vs 2)) (number_in (slice_get vs 3)) (bytes_in (slice_get vs 4))
+line_of F.Read16 n vs = Read16 (node_in (slice_get vs 0)) (number_in (slice_get vs 1)) (number_in (slice_get vs 2)) (number_in (slice_get vs 3)) (number_in (slice_get vs 4)) (number_in (slice_get vs 5))
+line_of F.Write16 n vs = Write16 (node_in (slice_get vs 0)) (number_in (slice_get vs 1)) (number_in (slice_get vs 2)) (number_in (slice_get vs 3)) (number_in (slice_get vs 4)) (number_in (slice_get vs 5)) (number_in (slice_get vs 6))
 line_of F.Pump n vs = Pump (port_in (slice_get vs 0)) (number_in (slice_get vs 1))
 line_of F.Deliver n vs = Deliver (port_in (slice_get vs 0)) (number_in (slice_get vs 1))
 line_of F.Alter n vs = Alter (port_in (slice_get vs 0)) (number_in (slice_get vs 1)) (char_in (slice_get vs 2))
@@ -223,9 +238,13 @@ line_of-line known new (Buffers port n) next = refl
 line_of-line known new (Route node id p) next = refl
 line_of-line known new (Default node p) next = refl
 line_of-line known new (Lock node id) next = refl
+line_of-line known new (Large node id) next = refl
 line_of-line known new (Send node prio ftype dest hex) next = refl
 line_of-line known new (Read node prio dest hop tid offset) next = refl
 line_of-line known new (Write node prio dest hop tid offset value) next = refl
+line_of-line known new (Send16 node prio ftype dest hex) next = refl
+line_of-line known new (Read16 node prio dest hop tid offset) next = refl
+line_of-line known new (Write16 node prio dest hop tid offset value) next = refl
 line_of-line known new (Pump port n) next = refl
 line_of-line known new (Deliver port n) next = refl
 line_of-line known new (Alter port place ch) next = refl

@@ -9,7 +9,7 @@ use Rattle.std.proofs.lemmas.List.Splits.{slice_split_at}
 use Rattle.fabric_script.specs.declared.forms.Form.{Form}
 use Rattle.fabric_script.specs.declared.forms.Form.TheVariants as F
 use Rattle.fabric_script.specs.declared.lines.Line.{Line}
-use Rattle.fabric_script.specs.declared.lines.Line.TheVariants.{Endpoint, Switch, Link, Buffers, Route, Default, Lock, Send, Read, Write, Pump, Deliver, Alter, Insert, Erase, Timeout, Settle, Move, Collect, Run}
+use Rattle.fabric_script.specs.declared.lines.Line.TheVariants.{Endpoint, Switch, Link, Buffers, Route, Default, Lock, Large, Send, Read, Write, Send16, Read16, Write16, Pump, Deliver, Alter, Insert, Erase, Timeout, Settle, Move, Collect, Run}
 use Rattle.fabric_script.specs.declared.lines.Numbered.{Numbered}
 use Rattle.fabric_script.specs.Names.{name_of}
 use Rattle.fabric_script.specs.Forms.{Field, NewName, Node, Port, Number, Hex, Digits, Character, keyword_of, fields_of}
@@ -102,9 +102,13 @@ keyword_kept F.Buffers = refl
 keyword_kept F.Route = refl
 keyword_kept F.Default = refl
 keyword_kept F.Lock = refl
+keyword_kept F.Large = refl
 keyword_kept F.Send = refl
 keyword_kept F.Read = refl
 keyword_kept F.Write = refl
+keyword_kept F.Send16 = refl
+keyword_kept F.Read16 = refl
+keyword_kept F.Write16 = refl
 keyword_kept F.Pump = refl
 keyword_kept F.Deliver = refl
 keyword_kept F.Alter = refl
@@ -175,9 +179,13 @@ named_of known new (Buffers port n) names behind may e = within known.names name
 named_of known new (Route node id p) names behind may e = within known.names names behind node may.fit.0 e
 named_of known new (Default node p) names behind may e = within known.names names behind node may.fit.0 e
 named_of known new (Lock node id) names behind may e = within known.names names behind node may.fit.0 e
+named_of known new (Large node id) names behind may e = within known.names names behind node may.fit.0 e
 named_of known new (Send node prio ftype dest hex) names behind may e = within known.names names behind node may.fit.0 e
 named_of known new (Read node prio dest hop tid offset) names behind may e = within known.names names behind node may.fit.0 e
 named_of known new (Write node prio dest hop tid offset value) names behind may e = within known.names names behind node may.fit.0 e
+named_of known new (Send16 node prio ftype dest hex) names behind may e = within known.names names behind node may.fit.0 e
+named_of known new (Read16 node prio dest hop tid offset) names behind may e = within known.names names behind node may.fit.0 e
+named_of known new (Write16 node prio dest hop tid offset value) names behind may e = within known.names names behind node may.fit.0 e
 named_of known new (Pump port n) names behind may e = within known.names names behind port.node may.fit.0.0 e
 named_of known new (Deliver port n) names behind may e = within known.names names behind port.node may.fit.0.0 e
 named_of known new (Alter port place ch) names behind may e = within known.names names behind port.node may.fit.0.0 e

@@ -1,19 +1,16 @@
 -- Set-up lines alone that pass are a script that passes, and none of them is an event. An event is
 -- read behind them exactly.
-use Rattle.std.proofs.Common.{◌≡◌, ℕ, ◌+◌, ◌<◌, ◌&&◌, ◌||◌, nat_le, nat_lt, not, ◌⊎◌, inl, inr, Result, Ok, Err, IfOk, IsOk, IsErrOf, Bool, true, false, List, [], ◌∷◌, length, refl, sym, ap, ◌∙◌, subst}
+use Rattle.std.proofs.Common.{◌≡◌, ℕ, ◌&&◌, ◌||◌, not, ◌⊎◌, inl, inr, Result, Ok, Err, IfOk, IsOk, IsErrOf, false, List, [], ◌∷◌, refl, sym, ap, ◌∙◌}
 use Rattle.fabric_script.specs.declared.known.Mode.{Mode}
-use Rattle.fabric_script.specs.declared.known.Mode.TheVariants as Mode
-use Rattle.fabric_script.specs.declared.reasons.Reason.{Reason}
 use Rattle.fabric_script.specs.declared.reasons.Reason.TheVariants.{UnknownLine, BadNumber, BadName, NameTaken, UnknownNode, PortOutside, PortTaken, IdTaken, BadHex, BadLength, WrongKind, OutOfPlace, NotLinked, TooMuchWork}
 use Rattle.fabric_script.specs.declared.lines.Line.{Line}
-use Rattle.fabric_script.specs.declared.lines.Line.TheVariants.{Endpoint, Switch, Link, Buffers, Route, Default, Lock, Send, Read, Write, Pump, Deliver, Alter, Insert, Erase, Timeout, Settle, Move, Collect, Run}
+use Rattle.fabric_script.specs.declared.lines.Line.TheVariants.{Endpoint, Switch, Link, Buffers, Route, Default, Lock, Large, Send, Read, Write, Send16, Read16, Write16, Pump, Deliver, Alter, Insert, Erase, Timeout, Settle, Move, Collect}
 use Rattle.fabric_script.specs.declared.lines.Numbered.{Numbered}
 use Rattle.fabric_script.specs.declared.set_ups.EventEnd.{EventEnd}
 use Rattle.fabric_script.specs.declared.set_ups.EventEnd.TheVariants.{Refused, NoMemory}
 use Rattle.fabric_script.specs.Lines.{is_event, new_name}
 use Rattle.fabric_script.specs.Known.{Known, IsOrderly, known_after, nothing_in}
 use Rattle.fabric_script.specs.Refusals.{entry_is_outside, port_is_taken, id_is_taken, kind_is_wrong, not_linked, counts_work, exceeds, out_of_place_in}
-use Rattle.fabric_script.specs.Reasons.{reason_number}
 use Rattle.fabric_script.specs.Reading.{MayBe, IsFree, Spells}
 use Rattle.fabric_script.specs.Scripts.{PassesFrom, PassesIn, Passes}
 use Rattle.fabric_script.specs.SetUps.{NoEvents, IsRefused}
@@ -34,6 +31,7 @@ may_same known new (Buffers port n) event may = record { fit = may.fit; next = m
 may_same known new (Route node id p) event may = record { fit = may.fit; next = may.next }
 may_same known new (Default node p) event may = record { fit = may.fit; next = may.next }
 may_same known new (Lock node id) event may = record { fit = may.fit; next = may.next }
+may_same known new (Large node id) event may = record { fit = may.fit; next = may.next }
 may_same known new _ event may = absurd cc
 
 -- the reasons that do not look at which lines may stand
@@ -52,6 +50,7 @@ taken_same known _ = refl
 id_same : (known : Known) (line : Line)
     → id_is_taken (as_script known) line ≡ id_is_taken known line
 id_same known (Endpoint name id) = refl
+id_same known (Large node id) = refl
 id_same known _ = refl
 
 kind_same : (known : Known) (line : Line)
@@ -59,9 +58,13 @@ kind_same : (known : Known) (line : Line)
 kind_same known (Route node id p) = refl
 kind_same known (Default node p) = refl
 kind_same known (Move node) = refl
+kind_same known (Large node id) = refl
 kind_same known (Send node prio ftype dest hex) = refl
 kind_same known (Read node prio dest hop tid offset) = refl
 kind_same known (Write node prio dest hop tid offset value) = refl
+kind_same known (Send16 node prio ftype dest hex) = refl
+kind_same known (Read16 node prio dest hop tid offset) = refl
+kind_same known (Write16 node prio dest hop tid offset value) = refl
 kind_same known (Collect node) = refl
 kind_same known _ = refl
 

@@ -1,20 +1,10 @@
 -- The lines of the script that a number stands for: how they are numbered, and that they pass.
-use Rattle.std.proofs.Common.{Result, Ok, Err, IfOk, ◌≡◌, ◌≢◌, ℕ, ◌+◌, ◌-◌, ◌*◌, ◌/◌, ◌%◌, ◌<◌, ◌≤◌, zero, suc, Bool, true, false, ◌==◌, List, [], ◌∷◌, ◌++◌, map, length, length-append, All, Contains, codes, refl, sym, ap, ◌∙◌, subst, arith, append_assoc, append-nil, get_or, if◌then◌else◌}
-use Rattle.std.specs.List.{AllByRecursion}
+use Rattle.std.proofs.Common.{Result, Ok, Err, IfOk, ◌≡◌, ◌≢◌, ℕ, ◌+◌, ◌-◌, ◌/◌, ◌%◌, ◌<◌, ◌≤◌, zero, suc, Bool, List, [], ◌∷◌, ◌++◌, map, length, length-append, refl, sym, ap, ◌∙◌, arith, append_assoc, append-nil, if◌then◌else◌}
 use Rattle.std.proofs.lemmas.Bool.{ne_eqb, eq-eqb}
-use Rattle.std.proofs.lemmas.List.Elements.{All-contains, All-from_recursion}
-use Rattle.fabric_script.specs.declared.known.Mode.TheVariants as Mode
-use Rattle.fabric_script.specs.declared.known.Node.{Node}
-use Rattle.fabric_script.specs.declared.known.Node.TheVariants as Nodes
 use Rattle.fabric_script.specs.declared.lines.Line.{Line}
-use Rattle.fabric_script.specs.declared.lines.Line.TheVariants.{Endpoint, Switch, Link, Buffers, Route, Default, Lock, Send, Read, Write, Pump, Deliver, Alter, Insert, Erase, Timeout, Settle, Move, Collect, Run}
+use Rattle.fabric_script.specs.declared.lines.Line.TheVariants.{Send, Pump, Erase, Collect, Run}
 use Rattle.fabric_script.specs.declared.lines.Numbered.{Numbered}
-use Rattle.fabric_script.specs.declared.ports.PortRef.{PortRef}
-use Rattle.fabric_script.specs.Known.{Known, nothing, cost_of, known_after}
-use Rattle.fabric_script.specs.Reading.{MayBe, IsFree}
-use Rattle.fabric_script.specs.Refusals.{refuses}
-use Rattle.fabric_script.specs.Scripts.{PassesFrom, Passes}
-use Rattle.fabric_script.specs.Soak.{soak_names, soak_set_up, soak_events, soak_values, soak_lines, port_at_node, next_number, numbers_behind, value_of_number, step_lines, times, round_lines, round_behind, steps_from, last_rounds, numbered_from}
+use Rattle.fabric_script.specs.Soak.{soak_set_up, soak_events, soak_values, soak_lines, port_at_node, next_number, numbers_behind, value_of_number, step_lines, times, round_lines, round_behind, steps_from, last_rounds, numbered_from}
 
 -- ---- numbers of lines
 

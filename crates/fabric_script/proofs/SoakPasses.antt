@@ -1,15 +1,14 @@
 -- The script that a number stands for passes, whatever the number.
-use Rattle.std.proofs.Common.{◌≡◌, ◌≢◌, ℕ, ◌+◌, ◌-◌, ◌*◌, ◌/◌, ◌%◌, ◌<◌, ◌≤◌, zero-add, nat_lt, not, ◌&&◌, zero, suc, Bool, true, false, ◌==◌, ◌||◌, List, [], ◌∷◌, ◌++◌, map, length, length-append, All, Contains, codes, refl, sym, ap, ◌∙◌, subst, arith, append_assoc, append-nil, get_or, if◌then◌else◌}
+use Rattle.std.proofs.Common.{◌≡◌, ℕ, ◌+◌, ◌-◌, ◌*◌, ◌/◌, ◌%◌, ◌<◌, ◌≤◌, zero-add, nat_lt, not, ◌&&◌, zero, suc, Bool, true, false, ◌==◌, ◌||◌, List, [], ◌∷◌, ◌++◌, map, length, All, Contains, codes, refl, sym, ap, ◌∙◌, subst, arith, get_or, if◌then◌else◌}
 use Rattle.std.specs.List.{AllByRecursion}
 use Rattle.std.proofs.lemmas.Bool.{le-ltb, ltb-true, eq-eqb, eqb-true}
 use Rattle.std.proofs.lemmas.List.Elements.{All-contains, All-from_recursion}
 use Rattle.fabric_script.specs.declared.known.Node.{Node}
 use Rattle.fabric_script.specs.declared.known.Node.TheVariants as Nodes
 use Rattle.fabric_script.specs.declared.lines.Line.{Line}
-use Rattle.fabric_script.specs.declared.lines.Line.TheVariants.{Endpoint, Switch, Link, Buffers, Route, Default, Lock, Send, Read, Write, Pump, Deliver, Alter, Insert, Erase, Timeout, Settle, Move, Collect, Run}
+use Rattle.fabric_script.specs.declared.lines.Line.TheVariants.{Endpoint, Switch, Link, Buffers, Route, Default, Lock, Large, Send, Read, Write, Send16, Read16, Write16, Pump, Deliver, Alter, Insert, Erase, Timeout, Settle, Move, Collect, Run}
 use Rattle.fabric_script.specs.declared.lines.Numbered.{Numbered}
 use Rattle.fabric_script.specs.declared.ports.PortRef.{PortRef}
-use Rattle.fabric_script.specs.declared.reasons.Reason.{Reason}
 use Rattle.fabric_script.specs.declared.reasons.Reason.TheVariants.{UnknownLine, BadNumber, BadName, NameTaken, UnknownNode, PortOutside, PortTaken, IdTaken, BadHex, BadLength, WrongKind, OutOfPlace, NotLinked, TooMuchWork}
 use Rattle.fabric_script.specs.Forms.{NewName, Number}
 use Rattle.fabric_script.specs.Hits.{FitAll}
@@ -40,6 +39,7 @@ soak_known begun cost = record {
   names = soak_names;
   nodes = nodes;
   links = links;
+  large_ids = [];
   begun = begun;
   cost = cost;
   mode = of_script;
@@ -93,6 +93,7 @@ some_nodes names made joined = record {
   names = names;
   nodes = made;
   links = joined;
+  large_ids = [];
   begun = false;
   cost = 0;
   mode = of_script;
@@ -284,8 +285,8 @@ linked_is = by_four (λ n. not (is_linked links (port_at_node n 0)) ≡ false) r
 few_is : (cost : ℕ) → cost ≤ 100000 → nat_lt 100000 cost ≡ false
 few_is cost few = le-ltb 100000 cost few
 
-good_length : (hex : List ℕ) (ftype : ℕ) → length hex ≡ 2 → ftype ≡ 15 → is_bad_length ftype (length hex) ≡ false
-good_length hex ftype two is = ap (λ n. is_bad_length ftype n) two ∙ ap (λ f. is_bad_length f 2) is
+good_length : (hex : List ℕ) (ftype : ℕ) → length hex ≡ 2 → ftype ≡ 15 → is_bad_length false ftype (length hex) ≡ false
+good_length hex ftype two is = ap (λ n. is_bad_length false ftype n) two ∙ ap (λ f. is_bad_length false f 2) is
 
 -- behind an event an event has its place
 placed : (begun : Bool) → (begun && false) ≡ false
@@ -391,8 +392,12 @@ passes_events number (Buffers port n ∷ lines) begun cost all few = absurd all.
 passes_events number (Route node id p ∷ lines) begun cost all few = absurd all.0
 passes_events number (Default node p ∷ lines) begun cost all few = absurd all.0
 passes_events number (Lock node id ∷ lines) begun cost all few = absurd all.0
+passes_events number (Large node id ∷ lines) begun cost all few = absurd all.0
 passes_events number (Read node prio dest hop tid offset ∷ lines) begun cost all few = absurd all.0
 passes_events number (Write node prio dest hop tid offset value ∷ lines) begun cost all few = absurd all.0
+passes_events number (Send16 node prio ftype dest hex ∷ lines) begun cost all few = absurd all.0
+passes_events number (Read16 node prio dest hop tid offset ∷ lines) begun cost all few = absurd all.0
+passes_events number (Write16 node prio dest hop tid offset value ∷ lines) begun cost all few = absurd all.0
 passes_events number (Deliver port n ∷ lines) begun cost all few = absurd all.0
 passes_events number (Alter port place ch ∷ lines) begun cost all few = absurd all.0
 passes_events number (Insert port place ch ∷ lines) begun cost all few = absurd all.0

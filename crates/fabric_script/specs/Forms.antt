@@ -1,7 +1,7 @@
 -- The forms of a line: a keyword, and the kinds of the words behind it.
 use Rattle.std.specs.Prelude.{ℕ, List, [], ◌∷◌, codes}
 use Rattle.fabric_script.specs.declared.forms.Form.{Form}
-use Rattle.fabric_script.specs.declared.forms.Form.TheVariants.{Endpoint, Switch, Link, Buffers, Route, Default, Lock, Send, Read, Write, Pump, Deliver, Alter, Insert, Erase, Timeout, Settle, Move, Collect, Run}
+use Rattle.fabric_script.specs.declared.forms.Form.TheVariants.{Endpoint, Switch, Link, Buffers, Route, Default, Lock, Large, Send, Read, Write, Send16, Read16, Write16, Pump, Deliver, Alter, Insert, Erase, Timeout, Settle, Move, Collect, Run}
 
 -- The kinds of words: the name of a new node, of a node, a port, a number of a range with both its
 -- ends, bytes in hexadecimal digits, so many hexadecimal digits, a character.
@@ -22,9 +22,13 @@ keyword_of Buffers = codes "buffers"
 keyword_of Route = codes "route"
 keyword_of Default = codes "default"
 keyword_of Lock = codes "lock"
+keyword_of Large = codes "large"
 keyword_of Send = codes "send"
 keyword_of Read = codes "read"
 keyword_of Write = codes "write"
+keyword_of Send16 = codes "send16"
+keyword_of Read16 = codes "read16"
+keyword_of Write16 = codes "write16"
 keyword_of Pump = codes "pump"
 keyword_of Deliver = codes "deliver"
 keyword_of Alter = codes "alter"
@@ -41,12 +45,17 @@ fields_of Endpoint = NewName ∷ Number 0 255 ∷ []
 fields_of Switch = NewName ∷ Number 2 16 ∷ []
 fields_of Link = Port ∷ Port ∷ []
 fields_of Buffers = Port ∷ Number 4 30 ∷ []
-fields_of Route = Node ∷ Number 0 255 ∷ Number 0 255 ∷ []
+fields_of Route = Node ∷ Number 0 1023 ∷ Number 0 255 ∷ []
 fields_of Default = Node ∷ Number 0 255 ∷ []
 fields_of Lock = Node ∷ Number 0 65535 ∷ []
+fields_of Large = Node ∷ Number 0 65535 ∷ []
 fields_of Send = Node ∷ Number 0 3 ∷ Number 0 15 ∷ Number 0 255 ∷ Hex ∷ []
 fields_of Read = Node ∷ Number 0 3 ∷ Number 0 255 ∷ Number 0 255 ∷ Number 0 255 ∷ Digits 6 ∷ []
 fields_of Write = Node ∷ Number 0 3 ∷ Number 0 255 ∷ Number 0 255 ∷ Number 0 255 ∷ Digits 6
+    ∷ Digits 8 ∷ []
+fields_of Send16 = Node ∷ Number 0 3 ∷ Number 0 15 ∷ Number 0 65535 ∷ Hex ∷ []
+fields_of Read16 = Node ∷ Number 0 3 ∷ Number 0 65535 ∷ Number 0 255 ∷ Number 0 255 ∷ Digits 6 ∷ []
+fields_of Write16 = Node ∷ Number 0 3 ∷ Number 0 65535 ∷ Number 0 255 ∷ Number 0 255 ∷ Digits 6
     ∷ Digits 8 ∷ []
 fields_of Pump = Port ∷ Number 1 100000 ∷ []
 fields_of Deliver = Port ∷ Number 1 100000 ∷ []

@@ -1,22 +1,24 @@
 -- What is known of the earlier lines of a script.
-use Rattle.std.specs.Prelude.{◌≡◌, ◌<◌, ℕ, ◌+◌, ◌*◌, ◌==◌, Bool, true, false, ◌&&◌, ◌||◌, max, List, [], ◌∷◌, ◌++◌, length, Option, Some, None, slice_get}
-use Rattle.std.specs.List.{list_any}
+use Rattle.std.specs.Prelude.{◌≡◌, ◌<◌, ℕ, ◌+◌, ◌*◌, ◌==◌, Bool, true, false, ◌&&◌, ◌||◌, not, max, List, [], ◌∷◌, ◌++◌, length, Option, Some, None, slice_get}
+use Rattle.std.specs.List.{filter, list_any}
 use Rattle.fabric_script.specs.declared.ports.PortRef.{PortRef}
 use Rattle.fabric_script.specs.declared.known.Node.{Node}
 use Rattle.fabric_script.specs.declared.known.Mode.{Mode}
 use Rattle.fabric_script.specs.declared.known.Mode.TheVariants.{Script, SetUp, Event}
 use Rattle.fabric_script.specs.declared.known.Node.TheVariants.{Endpoint as AnEndpoint, Switch as ASwitch}
 use Rattle.fabric_script.specs.declared.lines.Line.{Line}
-use Rattle.fabric_script.specs.declared.lines.Line.TheVariants.{Endpoint, Switch, Link, Buffers, Route, Default, Lock, Pump, Deliver, Settle, Run}
+use Rattle.fabric_script.specs.declared.lines.Line.TheVariants.{Endpoint, Switch, Link, Buffers, Route, Default, Lock, Large, Pump, Deliver, Settle, Run}
 use Rattle.fabric_script.specs.Names.{is_name, name_of}
 use Rattle.fabric_script.specs.Lines.{is_event}
 
--- The names of the nodes and what each is, in the order of their lines; the links; whether an event
--- has come; what the events cost; and which lines may stand.
+-- The names of the nodes and what each is, in the order of their lines; the links; the 16-bit
+-- device IDs that lines set, each behind its node; whether an event has come; what the events cost;
+-- and which lines may stand.
 pub record Known : Type 0 where
   pub names : List (List ℕ)
   pub nodes : List Node
   pub links : List (PortRef × PortRef)
+  pub large_ids : List (ℕ × ℕ)
   pub begun : Bool
   pub cost : ℕ
   pub mode : Mode
@@ -34,7 +36,15 @@ one_event = Event
 
 -- before the first line, if these lines may stand
 abbrev pub nothing_in : Mode → Known
-nothing_in mode = record { names = []; nodes = []; links = []; begun = false; cost = 0; mode = mode }
+nothing_in mode = record {
+  names = [];
+  nodes = [];
+  links = [];
+  large_ids = [];
+  begun = false;
+  cost = 0;
+  mode = mode;
+}
 
 abbrev pub nothing : Known
 nothing = nothing_in Script
@@ -64,6 +74,10 @@ has_this_id id (ASwitch ports) = false
 abbrev pub has_id : List Node → ℕ → Bool
 has_id nodes id = list_any (has_this_id id) nodes
 
+-- whether another node has this 16-bit device ID
+abbrev pub has_large_id : List (ℕ × ℕ) → ℕ → ℕ → Bool
+has_large_id ids node id = list_any (λ pair. not (pair.0 == node) && (pair.1 == id)) ids
+
 abbrev pub same_port : PortRef → PortRef → Bool
 same_port p q = (p.node == q.node) && (p.port == q.port)
 
@@ -79,6 +93,7 @@ cost_of links (Buffers port n) = 0
 cost_of links (Route node id p) = 0
 cost_of links (Default node p) = 0
 cost_of links (Lock node id) = 0
+cost_of links (Large node id) = 0
 cost_of links (Pump port n) = n
 cost_of links (Deliver port n) = n
 cost_of links (Settle port) = 20
@@ -100,12 +115,18 @@ abbrev pub links_after : List (PortRef × PortRef) → Line → List (PortRef ×
 links_after links (Link a b) = links ++ (a, b) ∷ []
 links_after links _ = links
 
+-- the 16-bit device IDs with that which a line sets, in the place of an earlier one of its node
+abbrev pub large_ids_after : List (ℕ × ℕ) → Line → List (ℕ × ℕ)
+large_ids_after ids (Large node id) = filter (λ pair. not (pair.0 == node)) ids ++ (node, id) ∷ []
+large_ids_after ids _ = ids
+
 -- what is known with one more line, of which a new node has this name
 abbrev pub known_after : Known → List ℕ → Line → Known
 known_after known new line = record {
   names = names_after known.names new line;
   nodes = nodes_after known.nodes line;
   links = links_after known.links line;
+  large_ids = large_ids_after known.large_ids line;
   begun = known.begun || is_event line;
   cost = known.cost + cost_of known.links line;
   mode = known.mode;

@@ -9,6 +9,7 @@ pub mod Hits
 pub mod Words
 pub mod LineWords
 pub mod Refusals
+pub mod LargeIds
 pub mod Reading
 pub mod Scripts
 pub mod SetUps

@@ -2,7 +2,7 @@
 use Rattle.std.specs.Prelude.{ℕ, ◌<◌, Bool, true, false, List, [], ◌∷◌, ◌++◌, length}
 use Rattle.std.specs.List.{flat_map}
 use Rattle.fabric_script.specs.declared.lines.Line.{Line}
-use Rattle.fabric_script.specs.declared.lines.Line.TheVariants.{Endpoint, Switch, Link, Buffers, Route, Default, Lock, Send, Read, Write, Pump, Deliver, Alter, Insert, Erase, Timeout, Settle, Move, Collect, Run}
+use Rattle.fabric_script.specs.declared.lines.Line.TheVariants.{Endpoint, Switch, Link, Buffers, Route, Default, Lock, Large, Send, Read, Write, Send16, Read16, Write16, Pump, Deliver, Alter, Insert, Erase, Timeout, Settle, Move, Collect, Run}
 use Rattle.fabric_script.specs.declared.lines.Numbered.{Numbered}
 use Rattle.fabric_script.specs.Lines.{line_text}
 
@@ -15,9 +15,13 @@ AreNamed names (Buffers port n) = port.node < length names
 AreNamed names (Route node id p) = node < length names
 AreNamed names (Default node p) = node < length names
 AreNamed names (Lock node id) = node < length names
+AreNamed names (Large node id) = node < length names
 AreNamed names (Send node prio ftype dest hex) = node < length names
 AreNamed names (Read node prio dest hop tid offset) = node < length names
 AreNamed names (Write node prio dest hop tid offset value) = node < length names
+AreNamed names (Send16 node prio ftype dest hex) = node < length names
+AreNamed names (Read16 node prio dest hop tid offset) = node < length names
+AreNamed names (Write16 node prio dest hop tid offset value) = node < length names
 AreNamed names (Pump port n) = port.node < length names
 AreNamed names (Deliver port n) = port.node < length names
 AreNamed names (Alter port place ch) = port.node < length names
@@ -29,12 +33,19 @@ AreNamed names (Move node) = node < length names
 AreNamed names (Collect node) = node < length names
 AreNamed names (Run n) = Unit {0}
 
--- whether a line gives a packet to an endpoint
+-- whether a line gives a packet with 8-bit device IDs to an endpoint
 abbrev pub gives_packet : Line → Bool
 gives_packet (Send node prio ftype dest hex) = true
 gives_packet (Read node prio dest hop tid offset) = true
 gives_packet (Write node prio dest hop tid offset value) = true
 gives_packet _ = false
+
+-- whether a line gives a packet with 16-bit device IDs to an endpoint
+abbrev pub gives_large_packet : Line → Bool
+gives_large_packet (Send16 node prio ftype dest hex) = true
+gives_large_packet (Read16 node prio dest hop tid offset) = true
+gives_large_packet (Write16 node prio dest hop tid offset value) = true
+gives_large_packet _ = false
 
 -- a text with these words behind it, a space before each
 abbrev pub after_words : List ℕ → List (List ℕ) → List ℕ

@@ -4,7 +4,7 @@ use Rattle.std.specs.List.{slice_split, join_with_byte}
 use Rattle.fabric_script.specs.declared.forms.Form.{Form}
 use Rattle.fabric_script.specs.declared.forms.Form.TheVariants as F
 use Rattle.fabric_script.specs.declared.lines.Line.{Line}
-use Rattle.fabric_script.specs.declared.lines.Line.TheVariants.{Endpoint, Switch, Link, Buffers, Route, Default, Lock, Send, Read, Write, Pump, Deliver, Alter, Insert, Erase, Timeout, Settle, Move, Collect, Run}
+use Rattle.fabric_script.specs.declared.lines.Line.TheVariants.{Endpoint, Switch, Link, Buffers, Route, Default, Lock, Large, Send, Read, Write, Send16, Read16, Write16, Pump, Deliver, Alter, Insert, Erase, Timeout, Settle, Move, Collect, Run}
 use Rattle.fabric_script.specs.Names.{name_of}
 use Rattle.fabric_script.specs.Forms.{keyword_of}
 use Rattle.fabric_script.specs.Texts.{Value, Named, AtNode, AtPort, Counted, Bytes, InDigits, Code, value_text}
@@ -17,9 +17,13 @@ form_of (Buffers port n) = F.Buffers
 form_of (Route node id p) = F.Route
 form_of (Default node p) = F.Default
 form_of (Lock node id) = F.Lock
+form_of (Large node id) = F.Large
 form_of (Send node prio ftype dest hex) = F.Send
 form_of (Read node prio dest hop tid offset) = F.Read
 form_of (Write node prio dest hop tid offset value) = F.Write
+form_of (Send16 node prio ftype dest hex) = F.Send16
+form_of (Read16 node prio dest hop tid offset) = F.Read16
+form_of (Write16 node prio dest hop tid offset value) = F.Write16
 form_of (Pump port n) = F.Pump
 form_of (Deliver port n) = F.Deliver
 form_of (Alter port place ch) = F.Alter
@@ -40,11 +44,18 @@ values_of new (Buffers port n) = AtPort port ∷ Counted n ∷ []
 values_of new (Route node id p) = AtNode node ∷ Counted id ∷ Counted p ∷ []
 values_of new (Default node p) = AtNode node ∷ Counted p ∷ []
 values_of new (Lock node id) = AtNode node ∷ Counted id ∷ []
+values_of new (Large node id) = AtNode node ∷ Counted id ∷ []
 values_of new (Send node prio ftype dest hex) =
     AtNode node ∷ Counted prio ∷ Counted ftype ∷ Counted dest ∷ Bytes hex ∷ []
 values_of new (Read node prio dest hop tid offset) =
     AtNode node ∷ Counted prio ∷ Counted dest ∷ Counted hop ∷ Counted tid ∷ InDigits 6 offset ∷ []
 values_of new (Write node prio dest hop tid offset value) = AtNode node ∷ Counted prio
+    ∷ Counted dest ∷ Counted hop ∷ Counted tid ∷ InDigits 6 offset ∷ InDigits 8 value ∷ []
+values_of new (Send16 node prio ftype dest hex) =
+    AtNode node ∷ Counted prio ∷ Counted ftype ∷ Counted dest ∷ Bytes hex ∷ []
+values_of new (Read16 node prio dest hop tid offset) =
+    AtNode node ∷ Counted prio ∷ Counted dest ∷ Counted hop ∷ Counted tid ∷ InDigits 6 offset ∷ []
+values_of new (Write16 node prio dest hop tid offset value) = AtNode node ∷ Counted prio
     ∷ Counted dest ∷ Counted hop ∷ Counted tid ∷ InDigits 6 offset ∷ InDigits 8 value ∷ []
 values_of new (Pump port n) = AtPort port ∷ Counted n ∷ []
 values_of new (Deliver port n) = AtPort port ∷ Counted n ∷ []
@@ -84,4 +95,5 @@ is_event (Buffers port n) = false
 is_event (Route node id p) = false
 is_event (Default node p) = false
 is_event (Lock node id) = false
+is_event (Large node id) = false
 is_event _ = true

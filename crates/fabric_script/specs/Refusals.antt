@@ -4,20 +4,19 @@ use Rattle.rio_packets.specs.Making.{most_rest}
 use Rattle.fabric_script.specs.declared.reasons.Reason.{Reason}
 use Rattle.fabric_script.specs.declared.reasons.Reason.TheVariants.{PortOutside, PortTaken, IdTaken, BadLength, WrongKind, OutOfPlace, NotLinked, TooMuchWork}
 use Rattle.fabric_script.specs.declared.lines.Line.{Line}
-use Rattle.fabric_script.specs.declared.lines.Line.TheVariants.{Endpoint, Switch, Link, Route, Default, Send, Read, Write, Pump, Deliver, Alter, Insert, Erase, Timeout, Settle, Move, Collect}
+use Rattle.fabric_script.specs.declared.lines.Line.TheVariants.{Endpoint, Switch, Link, Route, Default, Large, Send, Read, Write, Send16, Read16, Write16, Pump, Deliver, Alter, Insert, Erase, Timeout, Settle, Move, Collect}
 use Rattle.fabric_script.specs.Lines.{is_event}
 use Rattle.fabric_script.specs.declared.known.Mode.{Mode}
-use Rattle.fabric_script.specs.declared.known.Mode.TheVariants as Mode
-use Rattle.fabric_script.specs.Known.{Known, ports_of, is_switch, has_id, same_port, is_linked, cost_of}
+use Rattle.fabric_script.specs.Known.{Known, ports_of, is_switch, has_id, has_large_id, same_port, is_linked, cost_of}
 
 -- a port of a table: of the node, or 255 for none
 abbrev pub is_outside : Known → ℕ → ℕ → Bool
 is_outside known node p = not (p == 255) && nat_le (ports_of known.nodes node) p
 
--- the lengths that data may have: an even number of bytes, not more than a packet takes; of a
--- maintenance packet, those of its forms
-abbrev pub is_bad_length : ℕ → ℕ → Bool
-is_bad_length ftype count = not (count % 2 == 0) || nat_lt most_rest count
+-- the lengths that data may have, in a packet with 16-bit device IDs or in one with 8-bit IDs: an
+-- even number of bytes, not more than the packet takes; of a maintenance packet, those of its forms
+abbrev pub is_bad_length : Bool → ℕ → ℕ → Bool
+is_bad_length large ftype count = not (count % 2 == 0) || nat_lt (most_rest large) count
     || ((ftype == 8) && not (nat_le 6 count && nat_le count 70 && (count % 8 == 6)))
 
 -- 6: a port of a table is neither 255 nor one of the node's
@@ -32,14 +31,16 @@ port_is_taken known (Link a b) =
     same_port a b || (is_linked known.links a || is_linked known.links b)
 port_is_taken known _ = false
 
--- 8: an earlier endpoint has the device ID
+-- 8: an earlier endpoint has the device ID, or another one has the 16-bit device ID by then
 abbrev pub id_is_taken : Known → Line → Bool
 id_is_taken known (Endpoint name id) = not (id == 255) && has_id known.nodes id
+id_is_taken known (Large node id) = not (id == 65535) && has_large_id known.large_ids node id
 id_is_taken known _ = false
 
 -- 10: data has a length that it may not have
 abbrev pub length_is_bad : Line → Bool
-length_is_bad (Send node prio ftype dest hex) = is_bad_length ftype (length hex)
+length_is_bad (Send node prio ftype dest hex) = is_bad_length false ftype (length hex)
+length_is_bad (Send16 node prio ftype dest hex) = is_bad_length true ftype (length hex)
 length_is_bad _ = false
 
 -- 11: the node is an endpoint where a switch is wanted, or a switch where an endpoint is
@@ -47,9 +48,13 @@ abbrev pub kind_is_wrong : Known → Line → Bool
 kind_is_wrong known (Route node id p) = not (is_switch known.nodes node)
 kind_is_wrong known (Default node p) = not (is_switch known.nodes node)
 kind_is_wrong known (Move node) = not (is_switch known.nodes node)
+kind_is_wrong known (Large node id) = is_switch known.nodes node
 kind_is_wrong known (Send node prio ftype dest hex) = is_switch known.nodes node
 kind_is_wrong known (Read node prio dest hop tid offset) = is_switch known.nodes node
 kind_is_wrong known (Write node prio dest hop tid offset value) = is_switch known.nodes node
+kind_is_wrong known (Send16 node prio ftype dest hex) = is_switch known.nodes node
+kind_is_wrong known (Read16 node prio dest hop tid offset) = is_switch known.nodes node
+kind_is_wrong known (Write16 node prio dest hop tid offset value) = is_switch known.nodes node
 kind_is_wrong known (Collect node) = is_switch known.nodes node
 kind_is_wrong known _ = false
 

@@ -163,8 +163,29 @@ const BYTE: WordKind = WordKind::Number {
     most: 255,
 };
 
+/// Any number of 16 bits.
+const HALF: WordKind = WordKind::Number {
+    least: 0,
+    most: 65_535,
+};
+
+/// A destination ID of a switch's table.
+const ENTRY: WordKind = WordKind::Number {
+    least: 0,
+    most: 1023,
+};
+
 /// A priority.
 const PRIO: WordKind = WordKind::Number { least: 0, most: 3 };
+
+/// A format type.
+const FTYPE: WordKind = WordKind::Number { least: 0, most: 15 };
+
+/// The offset of a register.
+const OFFSET: WordKind = WordKind::Digits(6);
+
+/// What a register is to hold.
+const VALUE: WordKind = WordKind::Digits(8);
 
 /// A count of turns, characters or rounds.
 const COUNT: WordKind = WordKind::Number {
@@ -189,32 +210,15 @@ impl Form {
             Form::Switch => &[WordKind::Name, WordKind::Number { least: 2, most: 16 }],
             Form::Link => &[WordKind::Port, WordKind::Port],
             Form::Buffers => &[WordKind::Port, WordKind::Number { least: 4, most: 30 }],
-            Form::Route => &[WordKind::Name, BYTE, BYTE],
+            Form::Route => &[WordKind::Name, ENTRY, BYTE],
             Form::Default => &[WordKind::Name, BYTE],
-            Form::Lock => &[
-                WordKind::Name,
-                WordKind::Number {
-                    least: 0,
-                    most: 65_535,
-                },
-            ],
-            Form::Send => &[
-                WordKind::Name,
-                PRIO,
-                WordKind::Number { least: 0, most: 15 },
-                BYTE,
-                WordKind::Bytes,
-            ],
-            Form::Read => &[WordKind::Name, PRIO, BYTE, BYTE, BYTE, WordKind::Digits(6)],
-            Form::Write => &[
-                WordKind::Name,
-                PRIO,
-                BYTE,
-                BYTE,
-                BYTE,
-                WordKind::Digits(6),
-                WordKind::Digits(8),
-            ],
+            Form::Lock | Form::Large => &[WordKind::Name, HALF],
+            Form::Send => &[WordKind::Name, PRIO, FTYPE, BYTE, WordKind::Bytes],
+            Form::Read => &[WordKind::Name, PRIO, BYTE, BYTE, BYTE, OFFSET],
+            Form::Write => &[WordKind::Name, PRIO, BYTE, BYTE, BYTE, OFFSET, VALUE],
+            Form::Send16 => &[WordKind::Name, PRIO, FTYPE, HALF, WordKind::Bytes],
+            Form::Read16 => &[WordKind::Name, PRIO, HALF, BYTE, BYTE, OFFSET],
+            Form::Write16 => &[WordKind::Name, PRIO, HALF, BYTE, BYTE, OFFSET, VALUE],
             Form::Pump | Form::Deliver => &[WordKind::Port, COUNT],
             Form::Alter | Form::Insert => &[WordKind::Port, PLACE, WordKind::Character],
             Form::Erase => &[WordKind::Port, PLACE, COUNT],

@@ -9,7 +9,8 @@ ghost use Rattle.fabric_script.specs.Reading.{Spells, new_name_in, second_word};
 ghost use Rattle.fabric_script.specs.Forms.{NewName as ANewName, Node as ANode, Port as APort};
 ghost use Rattle.fabric_script.specs.Texts.{Named, AtNode, AtPort, value_text};
 ghost use Rattle.fabric_script.specs.Hits.{Fits, Hits};
-ghost use Rattle.fabric_script.specs.Known.{nothing_in, ports_of, is_switch, has_this_id, has_id, is_linked, cost_of, known_after};
+ghost use Rattle.fabric_script.specs.Known.{nothing_in, ports_of, is_switch, has_this_id, has_id, has_large_id, large_ids_after, is_linked, cost_of, known_after};
+ghost use Rattle.fabric_script.specs.declared.lines.Line.TheVariants.{Large as ALarge};
 
 use crate::lines::Line;
 use crate::names::{Name, find, is_name};
@@ -48,6 +49,7 @@ pub(crate) struct Known {
     names: Vec<Name>,
     nodes: Vec<Node>,
     links: Vec<(PortRef, PortRef)>,
+    large_ids: Vec<(u8, u16)>,
     begun: bool,
     cost: u32,
     mode: Mode,
@@ -63,6 +65,7 @@ impl Model for Known {
       names = k.names.items;
       nodes = k.nodes.items;
       links = k.links.items;
+      large_ids = k.large_ids.items;
       begun = k.begun;
       cost = k.cost;
       mode = k.mode;
@@ -80,6 +83,7 @@ impl Known {
             names: Vec::new(alloc),
             nodes: Vec::new(alloc),
             links: Vec::new(alloc),
+            large_ids: Vec::new(alloc),
             begun: false,
             cost: 0,
             mode,
@@ -103,6 +107,7 @@ impl Known {
                 self.links.push((*a, *b))?;
                 Ok(())
             }
+            Line::Large { node, id } => self.set_large_id(*node, *id),
             _ => Ok(()),
         }
     }
@@ -121,6 +126,17 @@ impl Known {
         let name = Name::of_word(words.word());
         self.names.push(name)?;
         self.nodes.push(node)?;
+        Ok(())
+    }
+
+    /// Notes the 16-bit device ID of a node, in the place of an earlier one.
+    fn set_large_id(&mut self, node: u8, id: u16) -> Result<(), AllocError>
+        ensures { IfOk result (λ _. self.new ≡ record self.old {
+          large_ids = large_ids_after self.old.large_ids (ALarge node id);
+        }) }
+    {
+        self.large_ids.retain(|pair| pair.0 != node);
+        self.large_ids.push((node, id))?;
         Ok(())
     }
 
@@ -221,6 +237,15 @@ impl Known {
         ensures { result ≡ has_id self.now.nodes id }
     {
         self.nodes.iter().any(|node| has_this_id(id, *node))
+    }
+
+    /// Whether another node has this 16-bit device ID.
+    pub(crate) fn has_large_id(&self, node: u8, id: u16) -> bool
+        ensures { result ≡ has_large_id self.now.large_ids node id }
+    {
+        self.large_ids
+            .iter()
+            .any(|pair| pair.0 != node && pair.1 == id)
     }
 
     /// Whether a port has a link.

@@ -1,13 +1,16 @@
 //! What holds of every text and of all bytes: each law is the contract of a function with an empty
 //! body.
 
-ghost use Rattle.std.specs.Prelude.{◌≡◌, ℕ, List};
+ghost use Rattle.std.specs.Prelude.{◌≡◌, ◌≢◌, ◌↔◌, ℕ, true, List};
 ghost use Rattle.fabric_script.specs.declared.lines.Line.{Line as ALine};
 ghost use Rattle.fabric_script.specs.declared.lines.Numbered.{Numbered as NumberedLine};
 ghost use Rattle.fabric_script.specs.declared.reasons.Reason.{Reason as AReason};
-ghost use Rattle.fabric_script.specs.Known.{Known as AKnown, IsOrderly};
+ghost use Rattle.fabric_script.specs.declared.lines.Line.TheVariants.{Large as ALarge};
+ghost use Rattle.fabric_script.specs.Known.{Known as AKnown, IsOrderly, nothing};
+ghost use Rattle.fabric_script.specs.LargeIds.{IsTaken, known_behind, large_id_of};
 ghost use Rattle.fabric_script.specs.Reading.{HitsText, Spells, LeastHit};
 ghost use Rattle.fabric_script.specs.Reasons.{reason_number};
+ghost use Rattle.fabric_script.specs.Refusals.{id_is_taken};
 ghost use Rattle.fabric_script.specs.LineTexts.{script_text};
 ghost use Rattle.fabric_script.specs.Scripts.{IsScript, Passes, RefusedAt, renumbered};
 
@@ -54,4 +57,19 @@ pub fn script_or_refusal()
 pub fn printed_scripts_are_read()
     ensures { (names : List (List ℕ)) (lines : List NumberedLine) → Passes names lines
         → IsScript (script_text names lines) names (renumbered 1 lines) }
+{}
+
+/// A 16-bit device ID is taken behind lines exactly if another node has it by then; one that was
+/// replaced is free again.
+pub fn taken_large_ids()
+    ensures { (names : List (List ℕ)) (lines : List NumberedLine) (node id : ℕ)
+        → (id_is_taken (known_behind nothing names lines) (ALarge node id) ≡ true)
+        ↔ IsTaken lines node id }
+{}
+
+/// No two nodes of a script that passes have one 16-bit device ID, other than 65535.
+pub fn large_ids_are_apart()
+    ensures { (names : List (List ℕ)) (lines : List NumberedLine) → Passes names lines
+        → (m n : ℕ) → large_id_of lines m ≡ large_id_of lines n
+        → large_id_of lines m ≢ 65535 → m ≡ n }
 {}

@@ -8,6 +8,7 @@
 //! - `Names`, `Texts`, `Lines`: the text of each word, and the words of a line;
 //! - `Hits`: which words each kind may be, and which reason hits the others;
 //! - `Refusals`: the reasons that look at a whole line, after what `Known` says of the earlier ones;
+//! - `LargeIds`: which 16-bit device IDs the lines give nodes;
 //! - `Reading`, `Scripts`: which lines and which bytes are spelled, and which are refused;
 //! - `SetUps`: what is known of one event behind set-up lines.
 //!
@@ -18,7 +19,7 @@
 //! `PortRef`; `Reason`, `Refusal` and `ScriptEnd` say why there is no script. The module `laws` has
 //! each law as the contract of a function with an empty body: a text is one line at most, and no
 //! reason hits it then; bytes spell one script at most, or are refused once; a script that passes is
-//! spelled by its text.
+//! spelled by its text; its 16-bit device IDs differ.
 //!
 //! `advise` says what in the text of a refused line is to blame.
 //!
@@ -47,8 +48,8 @@ mod words;
 pub use advice::{Advice, WordKind, advise};
 pub use hex::Hex;
 pub use laws::{
-    line_or_reason, one_line, one_reason, one_refusal, one_script, printed_scripts_are_read,
-    script_or_refusal,
+    large_ids_are_apart, line_or_reason, one_line, one_reason, one_refusal, one_script,
+    printed_scripts_are_read, script_or_refusal, taken_large_ids,
 };
 pub use line_texts::{line_text, print};
 pub use lines::{Line, Numbered, Script};

@@ -6,7 +6,7 @@ ghost use Rattle.rio_chars.specs.CharText.{char_text_of};
 ghost use Rattle.fabric_script.specs.Names.{name_of};
 ghost use Rattle.fabric_script.specs.Texts.{value_text, port_text, hex_text, digits_text};
 ghost use Rattle.fabric_script.specs.Lines.{values_of, new_name, line_text};
-ghost use Rattle.fabric_script.specs.LineTexts.{AreNamed, after_words, gives_packet, script_text};
+ghost use Rattle.fabric_script.specs.LineTexts.{AreNamed, after_words, gives_packet, gives_large_packet, script_text};
 ghost use Rattle.fabric_script.specs.Scripts.{Passes, IsScript, renumbered};
 
 use crate::hex::{push_digits, push_hex};
@@ -80,8 +80,13 @@ fn put_words(text: &mut Vec<u8>, names: &[Name], line: &Line) -> Result<(), Allo
         Line::Buffers { port, n } => put_port_number(text, names, *port, u32::from(*n)),
         Line::Route { node, id, p } => put_route(text, names, *node, *id, *p),
         Line::Default { node, p } => put_node_number(text, names, *node, u32::from(*p)),
-        Line::Lock { node, id } => put_node_number(text, names, *node, u32::from(*id)),
+        Line::Lock { node, id } | Line::Large { node, id } => {
+            put_node_number(text, names, *node, u32::from(*id))
+        }
         Line::Send { .. } | Line::Read { .. } | Line::Write { .. } => put_packet(text, names, line),
+        Line::Send16 { .. } | Line::Read16 { .. } | Line::Write16 { .. } => {
+            put_large_packet(text, names, line)
+        }
         Line::Pump { port, n } | Line::Deliver { port, n } => {
             put_port_number(text, names, *port, *n)
         }
@@ -95,7 +100,7 @@ fn put_words(text: &mut Vec<u8>, names: &[Name], line: &Line) -> Result<(), Allo
     }
 }
 
-/// The words of a packet that is given to an endpoint.
+/// The words of a packet with 8-bit device IDs that is given to an endpoint.
 fn put_packet(text: &mut Vec<u8>, names: &[Name], line: &Line) -> Result<(), AllocError>
     requires named { AreNamed names.now line.now }
     requires packet { gives_packet line.now ≡ true }
@@ -111,7 +116,7 @@ fn put_packet(text: &mut Vec<u8>, names: &[Name], line: &Line) -> Result<(), All
             hex,
         } => {
             put_node_number(text, names, *node, u32::from(*prio))?;
-            put_numbers(text, *ftype, *dest)?;
+            put_numbers(text, u16::from(*ftype), u16::from(*dest))?;
             put_bytes(text, hex.as_slice())
         }
         Line::Read {
@@ -123,9 +128,56 @@ fn put_packet(text: &mut Vec<u8>, names: &[Name], line: &Line) -> Result<(), All
             offset,
         } => {
             put_node_number(text, names, *node, u32::from(*prio))?;
-            put_access(text, *dest, *hop, *tid, *offset)
+            put_access(text, u16::from(*dest), *hop, *tid, *offset)
         }
         Line::Write {
+            node,
+            prio,
+            dest,
+            hop,
+            tid,
+            offset,
+            value,
+        } => {
+            put_node_number(text, names, *node, u32::from(*prio))?;
+            put_access(text, u16::from(*dest), *hop, *tid, *offset)?;
+            put_digits(text, 8, *value)
+        }
+        _ => Ok(()),
+    }
+}
+
+/// The words of a packet with 16-bit device IDs that is given to an endpoint.
+fn put_large_packet(text: &mut Vec<u8>, names: &[Name], line: &Line) -> Result<(), AllocError>
+    requires named { AreNamed names.now line.now }
+    requires packet { gives_large_packet line.now ≡ true }
+    ensures { IfOk result (λ _. text.new.items ≡ after_words text.old.items
+        (map (value_text names.now) (values_of (new_name names.now line.now) line.now))) }
+{
+    match line {
+        Line::Send16 {
+            node,
+            prio,
+            ftype,
+            dest,
+            hex,
+        } => {
+            put_node_number(text, names, *node, u32::from(*prio))?;
+            put_numbers(text, u16::from(*ftype), *dest)?;
+            put_bytes(text, hex.as_slice())
+        }
+        Line::Read16 {
+            node,
+            prio,
+            dest,
+            hop,
+            tid,
+            offset,
+        } => {
+            put_node_number(text, names, *node, u32::from(*prio))?;
+            put_access(text, *dest, *hop, *tid, *offset)
+        }
+        Line::Write16 {
             node,
             prio,
             dest,
@@ -143,13 +195,13 @@ fn put_packet(text: &mut Vec<u8>, names: &[Name], line: &Line) -> Result<(), All
 }
 
 /// Adds the words behind `route`.
-fn put_route(text: &mut Vec<u8>, names: &[Name], node: u8, id: u8, p: u8) -> Result<(), AllocError>
+fn put_route(text: &mut Vec<u8>, names: &[Name], node: u8, id: u16, p: u8) -> Result<(), AllocError>
     requires { node < length names.now }
     ensures { IfOk result (λ _. text.new.items ≡ after_words text.old.items
         (name_of names.now node ∷ decimal id ∷ decimal p ∷ [])) }
 {
     put_node(text, names, node)?;
-    put_numbers(text, id, p)
+    put_numbers(text, id, u16::from(p))
 }
 
 /// Adds a node and a number.
@@ -221,17 +273,23 @@ fn put_erase(
 }
 
 /// Where a maintenance request goes, its number, and the register that it asks for.
-fn put_access(text: &mut Vec<u8>, dest: u8, hop: u8, tid: u8, offset: u32) -> Result<(), AllocError>
+fn put_access(
+    text: &mut Vec<u8>,
+    dest: u16,
+    hop: u8,
+    tid: u8,
+    offset: u32,
+) -> Result<(), AllocError>
     ensures { IfOk result (λ _. text.new.items ≡ after_words text.old.items
         (decimal dest ∷ decimal hop ∷ decimal tid ∷ digits_text 6 offset ∷ [])) }
 {
-    put_numbers(text, dest, hop)?;
+    put_numbers(text, dest, u16::from(hop))?;
     put_number(text, u32::from(tid))?;
     put_digits(text, 6, offset)
 }
 
 /// Adds two numbers.
-fn put_numbers(text: &mut Vec<u8>, a: u8, b: u8) -> Result<(), AllocError>
+fn put_numbers(text: &mut Vec<u8>, a: u16, b: u16) -> Result<(), AllocError>
     ensures { IfOk result (λ _. text.new.items ≡ after_words text.old.items
         (decimal a ∷ decimal b ∷ [])) }
 {

@@ -11,6 +11,9 @@ use crate::lines::Line;
 use crate::words::Words;
 use std::alloc::{AllocError, Global};
 
+/// The greatest 16-bit number.
+const MOST_ID: u32 = 65_535;
+
 /// The most turns, characters or rounds of one event, and the greatest place.
 const MOST_COUNT: u32 = 100_000;
 
@@ -31,9 +34,13 @@ pub(crate) fn take_line(
         Form::Route => Ok(route(words, known)),
         Form::Default => Ok(default(words, known)),
         Form::Lock => Ok(lock(words, known)),
+        Form::Large => Ok(large(words, known)),
         Form::Send => send(alloc, words, known),
         Form::Read => Ok(read(words, known)),
         Form::Write => Ok(write(words, known)),
+        Form::Send16 => send16(alloc, words, known),
+        Form::Read16 => Ok(read16(words, known)),
+        Form::Write16 => Ok(write16(words, known)),
         Form::Pump => Ok(pump(words, known)),
         Form::Deliver => Ok(deliver(words, known)),
         Form::Alter => Ok(alter(words, known)),
@@ -90,7 +97,7 @@ fn route(words: &mut Words, known: &Known) -> Line
     ensures { TakesLine known.now AForm.Route words.old result words.new }
 {
     let node = words.node(known);
-    let id = words.byte(0, 255);
+    let id = words.number(0, 1023) as u16;
     let p = words.byte(0, 255);
     Line::Route { node, id, p }
 }
@@ -109,8 +116,17 @@ fn lock(words: &mut Words, known: &Known) -> Line
     ensures { TakesLine known.now AForm.Lock words.old result words.new }
 {
     let node = words.node(known);
-    let id = words.number(0, 65535) as u16;
+    let id = words.number(0, MOST_ID) as u16;
     Line::Lock { node, id }
+}
+
+/// Takes the words of a `large` line.
+fn large(words: &mut Words, known: &Known) -> Line
+    ensures { TakesLine known.now AForm.Large words.old result words.new }
+{
+    let node = words.node(known);
+    let id = words.number(0, MOST_ID) as u16;
+    Line::Large { node, id }
 }
 
 /// Takes the words of a `send` line.
@@ -163,6 +179,66 @@ fn write(words: &mut Words, known: &Known) -> Line
     let offset = words.digits(6);
     let value = words.digits(8);
     Line::Write {
+        node,
+        prio,
+        dest,
+        hop,
+        tid,
+        offset,
+        value,
+    }
+}
+
+/// Takes the words of a `send16` line.
+fn send16(alloc: Global, words: &mut Words, known: &Known) -> Result<Line, AllocError>
+    ensures { IfOk result (λ line. TakesLine known.now AForm.Send16 words.old line words.new) }
+{
+    let node = words.node(known);
+    let prio = words.byte(0, 3);
+    let ftype = words.byte(0, 15);
+    let dest = words.number(0, MOST_ID) as u16;
+    let hex = words.hex(alloc)?;
+    Ok(Line::Send16 {
+        node,
+        prio,
+        ftype,
+        dest,
+        hex,
+    })
+}
+
+/// Takes the words of a `read16` line.
+fn read16(words: &mut Words, known: &Known) -> Line
+    ensures { TakesLine known.now AForm.Read16 words.old result words.new }
+{
+    let node = words.node(known);
+    let prio = words.byte(0, 3);
+    let dest = words.number(0, MOST_ID) as u16;
+    let hop = words.byte(0, 255);
+    let tid = words.byte(0, 255);
+    let offset = words.digits(6);
+    Line::Read16 {
+        node,
+        prio,
+        dest,
+        hop,
+        tid,
+        offset,
+    }
+}
+
+/// Takes the words of a `write16` line.
+fn write16(words: &mut Words, known: &Known) -> Line
+    ensures { TakesLine known.now AForm.Write16 words.old result words.new }
+{
+    let node = words.node(known);
+    let prio = words.byte(0, 3);
+    let dest = words.number(0, MOST_ID) as u16;
+    let hop = words.byte(0, 255);
+    let tid = words.byte(0, 255);
+    let offset = words.digits(6);
+    let value = words.digits(8);
+    Line::Write16 {
         node,
         prio,
         dest,

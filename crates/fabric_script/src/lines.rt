@@ -29,10 +29,10 @@ pub enum Line {
         port: PortRef,
         n: u8,
     },
-    /// A switch sends packets of this destination ID to this port; 255 is no port.
+    /// A switch sends packets of this destination ID, 0 to 1,023, to this port; 255 is no port.
     Route {
         node: u8,
-        id: u8,
+        id: u16,
         p: u8,
     },
     /// A switch sends packets without a route to this port; 255 is no port.
@@ -42,6 +42,12 @@ pub enum Line {
     },
     /// The host lock of a node.
     Lock {
+        node: u8,
+        id: u16,
+    },
+    /// The 16-bit device ID of an endpoint, in the place of an earlier one; 65,535 means that it
+    /// has none.
+    Large {
         node: u8,
         id: u16,
     },
@@ -68,6 +74,33 @@ pub enum Line {
         node: u8,
         prio: u8,
         dest: u8,
+        hop: u8,
+        tid: u8,
+        offset: u32,
+        value: u32,
+    },
+    /// A packet with 16-bit device IDs is given to an endpoint, as by `Send`.
+    Send16 {
+        node: u8,
+        prio: u8,
+        ftype: u8,
+        dest: u16,
+        hex: Hex,
+    },
+    /// A maintenance read with 16-bit device IDs is given to an endpoint.
+    Read16 {
+        node: u8,
+        prio: u8,
+        dest: u16,
+        hop: u8,
+        tid: u8,
+        offset: u32,
+    },
+    /// A maintenance write with 16-bit device IDs is given to an endpoint.
+    Write16 {
+        node: u8,
+        prio: u8,
+        dest: u16,
         hop: u8,
         tid: u8,
         offset: u32,
@@ -127,7 +160,7 @@ impl Line {
     ghost use Rattle.std.specs.Prelude.{◌≡◌};
     ghost use Rattle.fabric_script.specs.Lines.{is_event};
 
-    /// Whether the line is an event. The first seven kinds set the fabric up.
+    /// Whether the line is an event. The first eight kinds set the fabric up.
     pub fn is_event(&self) -> bool
         ensures { result ≡ is_event self.now }
     {
@@ -140,6 +173,7 @@ impl Line {
                 | Line::Route { .. }
                 | Line::Default { .. }
                 | Line::Lock { .. }
+                | Line::Large { .. }
         )
     }
 }
@@ -160,9 +194,13 @@ impl Line {
             Line::Route { .. } => Form::Route,
             Line::Default { .. } => Form::Default,
             Line::Lock { .. } => Form::Lock,
+            Line::Large { .. } => Form::Large,
             Line::Send { .. } => Form::Send,
             Line::Read { .. } => Form::Read,
             Line::Write { .. } => Form::Write,
+            Line::Send16 { .. } => Form::Send16,
+            Line::Read16 { .. } => Form::Read16,
+            Line::Write16 { .. } => Form::Write16,
             Line::Pump { .. } => Form::Pump,
             Line::Deliver { .. } => Form::Deliver,
             Line::Alter { .. } => Form::Alter,

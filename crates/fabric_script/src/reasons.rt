@@ -20,7 +20,7 @@ pub enum Reason {
     PortOutside = 6,
     /// A port of a link is that of an earlier link, or both are the same.
     PortTaken = 7,
-    /// An endpoint has the device ID of an earlier one.
+    /// An endpoint has the device ID of an earlier one, or the 16-bit device ID of another.
     IdTaken = 8,
     /// Hexadecimal digits or a character are misspelled.
     BadHex = 9,

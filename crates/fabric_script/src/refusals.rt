@@ -9,13 +9,16 @@ use crate::known::{Known, MOST_NODES, Mode};
 use crate::lines::Line;
 use crate::ports::same_port;
 use crate::reasons::Reason;
-use rio_packets::MAX_REST;
+use rio_packets::max_rest;
 
 /// The most that the events of a script may cost.
 const MOST_COST: u64 = 100_000;
 
 /// A port of a table, or a device ID, that is none.
 const NONE: u8 = 255;
+
+/// A 16-bit device ID that is none.
+const LARGE_NONE: u16 = 65_535;
 
 /// The format type of maintenance packets.
 const MAINTENANCE: u8 = 8;
@@ -94,12 +97,13 @@ fn port_is_taken(known: &Known, line: &Line) -> bool
     }
 }
 
-/// Whether an endpoint has the device ID already.
+/// Whether an endpoint has the device ID already, or another one the 16-bit device ID.
 fn id_is_taken(known: &Known, line: &Line) -> bool
     ensures { result ≡ id_is_taken known.now line.now }
 {
     match line {
         Line::Endpoint { id, .. } => *id != NONE && known.has_id(*id),
+        Line::Large { node, id } => *id != LARGE_NONE && known.has_large_id(*node, *id),
         _ => false,
     }
 }
@@ -109,17 +113,19 @@ fn length_is_bad(line: &Line) -> bool
     ensures { result ≡ length_is_bad line.now }
 {
     match line {
-        Line::Send { ftype, hex, .. } => is_bad_length(*ftype, hex.as_slice().len()),
+        Line::Send { ftype, hex, .. } => is_bad_length(false, *ftype, hex.as_slice().len()),
+        Line::Send16 { ftype, hex, .. } => is_bad_length(true, *ftype, hex.as_slice().len()),
         _ => false,
     }
 }
 
-/// Whether data of a format type may not have so many bytes.
-fn is_bad_length(ftype: u8, count: usize) -> bool
-    ensures { result ≡ is_bad_length ftype count }
+/// Whether data of a format type may not have so many bytes, with 16-bit device IDs or with 8-bit
+/// IDs.
+fn is_bad_length(large: bool, ftype: u8, count: usize) -> bool
+    ensures { result ≡ is_bad_length large ftype count }
 {
     count % 2 != 0
-        || count > MAX_REST
+        || count > max_rest(large)
         || ftype == MAINTENANCE && !(6 <= count && count <= 70 && count % 8 == 6)
 }
 
@@ -131,9 +137,13 @@ fn kind_is_wrong(known: &Known, line: &Line) -> bool
         Line::Route { node, .. } | Line::Default { node, .. } | Line::Move { node } => {
             !known.is_switch(*node)
         }
-        Line::Send { node, .. }
+        Line::Large { node, .. }
+        | Line::Send { node, .. }
         | Line::Read { node, .. }
         | Line::Write { node, .. }
+        | Line::Send16 { node, .. }
+        | Line::Read16 { node, .. }
+        | Line::Write16 { node, .. }
         | Line::Collect { node } => known.is_switch(*node),
         _ => false,
     }

@@ -121,7 +121,7 @@ fn link(a: PortRef, b: PortRef) -> Line
 }
 
 /// The line of a table's entry.
-fn route(node: u8, id: u8, p: u8) -> Line
+fn route(node: u8, id: u16, p: u8) -> Line
     ensures { result ≡ ARoute node id p }
 {
     Line::Route { node, id, p }

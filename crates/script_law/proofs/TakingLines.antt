@@ -1,7 +1,7 @@
 -- The words of each form are taken, one by one, as the words of one line.
 use Rattle.std.proofs.Common.{◌≡◌, length, refl}
 use Rattle.fabric_script.specs.declared.lines.Line.{Line}
-use Rattle.fabric_script.specs.declared.lines.Line.TheVariants.{Endpoint, Switch, Link, Buffers, Route, Default, Lock, Send, Read, Write, Pump, Deliver, Alter, Insert, Erase, Timeout, Settle, Move, Collect, Run}
+use Rattle.fabric_script.specs.declared.lines.Line.TheVariants.{Endpoint, Switch, Link, Buffers, Route, Default, Lock, Large, Send, Read, Write, Send16, Read16, Write16, Pump, Deliver, Alter, Insert, Erase, Timeout, Settle, Move, Collect, Run}
 use Rattle.fabric_script.specs.Forms.{fields_of}
 use Rattle.fabric_script.specs.Lines.{form_of, values_of}
 use Rattle.fabric_script.specs.Known.{Known}
@@ -48,7 +48,7 @@ take_line known (Buffers port n) left =
     (More first.takes (More second.takes Done))
 take_line known (Route node id p) left =
     let first = take_node known left in
-    let second = take_number known 0 255 first.next in
+    let second = take_number known 0 1023 first.next in
     let third = take_number known 0 255 second.next in
     taken known _ left (Route first.is second.is third.is) third.next refl tt
     (More first.takes (More second.takes (More third.takes Done)))
@@ -61,6 +61,11 @@ take_line known (Lock node id) left =
     let first = take_node known left in
     let second = take_number known 0 65535 first.next in
     taken known _ left (Lock first.is second.is) second.next refl tt
+    (More first.takes (More second.takes Done))
+take_line known (Large node id) left =
+    let first = take_node known left in
+    let second = take_number known 0 65535 first.next in
+    taken known _ left (Large first.is second.is) second.next refl tt
     (More first.takes (More second.takes Done))
 take_line known (Send node prio ftype dest hex) left =
     let first = take_node known left in
@@ -93,6 +98,40 @@ take_line known (Write node prio dest hop tid offset value) left =
     let seventh = take_digits known 8 sixth.next in
     taken known _ left
     (Write first.is second.is third.is fourth.is fifth.is sixth.is seventh.is)
+    seventh.next refl tt
+    (More first.takes (More second.takes (More third.takes
+    (More fourth.takes (More fifth.takes (More sixth.takes (More seventh.takes Done)))))))
+take_line known (Send16 node prio ftype dest hex) left =
+    let first = take_node known left in
+    let second = take_number known 0 3 first.next in
+    let third = take_number known 0 15 second.next in
+    let fourth = take_number known 0 65535 third.next in
+    let fifth = take_hex known fourth.next in
+    taken known _ left (Send16 first.is second.is third.is fourth.is fifth.is) fifth.next refl tt
+    (More first.takes (More second.takes (More third.takes
+    (More fourth.takes (More fifth.takes Done)))))
+take_line known (Read16 node prio dest hop tid offset) left =
+    let first = take_node known left in
+    let second = take_number known 0 3 first.next in
+    let third = take_number known 0 65535 second.next in
+    let fourth = take_number known 0 255 third.next in
+    let fifth = take_number known 0 255 fourth.next in
+    let sixth = take_digits known 6 fifth.next in
+    taken known _ left
+    (Read16 first.is second.is third.is fourth.is fifth.is sixth.is)
+    sixth.next refl tt
+    (More first.takes (More second.takes (More third.takes
+    (More fourth.takes (More fifth.takes (More sixth.takes Done))))))
+take_line known (Write16 node prio dest hop tid offset value) left =
+    let first = take_node known left in
+    let second = take_number known 0 3 first.next in
+    let third = take_number known 0 65535 second.next in
+    let fourth = take_number known 0 255 third.next in
+    let fifth = take_number known 0 255 fourth.next in
+    let sixth = take_digits known 6 fifth.next in
+    let seventh = take_digits known 8 sixth.next in
+    taken known _ left
+    (Write16 first.is second.is third.is fourth.is fifth.is sixth.is seventh.is)
     seventh.next refl tt
     (More first.takes (More second.takes (More third.takes
     (More fourth.takes (More fifth.takes (More sixth.takes (More seventh.takes Done)))))))

@@ -46,6 +46,9 @@ fn one_word_is_to_blame(rt: HostRuntime) -> Result<(), Fail> {
     };
     assert!(rt; says(alloc, 2, b"endpoint A 0x10", no_number(3, 0, 255)));
     assert!(rt; says(alloc, 2, b"switch S 1", no_number(3, 2, 16)));
+    assert!(rt; says(alloc, 2, b"route S 1024 1", no_number(3, 0, 1023)));
+    assert!(rt; says(alloc, 2, b"large A 65536", no_number(3, 0, 65535)));
+    assert!(rt; says(alloc, 2, b"send16 A 0 15 65536 -", no_number(5, 0, 65535)));
     assert!(rt; says(alloc, 3, b"endpoint host_a 1", name));
     assert!(rt; says(alloc, 3, b"link A.0 B", port));
     assert!(rt; says(alloc, 9, b"read A 0 9 1 5 10", digits));

@@ -8,10 +8,13 @@ use std::test::Fail;
 use trace_lines::*;
 
 const SET_UPS: &[u8] = b"> endpoint A 255\n> switch B 16\n> link A.0 B.15\n> buffers A.0 4\n\
-> route B 255 0\n> default B 254\n> lock B 65535\n";
+> route B 1023 0\n> default B 254\n> lock B 65535\n> large A 4097\n";
 
 const PACKETS: &[u8] = b"> send A 0 15 2 cafe0001\n> send B 3 9 255 -\n\
 > read A 1 2 255 7 00006c\n> write B 2 254 0 255 fffff8 0123abcd\n";
+
+const LARGE_PACKETS: &[u8] = b"> send16 A 0 15 8194 cafe\n> read16 A 1 4098 255 7 00006c\n\
+> write16 B 2 65535 0 255 fffff8 0123abcd\n";
 
 const AT_PORTS: &[u8] = b"> pump A.0 31\n> deliver B.0 20\n> alter A.0 8 dcb\n> alter A.0 9 inv\n\
 > insert B.0 100000 k1c\n> erase B.0 0 4\n> timeout A.0\n> settle B.0\n";
@@ -38,12 +41,13 @@ fn lines_of_set_up_are_their_words(rt: HostRuntime) -> Result<(), Fail> {
         &names,
         &Line::Route {
             node: 1,
-            id: 255,
+            id: 1023,
             p: 0,
         },
     );
     write_begun(&mut outbox, &names, &Line::Default { node: 1, p: 254 });
     write_begun(&mut outbox, &names, &Line::Lock { node: 1, id: 65535 });
+    write_begun(&mut outbox, &names, &Line::Large { node: 0, id: 4097 });
     outbox.flush();
     assert_eq!(rt; sink.written(), SET_UPS);
     Ok(())
@@ -95,6 +99,45 @@ fn lines_of_packets_are_their_words(rt: HostRuntime) -> Result<(), Fail> {
     write_begun(&mut outbox, &names, &lines.3);
     outbox.flush();
     assert_eq!(rt; sink.written(), PACKETS);
+    Ok(())
+}
+
+#[test]
+fn lines_of_large_packets_are_their_words(rt: HostRuntime) -> Result<(), Fail> {
+    let alloc = rt.alloc();
+    let names = two_names(&rt, alloc)?;
+    let send = Line::Send16 {
+        node: 0,
+        prio: 0,
+        ftype: 15,
+        dest: 8194,
+        hex: Hex::new(vec![in alloc; 0xca, 0xfe]?),
+    };
+    let read = Line::Read16 {
+        node: 0,
+        prio: 1,
+        dest: 4098,
+        hop: 255,
+        tid: 7,
+        offset: 0x6c,
+    };
+    let write = Line::Write16 {
+        node: 1,
+        prio: 2,
+        dest: 65535,
+        hop: 0,
+        tid: 255,
+        offset: 0xfffff8,
+        value: 0x0123abcd,
+    };
+    let mut sink = MemSink::new(alloc, 512, 64, Vec::new(alloc))?;
+    let mut buffer = TextBuffer::new(alloc)?;
+    let mut outbox = Outbox::new(&mut buffer, &mut sink);
+    write_begun(&mut outbox, &names, &send);
+    write_begun(&mut outbox, &names, &read);
+    write_begun(&mut outbox, &names, &write);
+    outbox.flush();
+    assert_eq!(rt; sink.written(), LARGE_PACKETS);
     Ok(())
 }
 

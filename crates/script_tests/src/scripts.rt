@@ -29,10 +29,11 @@ const MISSPELLED: &[u8] = b"\
     02 switch C 17|\
     02 buffers A.0 3|\
     02 buffers A.0 31|\
-    02 route S 256 1|\
+    02 route S 1024 1|\
     02 route S 1 256|\
     02 default S 256|\
     02 lock A 65536|\
+    02 large A 65536|\
     02 send A 4 0 0 -|\
     02 send A 0 16 0 -|\
     02 send A 0 0 256 -|\
@@ -40,6 +41,11 @@ const MISSPELLED: &[u8] = b"\
     02 read A 0 256 0 0 000010|\
     02 write A 0 0 256 0 000010 00000000|\
     02 write A 0 0 0 256 000010 00000000|\
+    02 send16 A 0 16 0 -|\
+    02 send16 A 0 0 65536 -|\
+    02 read16 A 0 65536 0 0 000010|\
+    02 read16 A 0 0 256 0 000010|\
+    02 write16 A 0 0 0 256 000010 00000000|\
     02 pump A.0 0|\
     02 deliver A.0 100001|\
     02 alter A.0 100001 d00|\
@@ -65,6 +71,7 @@ const MISNAMED: &[u8] = b"\
     04 switch S 2|\
     05 move X|\
     05 lock AB 1|\
+    05 large AB 1|\
     05 settle AB.0|\
     06 link A.1 S.0|\
     06 settle S.4|\
@@ -86,9 +93,13 @@ const MISPLACED: &[u8] = b"\
     09 write A 0 0 0 0 000010 000000000|\
     09 alter A.0 0 d0|\
     09 insert A.0 0 D00|\
+    09 send16 A 0 0 0 f|\
+    09 write16 A 0 0 0 0 000010 000000000|\
     10 send A 0 0 0 00|\
     10 send A 0 8 0 -|\
     10 send A 0 8 0 0000000000000000|\
+    10 send16 A 0 0 0 00|\
+    10 send16 A 0 8 0 0000000000000000|\
     11 route A 1 0|\
     11 default B 255|\
     11 move A|\
@@ -96,6 +107,10 @@ const MISPLACED: &[u8] = b"\
     11 read S 0 0 0 0 000010|\
     11 write T 0 0 0 0 000010 00000000|\
     11 collect S|\
+    11 large S 1|\
+    11 send16 S 0 0 0 -|\
+    11 read16 S 0 0 0 0 000010|\
+    11 write16 T 0 0 0 0 000010 00000000|\
     13 pump S.0 1|\
     13 deliver S.0 1|\
     13 alter S.0 0 d00|\
@@ -124,6 +139,8 @@ const TWO_REASONS: &[u8] = b"\
     02 send A 4 0 0 f|\
     09 send S 0 0 0 f|\
     10 send S 0 0 0 00|\
+    10 send16 S 0 0 0 00|\
+    02 large X 65536|\
     13 pump S.0 100000|\
 ";
 
@@ -134,6 +151,7 @@ const TWO_BEHIND_AN_EVENT: &[u8] = b"\
     07 link A.0 S.0|\
     08 endpoint C 1|\
     11 default A 0|\
+    11 large S 1|\
     01 lock A 1 |\
 ";
 
@@ -142,12 +160,18 @@ const ACCEPTED: &[u8] = b"\
     00 endpoint ABCDEFGH 255|\
     00 endpoint C 0|\
     00 route T 0 15|\
+    00 route T 1023 255|\
     00 default S 255|\
     00 lock A 65535|\
     00 buffers T.15 30|\
     00 send A 3 15 255 -|\
     00 send A 0 8 0 000000000000|\
     00 write B 3 255 255 255 ffffff ffffffff|\
+    00 large A 65535|\
+    00 send16 A 3 15 65535 -|\
+    00 send16 A 0 8 0 000000000000|\
+    00 read16 A 3 65535 255 255 ffffff|\
+    00 write16 B 3 65535 255 255 ffffff ffffffff|\
     00 insert A.0 100000 inv|\
     00 run 5000|\
     00 pump A.0 100000|\
@@ -171,6 +195,7 @@ const SET_UP: &[u8] = b"\
     12 route S 1 0|\
     12 default S 0|\
     12 lock A 1|\
+    12 large A 1|\
 ";
 
 /// The reason for which the last line of a text is refused, and 0 if the text is accepted. A
@@ -214,28 +239,69 @@ fn passed(
 
 #[test]
 fn each_reason_hits_each_kind_of_word(rt: HostRuntime) -> Result<(), Fail> {
-    assert_eq!(rt; passed(rt.alloc(), BEFORE, MISSPELLED, 6)?, (34, 34));
-    assert_eq!(rt; passed(rt.alloc(), BEFORE, MISNAMED, 6)?, (24, 24));
-    assert_eq!(rt; passed(rt.alloc(), BEFORE, MISPLACED, 6)?, (26, 26));
+    assert_eq!(rt; passed(rt.alloc(), BEFORE, MISSPELLED, 6)?, (40, 40));
+    assert_eq!(rt; passed(rt.alloc(), BEFORE, MISNAMED, 6)?, (25, 25));
+    assert_eq!(rt; passed(rt.alloc(), BEFORE, MISPLACED, 6)?, (34, 34));
     Ok(())
 }
 
 #[test]
 fn least_of_two_reasons_is_told(rt: HostRuntime) -> Result<(), Fail> {
-    assert_eq!(rt; passed(rt.alloc(), BEFORE, TWO_REASONS, 6)?, (17, 17));
-    assert_eq!(rt; passed(rt.alloc(), BEGUN, TWO_BEHIND_AN_EVENT, 7)?, (6, 6));
+    assert_eq!(rt; passed(rt.alloc(), BEFORE, TWO_REASONS, 6)?, (19, 19));
+    assert_eq!(rt; passed(rt.alloc(), BEGUN, TWO_BEHIND_AN_EVENT, 7)?, (7, 7));
     Ok(())
 }
 
 #[test]
 fn limits_are_the_last_that_is_accepted(rt: HostRuntime) -> Result<(), Fail> {
-    assert_eq!(rt; passed(rt.alloc(), BEFORE, ACCEPTED, 6)?, (21, 21));
+    assert_eq!(rt; passed(rt.alloc(), BEFORE, ACCEPTED, 6)?, (27, 27));
+    Ok(())
+}
+
+/// Rows behind 16-bit device IDs: 4097 was replaced, so that it is free again.
+const LARGE_IDS: &[u8] = b"\
+    08 large B 4098|\
+    08 large S 4098|\
+    00 large B 4097|\
+    00 large A 4098|\
+    00 large B 65535|\
+    11 large S 4097|\
+    11 large S 65535|\
+";
+
+#[test]
+fn large_id_has_one_endpoint(rt: HostRuntime) -> Result<(), Fail> {
+    let mut text = Vec::new(rt.alloc());
+    text.extend_from_slice(BEFORE)?;
+    text.extend_from_slice(b"large A 4097\nlarge A 4098\n")?;
+    assert_eq!(rt; passed(rt.alloc(), text.as_slice(), LARGE_IDS, 8)?, (7, 7));
+    Ok(())
+}
+
+/// The reason for which a line with so many bytes of data is refused.
+fn reason_of_data(alloc: Global, line: &[u8], count: usize) -> Result<u8, AllocError> {
+    let mut text = Vec::new(alloc);
+    text.extend_from_slice(line)?;
+    for _ in 0..count {
+        text.extend_from_slice(b"5a")?;
+    }
+    reason_of(alloc, BEFORE, text.as_slice(), 6)
+}
+
+#[test]
+fn data_of_each_size_of_ids_have_their_most_bytes(rt: HostRuntime) -> Result<(), Fail> {
+    assert_eq!(rt; reason_of_data(rt.alloc(), b"send A 0 15 2 ", 268)?, 0);
+    assert_eq!(rt; reason_of_data(rt.alloc(), b"send A 0 15 2 ", 270)?, 10);
+    assert_eq!(rt; reason_of_data(rt.alloc(), b"send16 A 0 15 2 ", 266)?, 0);
+    assert_eq!(rt; reason_of_data(rt.alloc(), b"send16 A 0 15 2 ", 268)?, 10);
+    assert_eq!(rt; reason_of_data(rt.alloc(), b"send16 A 0 8 2 ", 70)?, 0);
+    assert_eq!(rt; reason_of_data(rt.alloc(), b"send16 A 0 8 2 ", 72)?, 10);
     Ok(())
 }
 
 #[test]
 fn set_up_stands_before_events(rt: HostRuntime) -> Result<(), Fail> {
-    assert_eq!(rt; passed(rt.alloc(), BEGUN, SET_UP, 7)?, (7, 7));
+    assert_eq!(rt; passed(rt.alloc(), BEGUN, SET_UP, 7)?, (8, 8));
     Ok(())
 }
 
@@ -272,10 +338,12 @@ fn sixty_fourth_node_is_the_last(rt: HostRuntime) -> Result<(), Fail> {
 }
 
 /// A line of each kind, as it is printed.
-const EACH_KIND: &[u8] = b"endpoint A 1\nswitch S 4\nlink A.0 S.3\nbuffers A.0 30\nroute S 9 3\n\
-default S 255\nlock S 65535\nsend A 3 15 255 00ff\nsend A 0 15 1 -\nread A 1 2 3 4 00000c\n\
-write A 1 2 3 4 000070 0000beef\npump A.0 100\ndeliver S.3 20\nalter A.0 8 k7c\n\
-insert A.0 0 inv\nerase A.0 0 4\ntimeout S.3\nsettle A.0\nmove S\ncollect A\nrun 1\n";
+const EACH_KIND: &[u8] = b"endpoint A 1\nswitch S 4\nlink A.0 S.3\nbuffers A.0 30\nroute S 900 3\n\
+default S 255\nlock S 65535\nlarge A 4097\nsend A 3 15 255 00ff\nsend A 0 15 1 -\n\
+read A 1 2 3 4 00000c\nwrite A 1 2 3 4 000070 0000beef\nsend16 A 3 15 65535 00ff\n\
+read16 A 1 258 3 4 00000c\nwrite16 A 1 258 3 4 000070 0000beef\npump A.0 100\n\
+deliver S.3 20\nalter A.0 8 k7c\ninsert A.0 0 inv\nerase A.0 0 4\ntimeout S.3\nsettle A.0\n\
+move S\ncollect A\nrun 1\n";
 
 #[test]
 fn printed_script_is_the_text_that_was_read(rt: HostRuntime) -> Result<(), Fail> {

@@ -1,5 +1,4 @@
-use Rattle.std.proofs.Common.{◌≡◌, ◌≢◌, [], ◌+◌, sym, subst, ap, ◌∙◌, rules, arith, length}
-use Rattle.std.proofs.lemmas.List.Splits.{length-slice_split}
+use Rattle.std.proofs.Common.{◌≡◌, ◌≢◌, [], ◌+◌, sym, subst, ap, rules, arith, length}
 use Rattle.fabric_script.specs.Lines.{words_of}
 use Rattle.fabric_script.proofs.AdviceLaws.{IsBehind, behind_none, behind_word, misspelled_at, some_left}
 use Rattle.fabric_script.proofs.advice.advise_word.Goals as goal

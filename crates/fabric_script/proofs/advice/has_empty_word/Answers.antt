@@ -1,6 +1,5 @@
-use Rattle.std.proofs.Common.{◌≡◌, [], eqb-true, length, ◌∙◌, ap, sym, subst, ◌+◌, rules, arith}
+use Rattle.std.proofs.Common.{eqb-true, length, ◌∙◌, sym, subst, ◌+◌, rules}
 use Rattle.fabric_script.specs.Lines.{words_of}
-use Rattle.fabric_script.specs.Words.{first_word}
 use Rattle.fabric_script.proofs.AdviceLaws.{IsBehind, behind_word, behind_contains, empty_is}
 use Rattle.fabric_script.proofs.advice.has_empty_word.Goals as goal
 

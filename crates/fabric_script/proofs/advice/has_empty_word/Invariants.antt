@@ -1,4 +1,3 @@
-use Rattle.std.proofs.Common.{ℕ}
 use Rattle.fabric_script.specs.Lines.{words_of}
 use Rattle.fabric_script.proofs.AdviceLaws.{IsBehind}
 use Rattle.fabric_script.proofs.advice.has_empty_word.Given as goal

@@ -1,4 +1,4 @@
-use Rattle.std.proofs.Common.{◌≡◌, ◌+◌, sym, subst, rules, arith}
+use Rattle.std.proofs.Common.{◌+◌, sym, subst, rules}
 use Rattle.fabric_script.specs.Lines.{words_of}
 use Rattle.fabric_script.proofs.AdviceLaws.{IsBehind, behind_word}
 use Rattle.fabric_script.proofs.advice.has_words.Goals as goal

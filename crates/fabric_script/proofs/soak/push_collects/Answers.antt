@@ -1,4 +1,4 @@
-use Rattle.std.proofs.Common.{◌≡◌, ◌∙◌, ◌+◌, ◌++◌, ◌∷◌, [], ap, append-nil, append_assoc, sym, arith}
+use Rattle.std.proofs.Common.{◌∙◌, ◌++◌, ◌∷◌, [], ap, append-nil, append_assoc, sym, arith}
 use Rattle.fabric_script.specs.declared.lines.Line.TheVariants.{Collect}
 use Rattle.fabric_script.specs.Soak.{times, numbered_from}
 use Rattle.fabric_script.proofs.SoakLaws.{times-push, times-none}

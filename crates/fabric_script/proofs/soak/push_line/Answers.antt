@@ -1,4 +1,4 @@
-use Rattle.std.proofs.Common.{◌≡◌, ◌∙◌, ◌+◌, ◌++◌, ◌∷◌, [], ap, length, rules, arith, sym}
+use Rattle.std.proofs.Common.{rules}
 use Rattle.fabric_script.proofs.SoakLaws.{numbered-push}
 use Rattle.fabric_script.proofs.soak.push_line.Goals as goal
 

@@ -1,6 +1,6 @@
-use Rattle.std.proofs.Common.{◌≡◌, ◌≢◌, ◌∙◌, ◌+◌, ◌%◌, ◌++◌, [], List, ap, append-nil, sym, rules, tests}
+use Rattle.std.proofs.Common.{◌≡◌, ◌≢◌, ◌∙◌, ◌%◌, ◌++◌, List, ap, append-nil, sym, rules, tests}
 use Rattle.fabric_script.specs.declared.lines.Line.{Line}
-use Rattle.fabric_script.specs.Soak.{round_lines, round_behind, numbered_from}
+use Rattle.fabric_script.specs.Soak.{round_behind, numbered_from}
 use Rattle.fabric_script.proofs.SoakLaws.{IfOk-on, tenth_round, no_round}
 use Rattle.fabric_script.proofs.soak.push_round_behind.Goals as goal
 

@@ -1,4 +1,4 @@
-use Rattle.std.proofs.Common.{◌≡◌, ◌∷◌, [], ◌∙◌, ap, sym, subst, length, rules, arith}
+use Rattle.std.proofs.Common.{◌∙◌, ap, subst, length, rules, arith}
 use Rattle.std.specs.Array.Iter.{array_into_iter_items}
 use Rattle.std.proofs.lemmas.List.{nil_from_length}
 use Rattle.fabric_script.specs.Soak.{soak_set_up}

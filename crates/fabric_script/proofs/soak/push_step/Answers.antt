@@ -1,7 +1,5 @@
-use Rattle.std.proofs.Common.{◌≡◌, ◌∙◌, ◌+◌, ◌/◌, ◌%◌, ◌++◌, ◌∷◌, [], List, ap, sym, arith, rules, tests}
-use Rattle.fabric_script.specs.declared.lines.Line.{Line}
-use Rattle.fabric_script.specs.Soak.{step_lines, numbered_from}
-use Rattle.fabric_script.proofs.SoakLaws.{IfOk-on, joined_step, joined_step_kept}
+use Rattle.std.proofs.Common.{rules, tests}
+use Rattle.fabric_script.proofs.SoakLaws.{joined_step, joined_step_kept}
 use Rattle.fabric_script.proofs.soak.push_step.Goals as goal
 
 pub returns-in_ok-push_line-3-clause-numbered : goal.returns-in_ok-push_line-3-clause-numbered

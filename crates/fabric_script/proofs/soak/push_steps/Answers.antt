@@ -1,6 +1,5 @@
-use Rattle.std.proofs.Common.{◌≡◌, ◌∙◌, ◌+◌, ◌/◌, ◌++◌, List, ap, sym, subst, rules, arith}
-use Rattle.fabric_script.specs.declared.lines.Line.{Line}
-use Rattle.fabric_script.specs.Soak.{next_number, step_lines, numbered_from}
+use Rattle.std.proofs.Common.{◌≡◌, ◌+◌, ◌/◌, ◌++◌, sym, subst, arith}
+use Rattle.fabric_script.specs.Soak.{step_lines, numbered_from}
 use Rattle.fabric_script.proofs.SoakLaws.{IsUpTo, up_to_none, up_to_next, up_to_all}
 use Rattle.fabric_script.proofs.soak.push_steps.Goals as goal
 

@@ -1,5 +1,5 @@
-use Rattle.std.proofs.Common.{◌≡◌, ◌∙◌, ◌+◌, ◌%◌, ◌++◌, [], ap, append-nil, append_assoc, sym, subst, rules, arith}
-use Rattle.fabric_script.specs.Soak.{soak_names, soak_set_up, soak_lines, round_lines, last_rounds, numbered_from}
+use Rattle.std.proofs.Common.{◌≡◌, ◌∙◌, ◌%◌, ◌++◌, ap, append-nil, append_assoc, sym, subst, arith}
+use Rattle.fabric_script.specs.Soak.{soak_names, soak_set_up, round_lines, last_rounds, numbered_from}
 use Rattle.fabric_script.specs.Scripts.{Passes}
 use Rattle.fabric_script.proofs.SoakLaws.{steps_behind, rounds_end, rounds-push, soak_parts}
 use Rattle.fabric_script.proofs.SoakPasses.{soak_passes}

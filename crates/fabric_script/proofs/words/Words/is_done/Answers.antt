@@ -1,4 +1,4 @@
-use Rattle.std.proofs.Common.{ap, sym, ◌∙◌}
+use Rattle.std.proofs.Common.{ap, sym}
 use Rattle.fabric_script.proofs.AdviceLaws.{done_is}
 use Rattle.fabric_script.proofs.words.Words.is_done.Goals as goal
 

@@ -1,0 +1,14 @@
+use Rattle.std.proofs.Common.{refl}
+use Rattle.fabric_script.specs.Words.{Done, More}
+use Rattle.fabric_script.proofs.line_words.send16.Goals as goal
+
+pub returns : goal.returns
+returns c = record {
+  is = refl;
+  next = tt;
+  takes = More c.node-node.ensures
+      (More (c.byte-prio.ensures c.args.known.now)
+      (More (c.byte-ftype.ensures c.args.known.now)
+      (More (c.number-dest.ensures.takes c.args.known.now)
+      (More (c.in_ok-hex.ensures c.args.known.now) Done))));
+}
