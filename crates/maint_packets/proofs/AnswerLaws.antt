@@ -1,12 +1,12 @@
 -- What registers answer is in its link form, and their numbers go on to fit.
-use Rattle.std.proofs.Common.{◌≡◌, ℕ, ◌+◌, ◌<◌, ◌==◌, Bool, true, false, min, List, length, get_or, Option, Some, None, arith, refl, subst, inl, inr, if◌then◌else◌}
+use Rattle.std.proofs.Common.{◌≡◌, ℕ, ◌+◌, ◌*◌, ◌/◌, ◌%◌, ◌<◌, ◌≤◌, ◌==◌, Bool, true, false, min, List, [], ◌∷◌, ◌++◌, length, get_or, Option, Some, None, unwrap_or, ap, arith, refl, subst, inl, inr, if◌then◌else◌}
 use Rattle.std.specs.List.{AllByRecursion}
 use Rattle.std.proofs.lemmas.Bool.{cases_lt}
 use Rattle.std.proofs.lemmas.List.{get_or_past}
-use Rattle.std.proofs.lemmas.List.Elements.{All-from_recursion}
+use Rattle.std.proofs.lemmas.List.Elements.{All-append, All-from_recursion}
 use Rattle.rio_packets.specs.LinkForm.{AreBytes, Passes}
-use Rattle.rio_packets.specs.Fields.{prio_of, ttype_of, is_request, body_of}
-use Rattle.rio_packets.specs.Hops.{closed}
+use Rattle.rio_packets.specs.Fields.{prio_of, tt_of, dest_of, source_of, ids_end, hop_place, half_word_at, ttype_of, is_request, body_of}
+use Rattle.rio_packets.specs.Hops.{ended, is_large}
 use Rattle.maint_registers.specs.Devices.{Device, IsSameDevice}
 use Rattle.maint_registers.specs.Within.{IsWithin}
 use Rattle.maint_registers.specs.Access.{value_at, written_at}
@@ -15,11 +15,11 @@ use Rattle.maint_registers.proofs.WithinLaws.{written_within, read_fits}
 use Rattle.maint_packets.specs.declared.request.Op.{Op}
 use Rattle.maint_packets.specs.declared.request.Op.TheVariants.{Read, Write, BadRead, BadWrite}
 use Rattle.maint_packets.specs.declared.request.Request.{Request}
-use Rattle.maint_packets.specs.Layout.{word_at, offset_of, data_bytes, behind_ids}
+use Rattle.maint_packets.specs.Layout.{word_at, offset_of, tid_of, short_length, long_length, data_bytes, behind_ids}
 use Rattle.maint_packets.specs.Requests.{names_second, in_half, value_in, has_form, op_of, request_of}
 use Rattle.maint_packets.specs.Responses.{response_bytes}
 use Rattle.maint_packets.specs.Answers.{back, after_read, after_write, answered_to, answered}
-use Rattle.maint_packets.proofs.FormLaws.{Passes-closed}
+use Rattle.maint_packets.proofs.FormLaws.{Passes-ended}
 
 -- ---- bytes
 
@@ -39,39 +39,85 @@ word_fits bytes at range =
     let d = byte_at bytes (at + 3) range in
     omega (arith, a, b, c, d)
 
+-- ---- IDs
+
+-- IDs of one byte, or of two
+abbrev ids_below : Bool → ℕ
+ids_below false = 0x100
+ids_below true = 0x10000
+
+id_fits : (small large : Bool) (byte half : ℕ) → byte < 256 → half < 0x10000
+    → unwrap_or (if small then Some byte else (if large then Some half else None)) 0 < ids_below
+    large
+id_fits true true byte half b h = omega arith
+id_fits true false byte half b h = b
+id_fits false true byte half b h = h
+id_fits false false byte half b h = omega arith
+
+dest_fits : (bytes : List ℕ) → AreBytes bytes → unwrap_or (dest_of bytes) 0 < ids_below
+    (is_large bytes)
+dest_fits bytes range =
+    let high = byte_at bytes 2 range in let low = byte_at bytes 3 range in
+    let half : half_word_at bytes 2 < 0x10000 = omega (arith, high, low) in
+    id_fits (tt_of bytes == 0) (tt_of bytes == 1) (get_or bytes 2 0)
+    (half_word_at bytes 2) high half
+
+source_fits : (bytes : List ℕ) → AreBytes bytes → unwrap_or (source_of bytes) 0 < ids_below
+    (is_large bytes)
+source_fits bytes range =
+    let high = byte_at bytes 4 range in let low = byte_at bytes 5 range in
+    let half : half_word_at bytes 4 < 0x10000 = omega (arith, high, low) in
+    id_fits (tt_of bytes == 0) (tt_of bytes == 1) (get_or bytes 3 0) (half_word_at bytes 4)
+    (byte_at bytes 3 range) half
+
+-- IDs of one byte are below 256
+pub IDs-small : (bytes : List ℕ) → AreBytes bytes → is_large bytes ≡ false
+    → (unwrap_or (dest_of bytes) 0 < 256) × (unwrap_or (source_of bytes) 0 < 256)
+IDs-small bytes range small =
+    let size : ids_below (is_large bytes) ≡ 256 = ap ids_below small in
+    let dest = dest_fits bytes range in let source = source_fits bytes range in
+    (omega (arith, dest, size), omega (arith, source, size))
+
 -- ---- requests
 
 -- each number of a request fits its field
 record Fits (request : Request) : Type 0 where
-  dest : request.dest < 256
-  source : request.source < 256
+  dest : request.dest < ids_below request.large
+  source : request.source < ids_below request.large
   tid : request.tid < 256
   value : (value : ℕ) → request.op ≡ Write value → value < 0x100000000
 
-op_fits : (bytes : List ℕ) (value : ℕ) → AreBytes bytes → op_of bytes ≡ Write value → value < 0x100000000
-op_fits bytes value range = go (ttype_of bytes == 0) (has_form bytes 12) (has_form bytes 20)
+op_fits : (bytes : List ℕ) (value : ℕ) → AreBytes bytes → op_of bytes ≡ Write value
+    → value < 0x100000000
+op_fits bytes value range =
+    go (ttype_of bytes == 0) (has_form bytes (short_length (is_large bytes)))
+    (has_form bytes (long_length (is_large bytes)))
   where
     go : (read short long : Bool)
-        → (if read then (if short then Read else BadRead) else (if long then Write (value_in bytes) else BadWrite)) ≡ Write value
+        → (if read then (if short then Read else BadRead) else (if long then Write
+        (value_in bytes) else BadWrite)) ≡ Write value
         → value < 0x100000000
     go true true long is = absurd (cc)
     go true false long is = absurd (cc)
     go false short false is = absurd (cc)
     go false short true is =
         let same : value_in bytes ≡ value = cc in
-        subst (λ n. n < 0x100000000) same (word_fits bytes (if names_second (offset_of bytes) then 14 else 10) range)
+        subst (λ n. n < 0x100000000) same (word_fits bytes (ids_end bytes + (if names_second
+        (offset_of bytes) then 10 else 6)) range)
 
-request_fits : (packet : List ℕ) (request : Request) → AreBytes packet → request_of packet ≡ Some request → Fits request
+request_fits : (packet : List ℕ) (request : Request) → AreBytes packet
+    → request_of packet ≡ Some request → Fits request
 request_fits packet request range is = go (is_request packet) is
   where
     read : Request
     read = record {
       prio = prio_of packet;
-      dest = get_or packet 2 0;
-      source = get_or packet 3 0;
+      dest = unwrap_or (dest_of packet) 0;
+      source = unwrap_or (source_of packet) 0;
+      large = is_large packet;
       op = op_of packet;
-      tid = get_or packet 5 0;
-      hop = get_or packet 6 0;
+      tid = tid_of packet;
+      hop = get_or packet (hop_place packet) 0;
       offset = offset_of packet;
     }
 
@@ -80,9 +126,9 @@ request_fits packet request range is = go (is_request packet) is
     go true some =
         let same : read ≡ request = cc in
         subst Fits same record {
-          dest = byte_at packet 2 range;
-          source = byte_at packet 3 range;
-          tid = byte_at packet 5 range;
+          dest = dest_fits packet range;
+          source = source_fits packet range;
+          tid = byte_at packet (ids_end packet + 1) range;
           value = λ value is. op_fits packet value range is;
         }
 
@@ -93,39 +139,125 @@ abbrev AreWords : Option (ℕ × ℕ) → Type 0
 AreWords None = Unit {0}
 AreWords (Some words) = (words.0 < 0x100000000) × (words.1 < 0x100000000)
 
-data_fits : (words : Option (ℕ × ℕ)) → AreWords words → AllByRecursion (λ b. b < 256) (data_bytes words)
+data_fits : (words : Option (ℕ × ℕ)) → AreWords words → AllByRecursion (λ b. b < 256)
+    (data_bytes words)
 data_fits None fit = tt
 data_fits (Some words) fit =
-    let first = fit.0 in let second = fit.1 in
-    (omega arith, (omega arith, (omega arith, (omega arith, (omega arith, (omega arith, (omega arith, (omega arith, tt))))))))
+    let first = fit.0 in let second = fit.1 in (
+      omega arith,
+      (
+        omega arith,
+        (
+          omega arith,
+          (
+            omega arith,
+            (
+              omega arith,
+              (
+                omega arith,
+                (omega arith, (omega arith, tt)),
+              ),
+            ),
+          ),
+        ),
+      ),
+    )
 
--- the body of a response
-module _ (prio dest source ttype status tid : ℕ) (p : prio < 4) (d : dest < 256) (s : source < 256)
-    (t : ttype < 16) (l : status < 16) (n : tid < 256) where
-  abbrev body : Option (ℕ × ℕ) → List ℕ
-  body words = body_of prio 8 dest source (behind_ids ttype status tid 255 0 words)
+-- A body of a good length whose bytes fit is ended as a packet.
+body_passes : (large : Bool) (prio dest source : ℕ) (rest : List ℕ) → prio < 4
+    → dest < ids_below large
+    → source < ids_below large → AreBytes rest → length rest % 4 ≡ 2 → length rest ≤ 74
+    → Passes (ended large (body_of prio 8 large dest source rest))
+body_passes false prio dest source rest p d s range fills most =
+    let front : List ℕ = 0 ∷ (64 * prio + 8) ∷ dest ∷ source ∷ [] in
+    Passes-ended false (front ++ rest)
+    record {
+      even = omega (arith, fills);
+      least = omega arith;
+      most = omega (arith, most);
+      range = All-append (λ b. b < 256) front rest
+          (All-from_recursion (λ b. b < 256) front (
+            omega arith,
+            (
+              omega (arith, p),
+              (
+                d,
+                (s, tt),
+              ),
+            ),
+          )) range;
+      origin = omega arith;
+    }
+    (omega (arith, most)) (omega (arith, fills))
+body_passes true prio dest source rest p d s range fills most =
+    let front : List ℕ = 0 ∷ (64 * prio + 16 + 8) ∷ dest / 0x100 ∷ dest % 0x100 ∷ source / 0x100
+    ∷ source % 0x100 ∷ [] in
+    Passes-ended true (front ++ rest)
+    record {
+      even = omega (arith, fills);
+      least = omega arith;
+      most = omega (arith, most);
+      range = All-append (λ b. b < 256) front rest
+          (All-from_recursion (λ b. b < 256) front (
+            omega arith,
+            (
+              omega (arith, p),
+              (
+                omega (arith, d),
+                (
+                  omega arith,
+                  (
+                    omega (arith, s),
+                    (omega arith, tt),
+                  ),
+                ),
+              ),
+            ),
+          )) range;
+      origin = omega arith;
+    }
+    (omega (arith, most)) (omega (arith, fills))
 
-  body_range : (words : Option (ℕ × ℕ)) → AreWords words → AreBytes (body words)
-  body_range words fit =
-      All-from_recursion (λ b. b < 256) (body words)
-      (omega arith, (omega arith, (d, (s, (omega arith, (n, (omega arith, (omega arith, (omega arith, (omega arith, data_fits words fit))))))))))
+-- what stands behind the IDs of a response
+module _ (ttype status tid : ℕ) (t : ttype < 16) (l : status < 16) (n : tid < 256) where
+  abbrev rest : Option (ℕ × ℕ) → List ℕ
+  rest words = behind_ids ttype status tid 255 0 words
 
-  body_passes : (words : Option (ℕ × ℕ)) → AreWords words → Passes (closed (body words))
-  body_passes None fit =
-      Passes-closed (body None)
-      record { even = refl; least = omega arith; most = omega arith; range = body_range None fit; origin = omega arith }
-      (omega arith) refl
-  body_passes (Some words) fit =
-      Passes-closed (body (Some words))
-      record { even = refl; least = omega arith; most = omega arith; range = body_range (Some words) fit; origin = omega arith }
-      (omega arith) refl
+  rest_range : (words : Option (ℕ × ℕ)) → AreWords words → AreBytes (rest words)
+  rest_range words fit =
+      All-from_recursion (λ b. b < 256) (rest words) (
+        omega arith,
+        (
+          n,
+          (
+            omega arith,
+            (
+              omega arith,
+              (
+                omega arith,
+                (omega arith, data_fits words fit),
+              ),
+            ),
+          ),
+        ),
+      )
+
+  rest_fills : (words : Option (ℕ × ℕ)) → (length (rest words) % 4 ≡ 2) × (length (rest words) ≤ 74)
+  rest_fills None = (refl, omega arith)
+  rest_fills (Some words) = (refl, omega arith)
 
 -- the response goes back in its link form
-back_passes : (request : Request) (write : Bool) (status : ℕ) (words : Option (ℕ × ℕ)) → Fits request
+back_passes : (request : Request) (write : Bool) (status : ℕ) (words : Option (ℕ × ℕ))
+    → Fits request
     → status < 16 → AreWords words → Passes (response_bytes (back request write status words))
 back_passes request write status words fits small fit =
-    body_passes (min (request.prio + 1) 3) request.source request.dest (if write then 3 else 2) status request.tid
-    (omega arith) fits.source fits.dest (type_fits write) small fits.tid words fit
+    let type : ℕ = if write then 3 else 2 in
+    let fills : (length (behind_ids type status request.tid 255 0 words) % 4 ≡ 2)
+    × (length (behind_ids type status request.tid 255 0 words) ≤ 74) =
+    rest_fills type status request.tid (type_fits write) small fits.tid words in
+    body_passes request.large (min (request.prio + 1) 3) request.source request.dest
+    (behind_ids type status request.tid 255 0 words) (omega arith) fits.source fits.dest
+    (rest_range type status request.tid (type_fits write) small fits.tid words fit) fills.0 fills.1
   where
     type_fits : (write : Bool) → (if write then 3 else 2) < 16
     type_fits true = omega arith
@@ -151,14 +283,16 @@ write_passes : (device : Device) (request : Request) (o : Option Device) → Fit
 write_passes device request None fits = back_passes request true 7 None fits (omega arith) tt
 write_passes device request (Some next) fits = back_passes request true 0 None fits (omega arith) tt
 
-op_passes : (device : Device) (request : Request) (port : ℕ) (op : Op) → IsWithin device → port < 0x100
+op_passes : (device : Device) (request : Request) (port : ℕ) (op : Op) → IsWithin device
+    → port < 0x100
     → Fits request → Passes (response_bytes (answered_to device request port op).response)
 op_passes device request port Read within low fits =
     read_passes device request (value_at device request.offset port) fits
     (λ value is. read_fits device request.offset port value within low is)
 op_passes device request port (Write value) within low fits =
     write_passes device request (written_at device request.offset value) fits
-op_passes device request port BadRead within low fits = read_passes device request None fits (λ value is. absurd (cc))
+op_passes device request port BadRead within low fits = read_passes device request None fits
+    (λ value is. absurd (cc))
 op_passes device request port BadWrite within low fits = write_passes device request None fits
 
 -- what the registers answer is in its link form
@@ -171,7 +305,8 @@ responses_pass device packet request port within low form is =
 -- ---- devices
 
 written_stays : (device : Device) (request : Request) (o : Option Device) → IsWithin device
-    → ((next : Device) → o ≡ Some next → IsWithin next) → IsWithin (after_write device request o).device
+    → ((next : Device) → o ≡ Some next → IsWithin next) → IsWithin
+    (after_write device request o).device
 written_stays device request None within nexts = within
 written_stays device request (Some next) within nexts = nexts next refl
 
@@ -183,7 +318,8 @@ read_stays device request (Some value) within = within
 op_stays : (device : Device) (request : Request) (port : ℕ) (op : Op) → IsWithin device
     → ((value : ℕ) → op ≡ Write value → value < 0x100000000)
     → IsWithin (answered_to device request port op).device
-op_stays device request port Read within fits = read_stays device request (value_at device request.offset port) within
+op_stays device request port Read within fits = read_stays device request
+    (value_at device request.offset port) within
 op_stays device request port (Write value) within fits =
     written_stays device request (written_at device request.offset value) within
     (λ next is. written_within device next request.offset value within (fits value refl) is)

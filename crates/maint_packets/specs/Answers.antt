@@ -13,13 +13,14 @@ pub record Answered : Type 0 where
   pub response : Response
   pub device : Device
 
--- A response goes back to where the request came from, with the next higher priority if there is one and the same
--- transaction number. It starts with the greatest hop count.
+-- A response goes back to where the request came from, with IDs of the same size, the next higher
+-- priority if there is one and the same transaction number. It starts with the greatest hop count.
 abbrev pub back : Request → Bool → ℕ → Option (ℕ × ℕ) → Response
 back request write status words = record {
   prio = min (request.prio + 1) 3;
   dest = request.source;
   source = request.dest;
+  large = request.large;
   write = write;
   status = status;
   tid = request.tid;

@@ -1,11 +1,16 @@
--- The layout of maintenance packets behind the IDs (RapidIO Interconnect Specification 1.3, Part 1, maintenance packets;
--- Part 3, hop count):
+-- The layout of maintenance packets behind the IDs (RapidIO Interconnect Specification 1.3, Part 1,
+-- maintenance packets; Part 3, hop count). Bytes are counted from where the IDs end, which is byte
+-- 4 if they have 8 bits each, and byte 6 if they have 16:
 --
---     byte   4                       5     6           7 to 9                10 to 17
---            ttype, size or status   TID   hop count   offset, or reserved   two words of data, or none
+--     0         ttype, and size or status
+--     1         TID
+--     2         hop count
+--     3 to 5    offset, or reserved
+--     6 to 13   two words of data, or none
 --
 -- The first byte of a number is its highest. A missing byte is read as 0.
-use Rattle.std.specs.Prelude.{ℕ, ◌+◌, ◌*◌, ◌/◌, ◌%◌, List, [], ◌∷◌, ◌++◌, slice_index, Option, Some, None}
+use Rattle.std.specs.Prelude.{ℕ, ◌+◌, ◌*◌, ◌/◌, ◌%◌, Bool, true, false, List, [], ◌∷◌, ◌++◌, slice_index, Option, Some, None}
+use Rattle.rio_packets.specs.Fields.{ids_end}
 
 -- a word, the number of 32 bits in the four bytes from a place on
 abbrev pub word_at : List ℕ → ℕ → ℕ
@@ -15,12 +20,28 @@ word_at bytes at =
 
 -- the number of 24 bits in the three bytes behind the hop count
 abbrev pub offset_of : List ℕ → ℕ
-offset_of bytes = 0x10000 * slice_index bytes 7 + 0x100 * slice_index bytes 8 + slice_index bytes 9
+offset_of bytes =
+    0x10000 * slice_index bytes (ids_end bytes + 3)
+    + 0x100 * slice_index bytes (ids_end bytes + 4) + slice_index bytes (ids_end bytes + 5)
 
--- the lower half of the byte with the transaction type: of a request a code of how many bytes it asks for, of a response
--- its status
+-- the transaction number
+abbrev pub tid_of : List ℕ → ℕ
+tid_of bytes = slice_index bytes (ids_end bytes + 1)
+
+-- the lower half of the byte with the transaction type: of a request a code of how many bytes it
+-- asks for, of a response its status
 abbrev pub low_half_of : List ℕ → ℕ
-low_half_of bytes = slice_index bytes 4 % 16
+low_half_of bytes = slice_index bytes (ids_end bytes) % 16
+
+-- the length of a link form without data, with IDs of 8 bits or of 16
+abbrev pub short_length : Bool → ℕ
+short_length false = 12
+short_length true = 16
+
+-- the length of a link form with two words of data
+abbrev pub long_length : Bool → ℕ
+long_length false = 20
+long_length true = 24
 
 -- the bytes of a word
 abbrev pub word_bytes : ℕ → List ℕ

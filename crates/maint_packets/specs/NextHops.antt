@@ -1,5 +1,6 @@
--- Where a switch sends a packet that is first in one of its lists (RapidIO Interconnect Specification 1.3, Part 3, routing
--- and maintenance packets; that malformed packets and other widths of IDs are dropped is this project's profile).
+-- Where a switch sends a packet that is first in one of its lists (RapidIO Interconnect
+-- Specification 1.3, Part 3, routing and maintenance packets; that malformed packets and those of
+-- transport types 2 and 3 are dropped is this project's profile).
 use Rattle.std.specs.Prelude.{ℕ, ◌==◌, ◌&&◌, Bool, false, not, List, Option, Some, None, if◌then◌else◌}
 use Rattle.std.specs.Option.{option_and_then}
 use Rattle.rio_packets.specs.Fields.{dest_of, hop_of, ftype_of, is_maintenance, is_request}
@@ -27,9 +28,10 @@ abbrev pub to_port : Option ℕ → Next
 to_port None = Nowhere
 to_port (Some port) = Port port
 
--- Where a packet goes next, by the first rule that fits: a foreign packet is dropped; at the end of its hops a request goes to
--- the registers and any other maintenance packet is dropped; all others go to the port that the table names for their
--- destination, or are dropped if it names none or if they have an ID of another width.
+-- Where a packet goes next, by the first rule that fits: a foreign packet is dropped; at the end of
+-- its hops a request goes to the registers and any other maintenance packet is dropped; all others
+-- go to the port that the table names for their destination, or are dropped if it names none or if
+-- their transport type, 2 or 3, gives them no destination.
 abbrev pub next_of : Device → List ℕ → Next
 next_of device packet =
     if is_foreign packet then Nowhere

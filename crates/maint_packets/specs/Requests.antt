@@ -1,12 +1,13 @@
--- Maintenance requests, and the packets that carry them (RapidIO Interconnect Specification 1.3, Part 1, maintenance
--- packets; that only four bytes at a time are read or written is this project's profile).
-use Rattle.std.specs.Prelude.{ℕ, ◌/◌, ◌%◌, ◌==◌, ◌&&◌, Bool, List, length, slice_index, Option, Some, None, if◌then◌else◌}
-use Rattle.rio_packets.specs.Hops.{closed}
-use Rattle.rio_packets.specs.Fields.{prio_of, ttype_of, is_request, body_of}
+-- Maintenance requests, and the packets that carry them (RapidIO Interconnect Specification 1.3,
+-- Part 1, maintenance packets; that only four bytes at a time are read or written is this project's
+-- profile).
+use Rattle.std.specs.Prelude.{ℕ, ◌+◌, ◌/◌, ◌%◌, ◌==◌, ◌&&◌, Bool, List, length, slice_index, Option, Some, None, unwrap_or, if◌then◌else◌}
+use Rattle.rio_packets.specs.Hops.{ended, is_large}
+use Rattle.rio_packets.specs.Fields.{prio_of, dest_of, source_of, ids_end, hop_place, ttype_of, is_request, body_of}
 use Rattle.maint_packets.specs.declared.request.Op.{Op}
 use Rattle.maint_packets.specs.declared.request.Op.TheVariants.{Read, Write, BadRead, BadWrite}
 use Rattle.maint_packets.specs.declared.request.Request.{Request}
-use Rattle.maint_packets.specs.Layout.{word_at, offset_of, low_half_of, behind_ids}
+use Rattle.maint_packets.specs.Layout.{word_at, offset_of, tid_of, low_half_of, short_length, long_length, behind_ids}
 
 -- A double-word has two words. Bit 2 of the offset, wdptr, names the second.
 abbrev pub names_second : ℕ → Bool
@@ -18,7 +19,7 @@ in_half offset value = if names_second offset then (0, value) else (value, 0)
 
 -- the word of the data that the offset names
 abbrev pub value_in : List ℕ → ℕ
-value_in bytes = word_at bytes (if names_second (offset_of bytes) then 14 else 10)
+value_in bytes = word_at bytes (ids_end bytes + (if names_second (offset_of bytes) then 10 else 6))
 
 -- the size is that of four bytes, and the link form has so many bytes
 abbrev pub has_form : List ℕ → ℕ → Bool
@@ -27,8 +28,10 @@ has_form bytes long = (low_half_of bytes == 8) && (length bytes == long)
 -- what a request asks for: without data if it reads, with two words if it writes
 abbrev pub op_of : List ℕ → Op
 op_of bytes =
-    if ttype_of bytes == 0 then (if has_form bytes 12 then Read else BadRead)
-    else (if has_form bytes 20 then Write (value_in bytes) else BadWrite)
+    if ttype_of bytes == 0
+    then (if has_form bytes (short_length (is_large bytes)) then Read else BadRead)
+    else (if has_form bytes (long_length (is_large bytes)) then Write (value_in bytes)
+    else BadWrite)
 
 -- the request that a packet carries, if it is a maintenance packet of transaction type 0 or 1
 abbrev pub request_of : List ℕ → Option Request
@@ -36,11 +39,12 @@ request_of bytes =
     if is_request bytes
     then Some record {
       prio = prio_of bytes;
-      dest = slice_index bytes 2;
-      source = slice_index bytes 3;
+      dest = unwrap_or (dest_of bytes) 0;
+      source = unwrap_or (source_of bytes) 0;
+      large = is_large bytes;
       op = op_of bytes;
-      tid = slice_index bytes 5;
-      hop = slice_index bytes 6;
+      tid = tid_of bytes;
+      hop = slice_index bytes (hop_place bytes);
       offset = offset_of bytes;
     }
     else None
@@ -60,8 +64,9 @@ asked request _ = behind_ids 0 8 request.tid request.hop request.offset None
 
 -- the body of the packet that carries a request
 abbrev pub request_body : Request → List ℕ
-request_body request = body_of request.prio 8 request.dest request.source (asked request request.op)
+request_body request =
+    body_of request.prio 8 request.large request.dest request.source (asked request request.op)
 
 -- the packet that carries a request
 abbrev pub request_bytes : Request → List ℕ
-request_bytes request = closed (request_body request)
+request_bytes request = ended request.large (request_body request)

@@ -18,14 +18,17 @@ pub enum Next {
     Port(u8),
 }
 
-/// The format type of maintenance packets (RapidIO Interconnect Specification 1.3, Part 1, packet formats).
+/// The format type of maintenance packets (RapidIO Interconnect Specification 1.3, Part 1, packet
+/// formats).
 const MAINTENANCE: u8 = 8;
 
-/// Returns where a switch with these registers sends a packet, by the first rule that fits. A packet of format type 8 that is not a
-/// maintenance packet is dropped, and so is one with IDs of another width. A maintenance packet whose hop count is 0 goes to
-/// the registers if it is a request, and is dropped otherwise. Any other packet goes to the port that the route table names, and
-/// is dropped if it names none (RapidIO Interconnect Specification 1.3, Part 3, routing and maintenance packets; that
-/// malformed packets and other widths are dropped is this project's profile).
+/// Returns where a switch with these registers sends a packet, by the first rule that fits. A
+/// packet of format type 8 that is not a maintenance packet is dropped, and so is one of transport
+/// type 2 or 3. A maintenance packet whose hop count is 0 goes to the registers if it is a request,
+/// and is dropped otherwise. Any other packet goes to the port that the route table names, and is
+/// dropped if it names none (RapidIO Interconnect Specification 1.3, Part 3, routing and
+/// maintenance packets; that malformed packets and those of transport types 2 and 3 are dropped is
+/// this project's profile).
 pub fn next_of(registers: &Registers, packet: &Packet) -> Next
     ensures value { result ≡ next_of registers.now packet.now }
     ensures request { result ≡ Next.RegisterUnit → is_request packet.now ≡ true }
@@ -62,8 +65,9 @@ fn to_port(port: Option<u8>) -> Next
     }
 }
 
-/// Makes a packet ready to move to a port of a switch: the hop count of a maintenance packet is lowered by one, and its CRC made
-/// again (RapidIO Interconnect Specification 1.3, Part 3, hop count).
+/// Makes a packet ready to move to a port of a switch: the hop count of a maintenance packet is
+/// lowered by one, and its CRC made again (RapidIO Interconnect Specification 1.3, Part 3, hop
+/// count).
 pub fn move_on(packet: &mut Packet)
     requires { is_at_end packet.old ≡ false }
     ensures moved { packet.new ≡ moved packet.old }

@@ -1,9 +1,13 @@
 //! Maintenance responses.
-ghost use Rattle.std.specs.Prelude.{◌≡◌, ◌<◌, ◌≤◌, length, Some, if◌then◌else◌};
+ghost use Rattle.std.specs.Prelude.{◌≡◌, ◌+◌, ◌<◌, ◌≤◌, false, length, Some, if◌then◌else◌};
 ghost use Rattle.rio_packets.specs.LinkForm.{LinkForm};
+ghost use Rattle.rio_packets.specs.Fields.{ids_end};
 ghost use Rattle.maint_packets.specs.Responses.{is_with_data, is_without_data, response_of, IsFormed, response_body, response_bytes};
 
-use crate::layout::{Parts, WITH_DATA, WITHOUT_DATA, built, maintenance_bytes, word_at};
+use crate::layout::{
+    Parts, built, is_large, long_length, low_half_of, maintenance_bytes, short_length, tid_of,
+    ttype_of, word_at,
+};
 use rio_packets::Packet;
 
 /// What was asked is done (RapidIO Interconnect Specification 1.3, Part 1, response status).
@@ -24,9 +28,11 @@ pub struct Response {
     /// The priority, 0 to 3, of which 3 is the highest.
     pub prio: u8,
     /// The destination ID.
-    pub dest: u8,
+    pub dest: u16,
     /// The source ID.
-    pub source: u8,
+    pub source: u16,
+    /// Whether the IDs have 16 bits each, and not 8.
+    pub large: bool,
     /// Whether a request to write is answered.
     pub write: bool,
     /// 0 if what was asked is done, 7 if it could not be done.
@@ -39,15 +45,16 @@ pub struct Response {
     pub words: Option<(u32, u32)>,
 }
 
-/// Reads the response that a packet carries. `None` comes exactly if it is not a maintenance packet of one of these forms: a read
-/// with status 0 and two words of data, a read with status 7 and no data, or a write with status 0 or 7 and no data
-/// (RapidIO Interconnect Specification 1.3, Part 1, maintenance packets; the data of a response by this project's profile).
+/// Reads the response that a packet carries. `None` comes exactly if it is not a maintenance packet
+/// of one of these forms: a read with status 0 and two words of data, a read with status 7 and no
+/// data, or a write with status 0 or 7 and no data (RapidIO Interconnect Specification 1.3, Part 1,
+/// maintenance packets; the data of a response by this project's profile).
 pub fn read_response(packet: &Packet) -> Option<Response>
     ensures { result ≡ response_of packet.now }
 {
     let bytes = maintenance_bytes(packet)?;
     let words = if is_with_data(bytes) {
-        Some((word_at(bytes, 10), word_at(bytes, 14)))
+        Some((word_at(bytes, 6), word_at(bytes, 10)))
     } else if is_without_data(bytes) {
         None
     } else {
@@ -55,32 +62,35 @@ pub fn read_response(packet: &Packet) -> Option<Response>
     };
     Some(Response {
         prio: packet.prio(),
-        dest: bytes[2],
-        source: bytes[3],
-        write: bytes[4] >> 4 == WRITE,
-        status: bytes[4] & 15,
-        tid: bytes[5],
-        hop: bytes[6],
+        dest: packet.dest()?,
+        source: packet.source()?,
+        large: is_large(bytes),
+        write: ttype_of(bytes) == WRITE,
+        status: low_half_of(bytes),
+        tid: tid_of(bytes),
+        hop: packet.hop()?,
         words,
     })
 }
 
 /// Whether it is a read that is done.
 fn is_with_data(bytes: &[u8]) -> bool
-    requires { 10 ≤ length bytes.now }
+    requires { ids_end bytes.now + 8 ≤ length bytes.now }
     ensures { result ≡ is_with_data bytes.now }
 {
-    bytes[4] >> 4 == READ && bytes[4] & 15 == DONE && bytes.len() == WITH_DATA
+    ttype_of(bytes) == READ
+        && low_half_of(bytes) == DONE
+        && bytes.len() == long_length(is_large(bytes))
 }
 
 /// Whether it is a read that failed, or a write.
 fn is_without_data(bytes: &[u8]) -> bool
-    requires { 10 ≤ length bytes.now }
+    requires { ids_end bytes.now + 8 ≤ length bytes.now }
     ensures { result ≡ is_without_data bytes.now }
 {
-    let ttype = bytes[4] >> 4;
-    let status = bytes[4] & 15;
-    bytes.len() == WITHOUT_DATA
+    let ttype = ttype_of(bytes);
+    let status = low_half_of(bytes);
+    bytes.len() == short_length(is_large(bytes))
         && ((ttype == READ && status == ERROR)
             || (ttype == WRITE && (status == DONE || status == ERROR)))
 }
@@ -89,6 +99,8 @@ fn is_without_data(bytes: &[u8]) -> bool
 pub fn write_response(response: &Response) -> Packet
     requires form { IsFormed response.now.write response.now.status response.now.words }
     requires prio { response.now.prio < 4 }
+    requires dest { response.now.large ≡ false → response.now.dest < 256 }
+    requires source { response.now.large ≡ false → response.now.source < 256 }
     ensures form { LinkForm (response_body response.now) result }
     ensures value { result ≡ response_bytes response.now }
     ensures read_back { response_of result ≡ Some response.now }
@@ -101,7 +113,13 @@ pub fn write_response(response: &Response) -> Packet
         offset: 0,
         words: response.words,
     };
-    built(response.prio, response.dest, response.source, &parts)
+    built(
+        response.prio,
+        response.large,
+        response.dest,
+        response.source,
+        &parts,
+    )
 }
 
 /// The transaction type of a response.

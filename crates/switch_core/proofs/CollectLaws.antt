@@ -1,12 +1,10 @@
 -- What an endpoint collects where its first packet is a request.
-use Rattle.std.proofs.Common.{◌≡◌, ℕ, ◌+◌, min, true, false, Bool, Option, Some, None, List, ap, sym, ◌∙◌, refl, if◌then◌else◌}
-use Rattle.rio_packets.specs.Fields.{prio_of}
+use Rattle.std.proofs.Common.{◌≡◌, ℕ, ◌+◌, min, true, false, Some, List, ap, sym, ◌∙◌, if◌then◌else◌}
 use Rattle.maint_registers.specs.Devices.{Device}
 use Rattle.maint_packets.specs.declared.request.Request.{Request}
 use Rattle.maint_packets.specs.Requests.{request_of}
 use Rattle.maint_packets.specs.Responses.{response_bytes}
 use Rattle.maint_packets.specs.Answers.{answered}
-use Rattle.switch_core.specs.declared.endpoint.Collected.{Collected}
 use Rattle.switch_core.specs.declared.endpoint.Collected.TheVariants.{Answered, Full}
 use Rattle.switch_core.specs.Faces.{Face, has_room}
 use Rattle.switch_core.specs.EndpointSteps.{first_held, collected_of, collected_head, collected}

@@ -1,5 +1,5 @@
 -- The first of several that has an answer.
-use Rattle.std.proofs.Common.{◌≡◌, true, false, is_some, IsSome, ℕ, zero, suc, ◌+◌, ◌<◌, ◌≤◌, Option, Some, None, refl, ap, sym, ◌∙◌, ◌⊎◌, inl, inr, arith}
+use Rattle.std.proofs.Common.{◌≡◌, true, false, is_some, IsSome, ℕ, zero, suc, ◌+◌, ◌<◌, Option, Some, None, refl, ap, sym, ◌∙◌, ◌⊎◌, inl, inr, arith}
 use Rattle.std.specs.Option.{option_or}
 use Rattle.std.proofs.lemmas.Bool.{cases_eq}
 use Rattle.switch_core.specs.Order.{least_first, greatest_first}

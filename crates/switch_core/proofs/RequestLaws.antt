@@ -1,7 +1,7 @@
 -- Requests at the front of a list, and the priority of their responses.
-use Rattle.std.proofs.Common.{◌≡◌, ℕ, ◌+◌, ◌*◌, ◌/◌, ◌<◌, min, true, false, Bool, Option, Some, None, IsSome, is_some, List, [], ◌∷◌, slice_get, get_or, All, refl, sym, ap, ◌∙◌, arith, if◌then◌else◌}
-use Rattle.rio_packets.specs.Hops.{closed}
-use Rattle.rio_packets.specs.Fields.{prio_of, is_request}
+use Rattle.std.proofs.Common.{◌≡◌, ℕ, ◌+◌, ◌<◌, min, true, false, Bool, Option, Some, None, unwrap_or, IsSome, List, [], ◌∷◌, slice_get, get_or, All, refl, sym, ap, ◌∙◌, arith, if◌then◌else◌}
+use Rattle.rio_packets.specs.Hops.{closed, ended, is_large}
+use Rattle.rio_packets.specs.Fields.{prio_of, dest_of, source_of, hop_place, is_request, body_of}
 use Rattle.maint_registers.specs.Devices.{Device}
 use Rattle.maint_registers.specs.Access.{value_at, written_at}
 use Rattle.maint_packets.specs.declared.request.Op.{Op}
@@ -9,7 +9,7 @@ use Rattle.maint_packets.specs.declared.request.Op.TheVariants.{Read, Write, Bad
 use Rattle.maint_packets.specs.declared.request.Request.{Request}
 use Rattle.maint_packets.specs.declared.response.Response.{Response}
 use Rattle.maint_packets.specs.Requests.{op_of, request_of}
-use Rattle.maint_packets.specs.Layout.{offset_of}
+use Rattle.maint_packets.specs.Layout.{offset_of, tid_of, behind_ids}
 use Rattle.maint_packets.specs.Responses.{response_bytes}
 use Rattle.maint_packets.specs.Answers.{answered, answered_to, after_read, after_write}
 use Rattle.link_buffers.specs.Queues.{list_at}
@@ -43,19 +43,27 @@ pub request_there : (packet : List ℕ) → is_request packet ≡ true → (requ
 request_there packet is = (
   record {
     prio = prio_of packet;
-    dest = get_or packet 2 0;
-    source = get_or packet 3 0;
+    dest = unwrap_or (dest_of packet) 0;
+    source = unwrap_or (source_of packet) 0;
+    large = is_large packet;
     op = op_of packet;
-    tid = get_or packet 5 0;
-    hop = get_or packet 6 0;
+    tid = tid_of packet;
+    hop = get_or packet (hop_place packet) 0;
     offset = offset_of packet;
   },
   rw is refl,
 )
 
-response_bytes-prio : (response : Response) → prio_of (response_bytes response) ≡ response.prio
+ended_prio : (large : Bool) (prio dest source : ℕ) (rest : List ℕ)
+    → prio_of (ended large (body_of prio 8 large dest source rest)) ≡ prio
 unfolding closed
-response_bytes-prio response = omega arith
+ended_prio false prio dest source rest = omega arith
+ended_prio true prio dest source rest = omega arith
+
+response_bytes-prio : (response : Response) → prio_of (response_bytes response) ≡ response.prio
+response_bytes-prio response =
+    ended_prio response.large response.prio response.dest response.source
+    (behind_ids (if response.write then 3 else 2) response.status response.tid response.hop 0 response.words)
 
 answered_to-prio : (device : Device) (request : Request) (port : ℕ) (op : Op) → (answered_to device request port op).response.prio ≡ min (request.prio + 1) 3
 answered_to-prio device request port Read = read (value_at device request.offset port)

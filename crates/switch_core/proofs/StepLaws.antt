@@ -1,16 +1,15 @@
 -- The step of a first packet.
-use Rattle.std.proofs.Common.{◌≡◌, ℕ, ◌+◌, ◌<◌, min, true, false, Bool, Option, Some, None, IsSome, is_some, List, slice_get, refl, sym, ap, ◌∙◌, if◌then◌else◌}
+use Rattle.std.proofs.Common.{◌≡◌, ℕ, ◌+◌, min, true, false, Bool, Option, Some, None, IsSome, is_some, List, refl, sym, ap, ◌∙◌, if◌then◌else◌}
 use Rattle.rio_packets.specs.Fields.{prio_of, is_request}
 use Rattle.maint_registers.specs.Devices.{Device}
 use Rattle.maint_packets.specs.declared.next_hop.Next.{Next}
-use Rattle.maint_packets.specs.declared.next_hop.Next.TheVariants.{Nowhere, RegisterUnit, Port}
+use Rattle.maint_packets.specs.declared.next_hop.Next.TheVariants.{RegisterUnit, Port}
 use Rattle.maint_packets.specs.declared.request.Request.{Request}
 use Rattle.maint_packets.specs.NextHops.{next_of}
 use Rattle.maint_packets.specs.Requests.{request_of}
 use Rattle.maint_packets.specs.Responses.{response_bytes}
 use Rattle.maint_packets.specs.Answers.{answered}
-use Rattle.switch_core.specs.declared.switch.Step.{Step}
-use Rattle.switch_core.specs.declared.switch.Step.TheVariants.{Moved, Dropped, Answered, Nothing}
+use Rattle.switch_core.specs.declared.switch.Step.TheVariants.{Moved, Answered}
 use Rattle.switch_core.specs.Faces.{Face, face_at, head_of, has_room}
 use Rattle.switch_core.specs.SwitchSteps.{answer_step, step_to, step_of_head, step_at}
 use Rattle.switch_core.proofs.RequestLaws.{request_prio, request_there, answer_prio}
@@ -18,6 +17,12 @@ use Rattle.switch_core.proofs.RequestLaws.{request_prio, request_there, answer_p
 is_some-if : {A : Type 0} (b : Bool) (x : A) → b ≡ is_some (if b then Some x else None)
 is_some-if true x = refl
 is_some-if false x = refl
+
+if_some : {A : Type 0} (b : Bool) (x : A) (o : Option A) → o ≡ (if b then Some x else None) → IsSome o
+    → o ≡ Some x
+if_some true x o e h = e
+if_some false x None e h = cc
+if_some false x (Some y) e h = cc
 
 module _ (device : Device) (faces : List Face) (prio port : ℕ) (packet : List ℕ)
     (head : head_of (face_at faces port) prio ≡ Some packet) (same : prio_of packet ≡ prio) where
@@ -51,3 +56,14 @@ module _ (device : Device) (faces : List Face) (prio port : ℕ) (packet : List 
       let request = found.0 in
       is ∙ is_some-if (has_room (face_at faces port) (min (prio + 1) 3)) (Answered port packet (response_bytes (answered device request port).response))
       ∙ ap is_some (sym (step_at-answer request next found.1))
+
+  -- what is done for a request to the registers if it can go
+  pub answered_step : (request : Request) (response : List ℕ) → next_of device packet ≡ RegisterUnit
+      → request_of packet ≡ Some request → response ≡ response_bytes (answered device request port).response
+      → IsSome (step_at device faces prio port)
+      → step_at device faces prio port ≡ Some (Answered port packet response)
+  answered_step request response next is same_response goes =
+      if_some (has_room (face_at faces port) (min (prio + 1) 3))
+      (Answered port packet (response_bytes (answered device request port).response))
+      (step_at device faces prio port) (step_at-answer request next is) goes
+      ∙ ap (λ bytes. Some (Answered port packet bytes)) (sym same_response)

@@ -114,8 +114,10 @@ fn holds<P: PortFace>(port: &P, prio: u8) -> bool
 /// The request that the first packet of a priority is, if it is one.
 fn first_request<P: PortFace>(port: &P, prio: u8) -> Option<Request>
     requires { prio < 4 }
-    ensures { result
+    ensures value { result
         ≡ option_and_then request_of (head_of (face_of P.received P.queued port.now) prio) }
+    ensures dest { IfSome result (λ request. request.large ≡ false → request.dest < 256) }
+    ensures source { IfSome result (λ request. request.large ≡ false → request.source < 256) }
 {
     read_request(port.in_head(prio)?)
 }
@@ -148,6 +150,8 @@ fn answer_first<P: PortFace>(
     requires held { IsSome (head_of (face_of P.received P.queued port.old) prio) }
     requires room { has_room (face_of P.received P.queued port.old)
         (min (request.now.prio + 1) 3) ≡ true }
+    requires dest { request.now.large ≡ false → request.now.dest < 256 }
+    requires source { request.now.large ≡ false → request.now.source < 256 }
     ensures value { (packet : List ℕ)
         → head_of (face_of P.received P.queued port.old) prio ≡ Some packet
         → result ≡ Collected.Answered packet

@@ -20,21 +20,24 @@ const READ: [u8; 12] = [0, 8, 9, 1, 8, 5, 1, 0, 0, 0x10, 0x63, 0x3e];
 const READ_MOVED: [u8; 12] = [0, 8, 9, 1, 8, 5, 0, 0, 0, 0x10, 0x15, 0x8a];
 
 const RESPONSE: [u8; 20] = [
-    0, 0x48, 1, 9, 0x20, 5, 0xff, 0, 0, 0, 0x10, 0, 1, 8, 0, 0, 0, 0, 1, 0xe8,
+    0, 0x48, 1, 9, 0x20, 5, 0xff, 0, 0, 0, 0x10, 0, 1, 0x18, 0, 0, 0, 0, 5, 0xb2,
 ];
 
 const RESPONSE_MOVED: [u8; 20] = [
-    0, 0x48, 1, 9, 0x20, 5, 0xfe, 0, 0, 0, 0x10, 0, 1, 8, 0, 0, 0, 0, 2, 0x9d,
+    0, 0x48, 1, 9, 0x20, 5, 0xfe, 0, 0, 0, 0x10, 0, 1, 0x18, 0, 0, 0, 0, 6, 0xc7,
 ];
 
 /// The response of an endpoint to the same read.
 const ENDPOINT_RESPONSE: [u8; 20] = [
-    0, 0x48, 1, 9, 0x20, 5, 0xff, 0, 0, 0, 0, 0, 0, 8, 0, 0, 0, 0, 0x79, 0xfc,
+    0, 0x48, 1, 9, 0x20, 5, 0xff, 0, 0, 0, 0, 0, 0, 0x18, 0, 0, 0, 0, 0x7d, 0xa6,
 ];
 
-/// Packets of the transport types 1 to 3.
-const OTHER_1: [u8; 8] = [0, 0x1f, 2, 1, 0x9d, 0xd1, 0, 0];
+/// Packets with 16-bit IDs, for the destinations 2 and 513.
+const LARGE_FOR_2: [u8; 8] = [0, 0x1f, 0, 2, 0, 1, 0x11, 0xf2];
 
+const LARGE_FOR_513: [u8; 8] = [0, 0x1f, 2, 1, 0, 1, 0xa5, 0xca];
+
+/// Packets of the transport types 2 and 3.
 const OTHER_2: [u8; 8] = [0, 0x2f, 2, 1, 0x58, 0x74, 0, 0];
 
 const OTHER_3: [u8; 8] = [0, 0x3f, 2, 1, 0x1b, 0x17, 0, 0];
@@ -145,8 +148,16 @@ fn the_highest_priority_goes_first(rt: HostRuntime) {
 }
 
 #[test]
-fn other_widths_of_ids_are_dropped(rt: HostRuntime) {
-    for bytes in [OTHER_1, OTHER_2, OTHER_3] {
+fn ids_of_16_bits_go_by_their_number(rt: HostRuntime) {
+    let [first, second, third] = two_steps(&rt, rt.alloc(), 2, &LARGE_FOR_2, &LARGE_FOR_513);
+    assert_eq!(rt; first, moved(&rt, 1, &LARGE_FOR_2));
+    assert_eq!(rt; second, moved(&rt, 2, &LARGE_FOR_513));
+    assert_eq!(rt; third, Step::Nothing);
+}
+
+#[test]
+fn packets_without_ids_are_dropped(rt: HostRuntime) {
+    for bytes in [OTHER_2, OTHER_3] {
         let [first, _, _] = two_steps(&rt, rt.alloc(), 1, &bytes, &FOR_7);
         assert_eq!(rt; first, dropped(&rt, &bytes));
     }

@@ -1,10 +1,10 @@
-use Rattle.std.proofs.Common.{◌≡◌, ◌+◌, min, true, false, Some, List, ℕ, ap, sym, ◌∙◌}
+use Rattle.std.proofs.Common.{◌≡◌, ◌+◌, min, true, false, ap, sym, ◌∙◌}
 use Rattle.std.specs.Option.{option_and_then}
 use Rattle.maint_packets.specs.Requests.{request_of}
 use Rattle.maint_packets.specs.Responses.{response_bytes}
 use Rattle.maint_packets.specs.Answers.{answered}
 use Rattle.switch_core.specs.Faces.{face_of, head_of, has_room, without_head, with_packet}
-use Rattle.switch_core.specs.EndpointSteps.{first_held, face_after, device_after, answered_on_0}
+use Rattle.switch_core.specs.EndpointSteps.{face_after, device_after, answered_on_0}
 use Rattle.switch_core.proofs.RequestLaws.{first_has_prio, some_there}
 use Rattle.switch_core.proofs.CollectLaws.{full, answers}
 use Rattle.switch_core.proofs.endpoint.endpoint_collect.Goals as goal
@@ -13,7 +13,7 @@ pub returns-then-not-has_room-clause-collected : goal.returns-then-not-has_room-
 returns-then-not-has_room-clause-collected g c =
     let face = face_of g.P.PortFace.received g.P.PortFace.queued c.args.port.now in
     let there = some_there (head_of face c.in-Some.prio) c.in-Some.ensures.held in
-    let asks = sym (c.in-Some-first_request.ensures ∙ ap (option_and_then request_of) there.1) in
+    let asks = sym (c.in-Some-first_request.ensures.value ∙ ap (option_and_then request_of) there.1) in
     let none : has_room face (min (c.in-Some-first_request.request.prio + 1) 3) ≡ false =
     ap (has_room face) (sym c.response_prio.ensures.value) ∙ sym c.has_room.ensures ∙ c.if-not-has_room.true in
     full c.args.registers.now face there.0 c.in-Some-first_request.request (c.in-Some.ensures.value ∙ there.1) asks none
@@ -22,7 +22,7 @@ pub returns-clause-collected : goal.returns-clause-collected
 returns-clause-collected g c =
     let face = face_of g.P.PortFace.received g.P.PortFace.queued c.args.port.now in
     let there = some_there (head_of face c.in-Some.prio) c.in-Some.ensures.held in
-    let asks = sym (c.in-Some-first_request.ensures ∙ ap (option_and_then request_of) there.1) in
+    let asks = sym (c.in-Some-first_request.ensures.value ∙ ap (option_and_then request_of) there.1) in
     let room : has_room face (min (c.in-Some-first_request.request.prio + 1) 3) ≡ true =
     ap (has_room face) (sym c.response_prio.ensures.value) ∙ sym c.has_room.ensures ∙ c.if-not-has_room.false in
     c.answer_first.ensures.value there.0 there.1
@@ -42,7 +42,7 @@ pub returns-clause-registers : goal.returns-clause-registers
 returns-clause-registers g c =
     let face = face_of g.P.PortFace.received g.P.PortFace.queued c.args.port.now in
     let there = some_there (head_of face c.in-Some.prio) c.in-Some.ensures.held in
-    let asks = sym (c.in-Some-first_request.ensures ∙ ap (option_and_then request_of) there.1) in
+    let asks = sym (c.in-Some-first_request.ensures.value ∙ ap (option_and_then request_of) there.1) in
     c.answer_first.ensures.registers
     ∙ sym (ap (device_after c.args.registers.now) (c.answer_first.ensures.value there.0 there.1)
     ∙ ap (answered_on_0 c.args.registers.now) asks)

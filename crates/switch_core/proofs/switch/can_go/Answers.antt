@@ -1,5 +1,4 @@
 use Rattle.std.proofs.Common.{◌≡◌, Some, refl, ap, ◌∙◌, sym}
-use Rattle.rio_packets.specs.Fields.{prio_of}
 use Rattle.switch_core.specs.Faces.{Face, face_of, faces_of, face_at, head_of, has_room}
 use Rattle.switch_core.proofs.FaceLaws.{face_at-port}
 use Rattle.switch_core.proofs.RequestLaws.{first_has_prio}

@@ -1,6 +1,6 @@
-use Rattle.std.proofs.Common.{ℕ, ◌+◌, ◌-◌, ◌∙◌, sym, arith}
+use Rattle.std.proofs.Common.{ℕ, ◌-◌, ◌∙◌, sym, arith}
 use Rattle.switch_core.specs.Faces.{faces_of}
-use Rattle.switch_core.specs.Order.{least_first, greatest_first}
+use Rattle.switch_core.specs.Order.{least_first}
 use Rattle.switch_core.specs.SwitchSteps.{step_at}
 use Rattle.switch_core.proofs.OrderLaws.{greatest_first-none, greatest_first-at, greatest_first-passed}
 use Rattle.switch_core.proofs.switch.first_place.Goals as goal

@@ -1,4 +1,4 @@
-use Rattle.std.proofs.Common.{ℕ, Option, ◌+◌, ◌∙◌, sym, arith}
+use Rattle.std.proofs.Common.{◌+◌, ◌∙◌, sym, arith}
 use Rattle.switch_core.specs.Faces.{faces_of}
 use Rattle.switch_core.specs.SwitchSteps.{step_at}
 use Rattle.switch_core.proofs.OrderLaws.{least_first-none, least_first-at, least_first-over}

@@ -1,4 +1,4 @@
-use Rattle.std.proofs.Common.{◌≡◌, ℕ, None}
+use Rattle.std.proofs.Common.{◌≡◌, None}
 use Rattle.switch_core.specs.Faces.{faces_of}
 use Rattle.switch_core.specs.Order.{least_first}
 use Rattle.switch_core.specs.SwitchSteps.{step_at}

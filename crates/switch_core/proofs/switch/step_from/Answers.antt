@@ -1,9 +1,21 @@
-use Rattle.std.proofs.Common.{ℕ, List, ap, ◌∙◌, sym}
+use Rattle.std.proofs.Common.{ap, ◌∙◌, sym}
 use Rattle.maint_packets.specs.NextHops.{moved}
-use Rattle.switch_core.specs.Faces.{Face, taken_at, put_at, faces_of}
+use Rattle.maint_packets.specs.Responses.{response_bytes}
+use Rattle.switch_core.specs.Faces.{taken_at, put_at, faces_of}
 use Rattle.switch_core.proofs.FaceLaws.{AreAlike-on}
 use Rattle.switch_core.proofs.RequestLaws.{first_has_prio}
+use Rattle.switch_core.proofs.StepLaws.{answered_step}
 use Rattle.switch_core.proofs.switch.step_from.Goals as goal
+
+pub returns-in-Some-read_request-clause-step : goal.returns-in-Some-read_request-clause-step
+returns-in-Some-read_request-clause-step g c =
+    let faces = faces_of g.P.PortFace.received g.P.PortFace.queued c.args.ports.now in
+    let head = sym c.in-Some.ensures.value in
+    let same = first_has_prio _ c.args.place.prio c.in-Some.packet c.requires.lists c.requires.prio head in
+    let response = c.write_response-response.ensures.value ∙ ap response_bytes c.answer.ensures.response in
+    answered_step c.args.registers.now faces c.args.place.prio c.args.place.port c.in-Some.packet head same
+    c.in-Some-read_request.request c.write_response-response.result (sym c.in-RegisterUnit.ensures.value)
+    (sym c.in-Some-read_request.ensures.value) response c.requires.goes
 
 pub returns-in-Some-read_request-clause-faces : goal.returns-in-Some-read_request-clause-faces
 returns-in-Some-read_request-clause-faces g c =
