@@ -2,3 +2,9 @@ pub mod Texts
 pub mod Memories
 pub mod Keeping
 pub mod ReadLaws
+pub mod Tracing
+pub mod Numbers
+pub mod Items
+pub mod Arriving
+pub mod NoTakes
+pub mod Responses

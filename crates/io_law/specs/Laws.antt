@@ -1,12 +1,19 @@
 -- Laws of what a run of a script of reads and writes tells.
-use Rattle.std.specs.Prelude.{◌≡◌, ℕ, ◌+◌, List, length, take, slice_get, slice_range, Some}
+use Rattle.std.specs.Prelude.{◌≡◌, ◌≤◌, ◌<◌, ℕ, ◌+◌, false, List, length, map, take, slice_get, slice_range, Some}
+use Rattle.std.specs.List.{AllByRecursion}
+use Rattle.rio_packets.specs.Fields.{ftype_of, is_maintenance}
 use Rattle.fabric_script.specs.declared.lines.Numbered.{Numbered}
+use Rattle.fabric_model.specs.Laws.History.{WasTaken}
+use Rattle.fabric_model.specs.Laws.Holding.{how_often}
+use Rattle.fabric_trace.specs.Lines.{steps_of}
+use Rattle.fabric_trace.specs.Runs.{start}
 use Rattle.io_memory.specs.declared.meeting.Met.TheVariants.{Read}
 use Rattle.io_script.specs.declared.lines.NumberedIo.{NumberedIo}
 use Rattle.io_rounds.specs.Stations.{memory_of}
 use Rattle.io_rounds.specs.Drives.{IsIoFit, first_state}
 use Rattle.io_rounds.specs.Going.{IoState, IoComes}
 use Rattle.io_law.specs.Telling.{Came, told, text_told, memory_left}
+use Rattle.io_law.specs.Items.{asked, came, replied, packets_told, asked_line, came_line, lines_in}
 
 -- A read that is told gives the bytes that stand in the memory that the lines before it leave.
 abbrev pub ReadsAreTold : Type 0
@@ -29,3 +36,44 @@ abbrev pub OutputIsTold : Type 0
 OutputIsTold = (names : List (List ℕ)) (script : List Numbered) (io : List NumberedIo)
     (s : IoState) (comes : IoComes names script (first_state names io) s)
     → s.output ≡ text_told names (told comes)
+
+-- Each line that says that a node asked, or that a packet came to a node, is of one packet. No two
+-- lines that say that a node asked are of one, nor two that say that a packet came.
+pub record OneLineEach {names : List (List ℕ)} {script : List Numbered} {first s : IoState}
+    (comes : IoComes names script first s) : Type 0 where
+  pub asked_each : length (asked comes) ≡ lines_in asked_line (told comes)
+  pub asked_once : (n : ℕ) → how_often n (asked comes) ≤ 1
+  pub came_each : length (came comes) ≡ lines_in came_line (told comes)
+  pub came_once : (n : ℕ) → how_often n (came comes) ≤ 1
+
+abbrev pub PacketsHaveOneLine : Type 0
+PacketsHaveOneLine = (names : List (List ℕ)) (script : List Numbered) (io : List NumberedIo)
+    (s : IoState) (comes : IoComes names script (first_state names io) s)
+    → IsIoFit names script io → OneLineEach comes
+
+-- The packets that came are those that the lines tell of. Each was taken by the network before, as
+-- the item says; and it is as it was taken, if it is no maintenance packet.
+pub record ComesAsTaken {names : List (List ℕ)} {script : List Numbered} {first s : IoState}
+    (comes : IoComes names script first s) : Type 0 where
+  pub shown : map (λ item. item.now) (came comes) ≡ packets_told comes
+  pub as_taken : AllByRecursion
+      (λ item. WasTaken (start script).network (steps_of s.trace) item
+      × (is_maintenance item.now ≡ false → item.now ≡ item.taken)) (came comes)
+
+abbrev pub PacketsComeAsTaken : Type 0
+PacketsComeAsTaken = (names : List (List ℕ)) (script : List Numbered) (io : List NumberedIo)
+    (s : IoState) (comes : IoComes names script (first_state names io) s)
+    → IsIoFit names script io → ComesAsTaken comes
+
+-- Each response that came, which has format type 13, is a packet with which a node replied. No two
+-- of these replies are of one packet.
+pub record ResponsesAreReplies {names : List (List ℕ)} {script : List Numbered} {first s : IoState}
+    (comes : IoComes names script first s) : Type 0 where
+  pub replies : AllByRecursion
+      (λ item. ftype_of item.now ≡ 13 → 0 < how_often item.number (replied comes)) (came comes)
+  pub replied_once : (n : ℕ) → how_often n (replied comes) ≤ 1
+
+abbrev pub ResponsesWereReplied : Type 0
+ResponsesWereReplied = (names : List (List ℕ)) (script : List Numbered) (io : List NumberedIo)
+    (s : IoState) (comes : IoComes names script (first_state names io) s)
+    → IsIoFit names script io → ResponsesAreReplies comes

@@ -1,5 +1,12 @@
 //! Laws of whole runs of a script of reads and writes.
-ghost use Rattle.io_law.specs.Laws.{MemoriesAreTold, OutputIsTold, ReadsAreTold};
+ghost use Rattle.io_law.specs.Laws.{
+  MemoriesAreTold,
+  OutputIsTold,
+  PacketsComeAsTaken,
+  PacketsHaveOneLine,
+  ReadsAreTold,
+  ResponsesWereReplied,
+};
 
 /// In every run of a script that may be carried out, if a read is told, the lines told before it
 /// leave a memory at its node, and its bytes are those that stand there.
@@ -16,4 +23,25 @@ pub fn memories_are_as_told()
 /// What is written in a run is the text of the lines that it told, in order.
 pub fn output_is_what_was_told()
     ensures { OutputIsTold }
+{}
+
+/// In every run of a script that may be carried out, each line that says that a node asked or that
+/// a packet came is of one packet, and no two lines of a kind are of the same one. So what a node
+/// asked with gives at most one line when it comes.
+pub fn packets_have_one_line()
+    ensures { PacketsHaveOneLine }
+{}
+
+/// In every run of a script that may be carried out, the packets that came to nodes, as the lines
+/// tell it, were taken by the network before. Each is as it was taken, if it is no maintenance
+/// packet: so is each read, write and response.
+pub fn packets_come_as_taken()
+    ensures { PacketsComeAsTaken }
+{}
+
+/// In every run of a script that may be carried out, each response that came is a packet with which
+/// a node replied, and no two replies are of one packet. So each `done` line is of a reply, and no
+/// reply gives two.
+pub fn responses_were_replied()
+    ensures { ResponsesWereReplied }
 {}

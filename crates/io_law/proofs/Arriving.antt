@@ -1,0 +1,138 @@
+-- What comes is what was taken, if it is no maintenance packet.
+use Rattle.std.proofs.Common.{◌≡◌, ℕ, Bool, true, false, List, [], ◌∷◌, ◌++◌, map, IsTrue, MatchBool, refl, ap₂, ◌∙◌, subst}
+use Rattle.std.specs.List.{AllByRecursion}
+use Rattle.std.proofs.lemmas.Bool.{false≢true}
+use Rattle.std.proofs.lemmas.List.{map-append}
+use Rattle.rio_packets.specs.Fields.{is_maintenance, Lowered}
+use Rattle.fabric_script.specs.declared.lines.Numbered.{Numbered}
+use Rattle.fabric_model.specs.Network.{Item}
+use Rattle.fabric_model.specs.Laws.History.{Left, ended_by, gone, WasTaken}
+use Rattle.fabric_model.specs.Laws.Holding.{how_often}
+use Rattle.fabric_model.specs.Laws.Leaving.{IsAfterMoves, AsItWas, OnceMore, moves}
+use Rattle.fabric_model.proofs.Boards.{all-append, all_weaker}
+use Rattle.fabric_trace.specs.Fold.{seen}
+use Rattle.fabric_trace.specs.Lines.{steps_of}
+use Rattle.fabric_trace.specs.Runs.{start, set_up_all, bare}
+use Rattle.fabric_trace.specs.SetUps.{IsSetUp}
+use Rattle.fabric_trace.proofs.Starting.{lawful}
+use Rattle.fabric_ports.specs.Events.{happened}
+use Rattle.fabric_ports.specs.declared.answers.Happened.{Happened}
+use Rattle.fabric_ports.specs.declared.answers.Happened.TheVariants as Answers
+use Rattle.io_rounds.specs.Tasks.{IoTask, Carry, Ask, Settle, Turn, Reply, Take, Finish}
+use Rattle.io_rounds.specs.Going.{IoState, IoGoes, Begins, Turns, Acts, Ends, IoComes, Here, Goes}
+use Rattle.io_law.specs.Items.{came_behind, packet_behind, network_at, came_by, came, packets_by, packets_told}
+use Rattle.io_law.specs.Laws.{PacketsComeAsTaken}
+use Rattle.io_law.proofs.Items.{left_one}
+use Rattle.io_law.proofs.Tracing.{added, IsSentTrace, event_legal, sent_comes, fit_set_up, gathered_goes}
+
+-- ---- packets that do not change
+
+one_move : (old new taken : List ℕ) (b : Bool) → is_maintenance old ≡ b
+    → MatchBool b (Lowered old new) (new ≡ old) → is_maintenance new ≡ false
+    → (is_maintenance old ≡ false → old ≡ taken) → new ≡ taken
+one_move old new taken true was move none before =
+    absurd (false≢true (subst IsTrue none move.is))
+one_move old new taken false was move none before = move ∙ before was
+
+pub same_after : (taken : List ℕ) (n : ℕ) (now : List ℕ) → IsAfterMoves taken n now
+    → is_maintenance now ≡ false → now ≡ taken
+same_after taken n now AsItWas none = refl
+same_after taken _ now (OnceMore {n} {old} before move) none =
+    one_move old now taken (is_maintenance old) refl move none (same_after taken n old before)
+
+-- ---- what came is what left, as the lines tell it
+
+packet_act : (task : IoTask) (what : Happened) (items : List Item)
+    → ((packet : List ℕ) → what ≡ Answers.Left packet
+    → map (λ item. item.now) items ≡ packet ∷ [])
+    → map (λ item. item.now) (came_behind task what items) ≡ packet_behind task what
+packet_act (Take node) (Answers.Left packet) items one = one packet refl
+packet_act (Take node) _ items one = refl
+packet_act (Ask node tid line) what items one = refl
+packet_act (Carry line) what items one = refl
+packet_act Settle what items one = refl
+packet_act (Turn node) what items one = refl
+packet_act (Reply node line) what items one = refl
+packet_act Finish what items one = refl
+
+packet_goes : {names : List (List ℕ)} {script : List Numbered} {s t : IoState}
+    (goes : IoGoes names script s t) → IsSetUp (set_up_all bare script)
+    → IsSentTrace script s.trace
+    → map (λ item. item.now) (came_by goes) ≡ packets_by goes
+packet_goes (Begins line rest is to) set_up own = refl
+packet_goes (Turns node rest is to) set_up own = refl
+packet_goes {names} {script} {s} (Acts task rest line block is event block_is sent to) set_up own =
+    packet_act task (happened line block) (gone (network_at script s) (steps_of block))
+    (λ packet left. left_one (seen (start script) s.trace) line block packet _ block_is left
+    (event_legal script s.trace line block set_up own block_is))
+packet_goes (Ends rest is to) set_up own = refl
+
+packets_come : {names : List (List ℕ)} {script : List Numbered} {first s : IoState}
+    (comes : IoComes names script first s) → IsSetUp (set_up_all bare script)
+    → first.trace ≡ [] → map (λ item. item.now) (came comes) ≡ packets_told comes
+packets_come (Here is) set_up none = refl
+packets_come (Goes before comes goes) set_up none =
+    map-append (λ item. item.now) (came comes) (came_by goes)
+    ∙ ap₂ ◌++◌ (packets_come comes set_up none)
+    (packet_goes goes set_up (sent_comes set_up none comes))
+
+-- ---- what holds of all that left holds of all that came
+
+all_parts : {X : Type 0} (P : X → Type 0) (xs ys : List X) → AllByRecursion P (xs ++ ys)
+    → AllByRecursion P xs × AllByRecursion P ys
+all_parts P [] ys all = (tt, all)
+all_parts P (x ∷ xs) ys all =
+    let rest = all_parts P xs ys all.1 in ((all.0, rest.0), rest.1)
+
+all_act : (P : Item → Type 0) (task : IoTask) (what : Happened) (items : List Item)
+    → AllByRecursion P items → AllByRecursion P (came_behind task what items)
+all_act P (Take node) (Answers.Left packet) items all = all
+all_act P (Take node) _ items all = tt
+all_act P (Ask node tid line) what items all = tt
+all_act P (Carry line) what items all = tt
+all_act P Settle what items all = tt
+all_act P (Turn node) what items all = tt
+all_act P (Reply node line) what items all = tt
+all_act P Finish what items all = tt
+
+all_goes : {names : List (List ℕ)} {script : List Numbered} {s t : IoState} (P : Item → Type 0)
+    (goes : IoGoes names script s t)
+    → AllByRecursion P (gone (network_at script s) (steps_of (added goes)))
+    → AllByRecursion P (came_by goes)
+all_goes P (Begins line rest is to) all = tt
+all_goes P (Turns node rest is to) all = tt
+all_goes {names} {script} {s} P (Acts task rest line block is event block_is sent to) all =
+    all_act P task (happened line block) (gone (network_at script s) (steps_of block)) all
+all_goes P (Ends rest is to) all = tt
+
+pub all_come : {names : List (List ℕ)} {script : List Numbered} {first s : IoState}
+    (P : Item → Type 0) (comes : IoComes names script first s)
+    → AllByRecursion P (gone (start script).network (steps_of s.trace))
+    → AllByRecursion P (came comes)
+all_come P (Here is) all = tt
+all_come {names} {script} {first} {s} P (Goes before comes goes) all =
+    let parts = all_parts P (gone (start script).network (steps_of before.trace))
+    (gone (network_at script before) (steps_of (added goes)))
+    (subst (AllByRecursion P) (gathered_goes (ended_by Left) goes) all) in
+    all-append P (came comes) (came_by goes) (all_come P comes parts.0)
+    (all_goes P goes parts.1)
+
+pub come_as_taken : PacketsComeAsTaken
+come_as_taken names script io s comes fit =
+    let set_up = fit_set_up names script io fit in
+    let net = set_up_all bare script in
+    let steps = steps_of s.trace in
+    let shown = lawful net s.trace set_up (sent_comes set_up refl comes).made in
+    record {
+      shown = packets_come comes set_up refl;
+      as_taken = all_weaker
+          (λ item. IsAfterMoves item.taken (how_often item.number (moves net steps)) item.now
+          × WasTaken net steps item)
+          (λ item. WasTaken net steps item
+          × (is_maintenance item.now ≡ false → item.now ≡ item.taken))
+          (λ item was. (was.1, same_after item.taken _ item.now was.0))
+          (came comes)
+          (all_come
+          (λ item. IsAfterMoves item.taken (how_often item.number (moves net steps)) item.now
+          × WasTaken net steps item) comes shown.unchanged.same);
+    }
