@@ -1,9 +1,9 @@
 -- The fields of a packet of a request are what it was built of.
-use Rattle.std.proofs.Common.{◌≡◌, ℕ, ◌+◌, ◌*◌, ◌<◌, true, Some, List, ◌∷◌, ◌++◌, get_or, ap, ◌∙◌, arith, eq-eqb}
+use Rattle.std.proofs.Common.{◌≡◌, ℕ, ◌+◌, ◌*◌, ◌<◌, true, Some, List, ◌∷◌, ◌++◌, get_or, ap, ◌∙◌, arith, eq-eqb, false}
 use Rattle.rio_packets.specs.LinkForm.{LinkForm}
-use Rattle.rio_packets.specs.Fields.{ttype_of, body_of}
+use Rattle.rio_packets.specs.Fields.{body_of}
 use Rattle.rio_packets.proofs.FieldLaws.{get_or-link_form}
-use Rattle.io_packets.specs.Layout.{low_half_of, tid_of, word_at, addr_in, wdptr_in, extension_in, size_of, word_bytes}
+use Rattle.io_packets.specs.Layout.{low_half_of, tid_of, word_at, addr_in, wdptr_in, extension_in, size_of, word_bytes, high_half_of}
 use Rattle.io_packets.specs.Forms.{is_size, IsAligned}
 use Rattle.io_packets.specs.Writing.{code_of, wdptr_of, asked}
 use Rattle.io_packets.proofs.SizeLaws.{code_small, wdptr_small, size_named-size}
@@ -23,16 +23,16 @@ extension_in-made addr wdptr h = omega arith
 -- ---- bytes 4 to 9
 
 record Bytes (p : List ℕ) (ttype half tid word : ℕ) : Type 0 where
-  kind : ttype_of p ≡ ttype
+  kind : high_half_of p ≡ ttype
   low : low_half_of p ≡ half
   number : tid_of p ≡ tid
   place : word_at p 6 ≡ word
 
 module _ (prio ftype dest source ttype low tid word : ℕ) (load p : List ℕ)
-    (form : LinkForm (body_of prio ftype dest source
+    (form : LinkForm (body_of prio ftype false dest source
     ((16 * ttype + low) ∷ tid ∷ (word_bytes word ++ load))) p) where
   abbrev body : List ℕ
-  body = body_of prio ftype dest source ((16 * ttype + low) ∷ tid ∷ (word_bytes word ++ load))
+  body = body_of prio ftype false dest source ((16 * ttype + low) ∷ tid ∷ (word_bytes word ++ load))
 
   byte : (i : ℕ) → i < 10 → get_or p i 0 ≡ get_or body i 0
   byte i h = get_or-link_form body p i form (omega arith) (omega arith)
@@ -52,7 +52,7 @@ module _ (prio ftype dest source ttype low tid word : ℕ) (load p : List ℕ)
 -- ---- the fields of a request
 
 pub record Asks (p : List ℕ) (ttype n tid at : ℕ) : Type 0 where
-  pub kind : ttype_of p ≡ ttype
+  pub kind : high_half_of p ≡ ttype
   pub number : tid_of p ≡ tid
   pub size : size_of p ≡ Some n
   pub addr : addr_in (word_at p 6) ≡ at
@@ -60,7 +60,7 @@ pub record Asks (p : List ℕ) (ttype n tid at : ℕ) : Type 0 where
 -- what a request of a good size asks for, at an address that begins a double-word
 pub asks : (prio ftype dest source ttype size tid addr : ℕ) (load p : List ℕ) → IsAligned addr
     → is_size size ≡ true
-    → LinkForm (body_of prio ftype dest source (asked ttype size tid addr ++ load)) p
+    → LinkForm (body_of prio ftype false dest source (asked ttype size tid addr ++ load)) p
     → Asks p ttype size tid addr
 asks prio ftype dest source ttype size tid addr load p aligned good form =
     let wdptr = wdptr_of size in

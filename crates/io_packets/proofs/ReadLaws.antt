@@ -1,10 +1,10 @@
 -- What is read of bytes is good, as far as it is not bad.
 use Rattle.std.proofs.Common.{◌≡◌, ℕ, ◌+◌, ◌-◌, ◌%◌, ◌≤◌, ◌==◌, ◌&&◌, Bool, true, false, Option, Some, None, List, length, drop, refl, subst, arith, if◌then◌else◌, length-drop, length-take, eqb-true, leb-true}
 use Rattle.std.specs.Prelude.{nat_le}
-use Rattle.rio_packets.specs.Fields.{tt_of, ftype_of, ttype_of}
+use Rattle.rio_packets.specs.Fields.{tt_of, ftype_of}
 use Rattle.io_packets.specs.declared.io.Io.{Io}
 use Rattle.io_packets.specs.declared.io.Io.TheVariants.{NRead, NWrite, NWriteR, SWrite, Reply, BadRead, BadWriteR, BadWrite, Other}
-use Rattle.io_packets.specs.Layout.{low_half_of, tid_of, word_at, addr_in, wdptr_in, extension_in, size_named, size_of, between}
+use Rattle.io_packets.specs.Layout.{low_half_of, tid_of, word_at, addr_in, wdptr_in, extension_in, size_named, size_of, between, high_half_of}
 use Rattle.io_packets.specs.Forms.{is_size, is_stream_size, is_status, IsAligned, CanBeRead, IsSized}
 use Rattle.io_packets.specs.Reading.{read_or_bad, read_of, has_data, write_of, write_with_response_of, any_write_of, is_stream, has_pad, streaming_write_of, is_plain_reply, is_reply_with_data, response_of, io_of_type, io_of}
 use Rattle.io_packets.proofs.SizeLaws.{first_part, second_part, size_least, named_size}
@@ -38,7 +38,7 @@ length-between bytes from behind h =
 
 read_good : (bytes : List ℕ) → CanBeRead (read_of bytes)
 read_good bytes =
-    choose ((ttype_of bytes == 4) && (length bytes == 12)) (read_or_bad bytes (size_of bytes)) Other
+    choose ((high_half_of bytes == 4) && (length bytes == 12)) (read_or_bad bytes (size_of bytes)) Other
     (λ _. by (size_of bytes) refl) tt
   where
     by : (o : Option ℕ) → size_of bytes ≡ o → CanBeRead (read_or_bad bytes o)
@@ -58,9 +58,9 @@ data_size bytes (Some size) is has =
 pub any_write_good : (bytes : List ℕ) → CanBeRead (any_write_of bytes)
 any_write_good bytes =
     choose (nat_le 12 (length bytes)) _ Other
-    (λ _. choose (ttype_of bytes == 4) (write_of bytes) _
+    (λ _. choose (high_half_of bytes == 4) (write_of bytes) _
     (λ _. choose (has_data bytes (size_of bytes)) _ BadWrite good tt)
-    (choose (ttype_of bytes == 5) (write_with_response_of bytes) Other
+    (choose (high_half_of bytes == 5) (write_with_response_of bytes) Other
     (λ _. choose (has_data bytes (size_of bytes)) _ (BadWriteR (tid_of bytes)) good tt) tt)) tt
   where
     good : has_data bytes (size_of bytes) ≡ true
@@ -87,14 +87,14 @@ pub response_good : (bytes : List ℕ) → CanBeRead (response_of bytes)
 response_good bytes =
     choose (is_plain_reply bytes) _ _
     (λ is. first_part (is_status (low_half_of bytes)) (length bytes == 8)
-    (second_part (ttype_of bytes == 0) (is_status (low_half_of bytes) && (length bytes == 8)) is))
+    (second_part (high_half_of bytes == 0) (is_status (low_half_of bytes) && (length bytes == 8)) is))
     (choose (is_reply_with_data bytes) _ Other (λ is. (refl, good is)) tt)
   where
     good : is_reply_with_data bytes ≡ true → is_size (length (between bytes 6 2)) ≡ true
     good is =
         let n = length bytes - 8 in
         let size = second_part (low_half_of bytes == 0) (is_size n)
-        (second_part (ttype_of bytes == 8) ((low_half_of bytes == 0) && is_size n) is) in
+        (second_part (high_half_of bytes == 8) ((low_half_of bytes == 0) && is_size n) is) in
         let least = size_least n size in
         let loaded = length-between bytes 6 2 (omega arith) in
         let same : n ≡ length (between bytes 6 2) = omega (arith, loaded) in

@@ -1,5 +1,5 @@
 -- A response is read back from the packet that was built of it.
-use Rattle.std.proofs.Common.{◌≡◌, ℕ, ◌-◌, ◌%◌, ◌<◌, ◌≤◌, true, Some, None, List, [], ◌∷◌, ◌++◌, length, get_or, refl, ap, subst, ◌∙◌, arith}
+use Rattle.std.proofs.Common.{◌≡◌, ℕ, ◌-◌, ◌%◌, ◌<◌, ◌≤◌, true, Some, None, List, [], ◌∷◌, ◌++◌, length, get_or, refl, ap, subst, ◌∙◌, arith, false}
 use Rattle.rio_packets.specs.LinkForm.{LinkForm}
 use Rattle.rio_packets.specs.Fields.{body_of}
 use Rattle.rio_packets.proofs.FieldLaws.{get_or-link_form, length-link_form, ftype_of-link_form, tt_of-link_form}
@@ -19,11 +19,11 @@ module _ (prio dest source : ℕ) (p : List ℕ) (h : prio < 4) where
   read_back-reply status tid good form =
       let small = status_small status good in
       let rest = status ∷ tid ∷ [] in
-      let body = body_of prio 13 dest source rest in
+      let body = body_of prio 13 false dest source rest in
       let four = get_or-link_form body p 4 form (omega arith) (omega arith) in
       replies p status tid
-      (tt_of-link_form prio 13 dest source rest p form h (omega arith))
-      (ftype_of-link_form prio 13 dest source rest p form h (omega arith))
+      (tt_of-link_form prio 13 false dest source rest p form h (omega arith))
+      (ftype_of-link_form prio 13 false dest source rest p form h (omega arith))
       (omega (arith, four, small)) (omega (arith, four, small)) good
       (length-link_form body p form (omega arith) refl)
       (get_or-link_form body p 5 form (omega arith) (omega arith))
@@ -32,7 +32,7 @@ module _ (prio dest source : ℕ) (p : List ℕ) (h : prio < 4) where
   module _ (tid : ℕ) (load : List ℕ) (good : is_size (length load) ≡ true)
       (form : LinkForm (io_body prio dest source (Reply 0 tid (Some load))) p) where
     abbrev front : List ℕ
-    front = body_of prio 13 dest source (128 ∷ tid ∷ [])
+    front = body_of prio 13 false dest source (128 ∷ tid ∷ [])
 
     short : length (front ++ load) ≤ 80
     short = let most = size_most (length load) good in omega arith
@@ -60,6 +60,6 @@ module _ (prio dest source : ℕ) (p : List ℕ) (h : prio < 4) where
         let rest = 128 ∷ tid ∷ load in
         let four = byte 4 (omega arith) in
         replies_with_data p load tid
-        (tt_of-link_form prio 13 dest source rest p form h (omega arith))
-        (ftype_of-link_form prio 13 dest source rest p form h (omega arith))
+        (tt_of-link_form prio 13 false dest source rest p form h (omega arith))
+        (ftype_of-link_form prio 13 false dest source rest p form h (omega arith))
         (omega (arith, four)) (omega (arith, four)) size-reply (byte 5 (omega arith)) load-reply

@@ -1,5 +1,5 @@
 -- A request is read back from the packet that was built of it.
-use Rattle.std.proofs.Common.{◌≡◌, ℕ, ◌+◌, ◌%◌, ◌<◌, ◌≤◌, true, List, [], ◌∷◌, ◌++◌, length, refl, ap, ◌∙◌, arith}
+use Rattle.std.proofs.Common.{◌≡◌, ℕ, ◌+◌, ◌%◌, ◌<◌, ◌≤◌, true, List, [], ◌∷◌, ◌++◌, length, refl, ap, ◌∙◌, arith, false}
 use Rattle.rio_packets.specs.LinkForm.{LinkForm}
 use Rattle.rio_packets.specs.Fields.{tt_of, ftype_of, body_of}
 use Rattle.rio_packets.proofs.FieldLaws.{length-link_form, ftype_of-link_form, tt_of-link_form}
@@ -21,18 +21,18 @@ module _ (prio dest source : ℕ) (p : List ℕ) (h : prio < 4) where
       let rest = asked 4 size tid addr in
       let fields = asks prio 2 dest source 4 size tid addr [] p aligned good form in
       reads p tid addr size
-      (tt_of-link_form prio 2 dest source rest p form h (omega arith))
-      (ftype_of-link_form prio 2 dest source rest p form h (omega arith))
+      (tt_of-link_form prio 2 false dest source rest p form h (omega arith))
+      (ftype_of-link_form prio 2 false dest source rest p form h (omega arith))
       fields.kind
-      (length-link_form (body_of prio 2 dest source rest) p form (omega arith) refl)
+      (length-link_form (body_of prio 2 false dest source rest) p form (omega arith) refl)
       fields.size fields.number fields.addr
 
   -- the form of a write
   module _ (ttype tid addr : ℕ) (load : List ℕ) (good : is_size (length load) ≡ true)
-      (form : LinkForm (body_of prio 5 dest source (asked ttype (length load) tid addr ++ load)) p)
+      (form : LinkForm (body_of prio 5 false dest source (asked ttype (length load) tid addr ++ load)) p)
     where
       abbrev front : List ℕ
-      front = body_of prio 5 dest source (asked ttype (length load) tid addr)
+      front = body_of prio 5 false dest source (asked ttype (length load) tid addr)
 
       short : length (front ++ load) ≤ 80
       short = let most = size_most (length load) good in omega arith
@@ -44,10 +44,10 @@ module _ (prio dest source : ℕ) (p : List ℕ) (h : prio < 4) where
       rest = asked ttype (length load) tid addr ++ load
 
       width : tt_of p ≡ 0
-      width = tt_of-link_form prio 5 dest source rest p form h (omega arith)
+      width = tt_of-link_form prio 5 false dest source rest p form h (omega arith)
 
       class : ftype_of p ≡ 5
-      class = ftype_of-link_form prio 5 dest source rest p form h (omega arith)
+      class = ftype_of-link_form prio 5 false dest source rest p form h (omega arith)
 
       length-write : length p ≡ 12 + length load
       length-write = length-link_form (front ++ load) p form short twos ∙ omega arith

@@ -1,5 +1,5 @@
 -- A streaming write is read back from the packet that was built of it.
-use Rattle.std.proofs.Common.{◌≡◌, ℕ, zero, suc, ◌+◌, ◌-◌, ◌%◌, ◌<◌, ◌≤◌, true, List, [], ◌∷◌, ◌++◌, length, get_or, refl, ap, subst, ◌∙◌, arith, eq-eqb, length-append, get_or-append-add}
+use Rattle.std.proofs.Common.{◌≡◌, ℕ, zero, suc, ◌+◌, ◌-◌, ◌%◌, ◌<◌, ◌≤◌, true, List, [], ◌∷◌, ◌++◌, length, get_or, refl, ap, subst, ◌∙◌, arith, eq-eqb, length-append, get_or-append-add, false}
 use Rattle.rio_packets.specs.LinkForm.{LinkForm}
 use Rattle.rio_packets.specs.Fields.{body_of}
 use Rattle.rio_packets.proofs.FieldLaws.{get_or-link_form, ftype_of-link_form, tt_of-link_form}
@@ -16,7 +16,7 @@ module _ (prio dest source addr : ℕ) (load p : List ℕ) (h : prio < 4) (align
     (good : is_stream_size (length load) ≡ true)
     (form : LinkForm (io_body prio dest source (SWrite addr load)) p) where
   abbrev front : List ℕ
-  front = body_of prio 6 dest source (word_bytes addr)
+  front = body_of prio 6 false dest source (word_bytes addr)
 
   short : length (front ++ load) ≤ 80
   short = let most = stream_most (length load) good in omega arith
@@ -71,7 +71,7 @@ module _ (prio dest source addr : ℕ) (load p : List ℕ) (h : prio < 4) (align
   read_back-stream =
       let rest = word_bytes addr ++ load in
       streams p load addr
-      (tt_of-link_form prio 6 dest source rest p form h (omega arith))
-      (ftype_of-link_form prio 6 dest source rest p form h (omega arith))
+      (tt_of-link_form prio 6 false dest source rest p form h (omega arith))
+      (ftype_of-link_form prio 6 false dest source rest p form h (omega arith))
       form-stream (ap addr_in word ∙ omega (arith, aligned))
       (ap (λ (l : List ℕ). between l 8 4) ends.2 ∙ between-parts front load back)

@@ -1,5 +1,5 @@
 -- What is read of a packet that was written is what was written.
-use Rattle.std.proofs.Common.{◌≡◌, ℕ, ◌<◌, Some, None, List, sym, subst}
+use Rattle.std.proofs.Common.{◌≡◌, ℕ, ◌<◌, Some, None, List, sym, subst, false}
 use Rattle.rio_packets.specs.LinkForm.{LinkForm}
 use Rattle.rio_packets.specs.Fields.{body_of}
 use Rattle.rio_packets.specs.Making.{made}
@@ -47,10 +47,10 @@ is_bytes prio dest source io p form =
     LinkForm-one body p (made body) form (LinkForm-made body form.is_body)
 
 -- where the form is that of its parts
-pub form_of : (prio dest source ftype : ℕ) (rest : List ℕ) (io : Io) (p : List ℕ)
-    → ftype ≡ type_of io → rest ≡ behind_ids io
-    → LinkForm (body_of prio ftype dest source rest) p → LinkForm (io_body prio dest source io) p
-form_of prio dest source ftype rest io p f r form =
-    let same : body_of prio ftype dest source rest ≡ io_body prio dest source io =
-    λ i. body_of prio (f i) dest source (r i) in
+pub form_of : (prio dest source to from ftype : ℕ) (rest : List ℕ) (io : Io) (p : List ℕ)
+    → to ≡ dest → from ≡ source → ftype ≡ type_of io → rest ≡ behind_ids io
+    → LinkForm (body_of prio ftype false to from rest) p → LinkForm (io_body prio dest source io) p
+form_of prio dest source to from ftype rest io p d s f r form =
+    let same : body_of prio ftype false to from rest ≡ io_body prio dest source io =
+    λ i. body_of prio (f i) false (d i) (s i) (r i) in
     subst (λ (b : List ℕ). LinkForm b p) same form

@@ -15,6 +15,14 @@
 -- highest. A missing byte is read as 0.
 use Rattle.std.specs.Prelude.{ℕ, ◌+◌, ◌-◌, ◌*◌, ◌/◌, ◌%◌, ◌==◌, List, [], ◌∷◌, length, slice_index, slice_range, Option, Some, None, if◌then◌else◌}
 
+-- the source ID, of eight bits
+abbrev pub source_in : List ℕ → ℕ
+source_in bytes = slice_index bytes 3
+
+-- the upper half of the byte behind the IDs, the transaction type
+abbrev pub high_half_of : List ℕ → ℕ
+high_half_of bytes = slice_index bytes 4 / 16
+
 -- the lower half of the byte with the transaction type: of a request a code of its size, of a
 -- response its status
 abbrev pub low_half_of : List ℕ → ℕ

@@ -2,10 +2,10 @@
 -- 1, request and response packet formats; the sizes, and that a request of another size is a bad
 -- one, are this project's profile).
 use Rattle.std.specs.Prelude.{ℕ, ◌+◌, ◌-◌, ◌==◌, ◌&&◌, Bool, false, nat_le, List, length, slice_index, Option, Some, None, if◌then◌else◌}
-use Rattle.rio_packets.specs.Fields.{tt_of, ftype_of, ttype_of}
+use Rattle.rio_packets.specs.Fields.{tt_of, ftype_of}
 use Rattle.io_packets.specs.declared.io.Io.{Io}
 use Rattle.io_packets.specs.declared.io.Io.TheVariants.{NRead, NWrite, NWriteR, SWrite, Reply, BadRead, BadWriteR, BadWrite, Other}
-use Rattle.io_packets.specs.Layout.{low_half_of, tid_of, word_at, addr_in, extension_in, size_of, between}
+use Rattle.io_packets.specs.Layout.{low_half_of, tid_of, word_at, addr_in, extension_in, size_of, between, high_half_of}
 use Rattle.io_packets.specs.Forms.{is_size, is_stream_size, is_status}
 
 -- ---- ftype 2: NREAD has transaction type 4, and 12 bytes
@@ -16,7 +16,7 @@ read_or_bad bytes None = BadRead (tid_of bytes)
 
 abbrev pub read_of : List ℕ → Io
 read_of bytes =
-    if (ttype_of bytes == 4) && (length bytes == 12)
+    if (high_half_of bytes == 4) && (length bytes == 12)
     then read_or_bad bytes (size_of bytes) else Other
 
 -- ---- ftype 5: NWRITE has transaction type 4 and NWRITE_R 5, and 12 bytes and its data
@@ -40,8 +40,8 @@ write_with_response_of bytes =
 abbrev pub any_write_of : List ℕ → Io
 any_write_of bytes =
     if nat_le 12 (length bytes)
-    then (if ttype_of bytes == 4 then write_of bytes
-    else (if ttype_of bytes == 5 then write_with_response_of bytes else Other))
+    then (if high_half_of bytes == 4 then write_of bytes
+    else (if high_half_of bytes == 5 then write_with_response_of bytes else Other))
     else Other
 
 -- ---- ftype 6: SWRITE has 12 bytes and its data, of which the last two are the pad
@@ -64,11 +64,11 @@ streaming_write_of bytes =
 
 abbrev pub is_plain_reply : List ℕ → Bool
 is_plain_reply bytes =
-    (ttype_of bytes == 0) && (is_status (low_half_of bytes) && (length bytes == 8))
+    (high_half_of bytes == 0) && (is_status (low_half_of bytes) && (length bytes == 8))
 
 abbrev pub is_reply_with_data : List ℕ → Bool
 is_reply_with_data bytes =
-    (ttype_of bytes == 8) && ((low_half_of bytes == 0) && is_size (length bytes - 8))
+    (high_half_of bytes == 8) && ((low_half_of bytes == 0) && is_size (length bytes - 8))
 
 abbrev pub response_of : List ℕ → Io
 response_of bytes =

@@ -1,7 +1,7 @@
 -- The packets of reads and writes of memory and of the responses to them (RapidIO Interconnect
 -- Specification 1.3, Part 1, request and response packet formats; that NWRITE, which has no
 -- transaction number, has 0 there is this project's profile).
-use Rattle.std.specs.Prelude.{ℕ, ◌+◌, ◌*◌, ◌==◌, ◌||◌, nat_lt, List, [], ◌∷◌, ◌++◌, length, Some, None, if◌then◌else◌}
+use Rattle.std.specs.Prelude.{ℕ, ◌+◌, ◌*◌, ◌==◌, ◌||◌, nat_lt, List, [], ◌∷◌, ◌++◌, length, Some, None, if◌then◌else◌, false}
 use Rattle.rio_packets.specs.Fields.{body_of}
 use Rattle.rio_packets.specs.Making.{made}
 use Rattle.io_packets.specs.declared.io.Io.{Io}
@@ -41,7 +41,7 @@ behind_ids _ = []
 
 -- the body of the packet of a read, a write or a response
 abbrev pub io_body : ℕ → ℕ → ℕ → Io → List ℕ
-io_body prio dest source io = body_of prio (type_of io) dest source (behind_ids io)
+io_body prio dest source io = body_of prio (type_of io) false dest source (behind_ids io)
 
 -- and the packet
 abbrev pub io_bytes : ℕ → ℕ → ℕ → Io → List ℕ

@@ -109,6 +109,7 @@ fn kind(rt: &impl Abort, ftype: u8, first: u8, last: u8, length: usize) -> (&'st
         ftype: ftype & 15,
         dest: 2,
         source: 1,
+        large: false,
     };
     let mut rest = [0; 80];
     rest[0] = first;

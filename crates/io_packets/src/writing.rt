@@ -29,8 +29,9 @@ pub fn write_io(prio: u8, dest: u8, source: u8, io: &Io) -> Packet
     let header = Header {
         prio,
         ftype: io.ftype(),
-        dest,
-        source,
+        dest: u16::from(dest),
+        source: u16::from(source),
+        large: false,
     };
     let rest = io.behind_ids();
     match build(&header, rest.as_slice()) {

@@ -8,7 +8,7 @@ use Rattle.rio_chars.specs.declared.outbox.Outbox.{Outbox}
 use Rattle.rio_chars.proofs.WrittenLaws.{Writes-nil, Writes-then, Writes-whole, Writes-front}
 use Rattle.fabric_script.specs.Lines.{is_event}
 use Rattle.fabric_script.specs.declared.lines.Line.{Line}
-use Rattle.fabric_script.specs.declared.lines.Line.TheVariants.{Endpoint, Switch, Link, Buffers, Route, Default, Lock}
+use Rattle.fabric_script.specs.declared.lines.Line.TheVariants.{Endpoint, Switch, Link, Buffers, Route, Default, Lock, Large}
 use Rattle.fabric_script.specs.declared.lines.Numbered.{Numbered}
 use Rattle.fabric_model.specs.Network.{Network}
 use Rattle.fabric_trace.specs.Lines.{Ended}
@@ -106,6 +106,7 @@ event_may net (Buffers port n) event = absurd (false≢true event)
 event_may net (Route node id p) event = absurd (false≢true event)
 event_may net (Default node p) event = absurd (false≢true event)
 event_may net (Lock node id) event = absurd (false≢true event)
+event_may net (Large node id) event = absurd (false≢true event)
 event_may net _ event = tt
 
 events_may : (net : Network) (events : List Numbered)

@@ -1,11 +1,12 @@
 -- What a script of reads and writes has to be done, one thing after another.
-use Rattle.std.specs.Prelude.{ℕ, suc, ◌+◌, min, List, [], ◌∷◌, map, replicate, unwrap_or, Option, Some, None, if◌then◌else◌}
-use Rattle.rio_packets.specs.Fields.{prio_of, source_of}
+use Rattle.std.specs.Prelude.{ℕ, suc, ◌+◌, min, List, [], ◌∷◌, map, replicate, Option, Some, None, if◌then◌else◌}
+use Rattle.rio_packets.specs.Fields.{prio_of}
 use Rattle.maint_registers.specs.Devices.{Device, is_switch}
 use Rattle.fabric_script.specs.declared.lines.Line.{Line}
 use Rattle.fabric_script.specs.declared.lines.Line.TheVariants.{Send, Run, Collect}
 use Rattle.io_packets.specs.declared.io.Io.{Io}
 use Rattle.io_packets.specs.declared.io.Io.TheVariants as Ios
+use Rattle.io_packets.specs.Layout.{source_in}
 use Rattle.io_packets.specs.Writing.{type_of, behind_ids}
 use Rattle.io_script.specs.declared.lines.IoLine.{IoLine}
 use Rattle.io_script.specs.declared.lines.IoLine.TheVariants.{Memory, NRead, NWrite, NWriteR, SWrite, Round}
@@ -37,7 +38,7 @@ asks_for node dest tid io = Ask node tid (sends_io node 1 dest io)
 -- the reply to a packet goes back to its source, at the priority above, if there is one
 abbrev pub reply_line : ℕ → List ℕ → Io → Line
 reply_line node packet io =
-    sends_io node (min (prio_of packet + 1) 3) (unwrap_or (source_of packet) 0) io
+    sends_io node (min (prio_of packet + 1) 3) (source_in packet) io
 
 -- ---- what a line has to be done
 

@@ -124,7 +124,8 @@ pub(crate) fn reply_of(alloc: Global, node: u8, packet: &Packet, io: &Io) -> Res
     requires { IsGood io.now }
     ensures { IfOk result (λ line. line ≡ reply_line node packet.now io.now) }
 {
-    let dest = packet.source().unwrap_or(0);
+    // A packet that is answered has IDs of eight bits.
+    let dest = packet.bytes()[3];
     send_of(alloc, node, response_prio(packet.prio()), dest, io)
 }
 

@@ -4,8 +4,9 @@ use Rattle.io_packets.proofs.writing.write_io.Goals as goal
 
 pub returns-clause-form : goal.returns-clause-form
 returns-clause-form c =
-    form_of c.args.prio c.args.dest c.args.source c.ftype.result c.as_slice.result.now
-    c.args.io.now c.in-Ok.packet c.ftype.ensures.value
+    form_of c.args.prio c.args.dest c.args.source c.from.result c.from-2.result c.ftype.result
+    c.as_slice.result.now c.args.io.now c.in-Ok.packet c.from.ensures c.from-2.ensures
+    c.ftype.ensures.value
     (c.as_slice.ensures.value ∙ c.behind_ids-rest.ensures.value) c.in-Ok.ensures.ok
 
 pub returns-clause-value : goal.returns-clause-value
