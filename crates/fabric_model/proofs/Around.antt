@@ -12,10 +12,10 @@ use Rattle.fabric_model.specs.Steps.{Take, Leave, AtNode, after, after_all, Lega
 use Rattle.fabric_model.specs.Serving.{response_at}
 use Rattle.fabric_model.specs.Laws.History.{gone}
 use Rattle.fabric_model.specs.Laws.Proper.{AreProper}
-use Rattle.fabric_model.specs.Laws.Flows.{SameFlow, RoutesStand, EarlierFirst, InOrder}
+use Rattle.fabric_model.specs.Laws.Flows.{SameCourse, SameFlow, RoutesStand, EarlierFirst, InOrder}
 use Rattle.fabric_model.specs.Laws.Tables.{ByTables}
 use Rattle.fabric_model.specs.Laws.Examples.{packet, other, first}
-use Rattle.fabric_model.specs.Laws.Switches.{port_at, around, for_5, for_9, later_for_9, through, circle, parting, SamePriority, moved_elsewhere, dropped_on_its_way, for_7, later_for_7, request, response, changing, with_hop_0, with_hop_5, with_hop_3, hopping, taken_as}
+use Rattle.fabric_model.specs.Laws.Switches.{port_at, around, for_5, for_9, later_for_9, through, circle, parting, SamePriority, moved_elsewhere, dropped_on_its_way, for_7, later_for_7, request, response, changing, with_hop_0, with_hop_5, with_hop_3, hopping, large, of_both_sizes, taken_as}
 use Rattle.fabric_model.proofs.Worked.{packet_passes}
 
 test_for_5 : passes for_5 ≡ true
@@ -115,7 +115,7 @@ pub elsewhere_overtakes : InOrder around moved_elsewhere → ⊥
 elsewhere_overtakes law =
     let stand : RoutesStand (dest_of packet) (after around (AtNode (Take 0 packet))) (take 8 (drop 1 moved_elsewhere)) = (λ n. refl, (λ n. refl, (λ n. refl, (λ n. refl, (λ n. refl, (λ n. refl, (λ n. refl, (λ n. refl, tt)))))))) in
     let later : Item = record { number = 1; port = port_of 0; taken = other; now = other } in
-    let same : SameFlow first later = record { source = refl; course = record { port = refl; dest = refl; priority = refl; maintenance = refl; hop = refl } } in
+    let same : SameFlow first later = record { transport = refl; source = refl; course = record { port = refl; dest = refl; priority = refl; maintenance = refl; hop = refl } } in
     omega (arith, law.earlier_first [] (AtNode (Take 0 packet)) (take 8 (drop 1 moved_elsewhere)) (AtNode (Leave 1 other)) [] first later refl refl refl stand same (omega arith))
 
 pub elsewhere_breaks : ByTables around moved_elsewhere → ⊥
@@ -185,3 +185,57 @@ hopping_legal = ((refl, passes_with_hop_0, refl), ((refl, passes_with_hop_5, ref
 pub hopping_gone : gone around hopping ≡ taken_as 1 with_hop_5 with_hop_3 ∷ []
 unfolding closed fed shifted_times shifted
 hopping_gone = refl
+
+-- ---- both sizes of IDs
+
+test_large : passes large ≡ true
+unfolding fed shifted_times shifted
+test_large = refl
+
+passes_large : Passes large
+passes_large = (decides_passes large).0 test_large
+
+pub sizes_legal : LegalFrom around of_both_sizes (after_all around of_both_sizes)
+sizes_legal = (
+  (refl, packet_passes, refl),
+  (
+    (refl, passes_large, refl),
+    (
+      (port_of 0, refl, refl, refl),
+      (
+        (port_of 0, refl, refl, refl),
+        (
+          (refl, refl, refl, refl),
+          (
+            (refl, refl, refl, refl),
+            (
+              (port_at 2 1, refl, refl, refl),
+              (
+                (port_at 2 1, refl, refl, refl),
+                (
+                  (refl, refl, refl, refl),
+                  (
+                    (refl, refl, refl, refl),
+                    (
+                      (port_at 3 0, refl, refl, refl),
+                      ((port_at 3 0, refl, refl, refl), ((refl, refl, refl), ((refl, refl, refl), refl))),
+                    ),
+                  ),
+                ),
+              ),
+            ),
+          ),
+        ),
+      ),
+    ),
+  ),
+)
+
+pub sizes_gone : gone around of_both_sizes ≡ first ∷ taken_as 1 large large ∷ []
+sizes_gone = refl
+
+pub sizes_course : SameCourse first (taken_as 1 large large)
+sizes_course = record { port = refl; dest = refl; priority = refl; maintenance = refl; hop = refl }
+
+pub sizes_flow : SameFlow first (taken_as 1 large large) → ⊥
+sizes_flow flow = omega (arith, flow.transport)

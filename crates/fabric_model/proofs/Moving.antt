@@ -1,14 +1,13 @@
 -- What a packet is as it moves on, and where a switch sends it by what its flow knows of it.
-use Rattle.std.proofs.Common.{◌≡◌, ℕ, zero, suc, ◌-◌, ◌/◌, ◌%◌, ◌≤◌, ◌<◌, ◌==◌, ◌&&◌, Bool, true, false, not, nat_lt, List, length, get_or, Option, Some, None, option_map, slice_get, refl, sym, ap, subst, arith, cond}
+use Rattle.std.proofs.Common.{◌≡◌, ℕ, zero, suc, ◌+◌, ◌-◌, ◌/◌, ◌%◌, ◌≤◌, ◌<◌, ◌==◌, ◌&&◌, Bool, true, false, not, nat_lt, List, get_or, Option, Some, None, option_map, slice_get, refl, sym, ap, ◌∙◌, subst, arith, cond, if◌then◌else◌}
 use Rattle.std.specs.Bool.{⊤}
 use Rattle.std.specs.Option.{option_and_then}
 use Rattle.std.proofs.lemmas.Bool.{false≢true, ne_eqb}
-use Rattle.rio_packets.specs.Fields.{prio_of, tt_of, ftype_of, ttype_of, dest_of, hop_of, is_maintenance, is_maintenance_length, is_request, Lowered}
+use Rattle.rio_packets.specs.Fields.{prio_of, ftype_of, ttype_of, dest_of, hop_of, hop_place, is_maintenance, has_maintenance_form, is_request, Lowered}
 use Rattle.rio_packets.specs.LinkForm.{Passes}
-use Rattle.rio_packets.specs.Making.{with_crc}
-use Rattle.rio_packets.specs.Hops.{closed, lowered}
-use Rattle.rio_packets.proofs.StepLaws.{with_crc-is}
-use Rattle.rio_packets.proofs.LowerLaws.{maintenance_size, Passes-lowered, Lowered-renewed}
+use Rattle.rio_packets.specs.Hops.{lowered}
+use Rattle.rio_packets.proofs.PlaceLaws.{places}
+use Rattle.rio_packets.proofs.LowerLaws.{Passes-lowered, Lowered-lowered}
 use Rattle.maint_registers.specs.Devices.{Device, is_switch}
 use Rattle.maint_registers.specs.Routes.{next_port}
 use Rattle.maint_packets.specs.declared.next_hop.Next.{Next}
@@ -31,10 +30,6 @@ key_of packet = record { eight = ftype_of packet == 8; hop = hop_of packet }
 abbrev pub moved_key : Key → Key
 moved_key key = record { eight = key.eight; hop = option_map (λ h. h - 1) key.hop }
 
-closed_is : (message : List ℕ) → closed message ≡ with_crc message
-unfolding closed
-closed_is message = sym (with_crc-is message)
-
 -- what stays of a packet that moves on
 pub record MovesOn (old new : List ℕ) : Type 0 where
   pub passes : Passes new
@@ -43,22 +38,35 @@ pub record MovesOn (old new : List ℕ) : Type 0 where
   pub dest : dest_of new ≡ dest_of old
   pub key : key_of new ≡ moved_key (key_of old)
 
-module _ (old : List ℕ) (passes : Passes old) (m : is_maintenance old ≡ true) (hops : 1 ≤ get_or old 6 0) where
+module _ (old : List ℕ) (passes : Passes old) (m : is_maintenance old ≡ true)
+    (hops : 1 ≤ get_or old (hop_place old) 0) where
   is_lowered : Lowered old (lowered old)
-  is_lowered = Lowered-renewed old passes m hops (lowered old) (closed_is _)
+  is_lowered = Lowered-lowered old passes m hops
 
   byte : (k : ℕ) → k < 6 → get_or (lowered old) k 0 ≡ get_or old k 0
-  byte k below = let size = (maintenance_size old m).least in is_lowered.others k (omega arith) (omega arith)
+  byte k below =
+      let known = places old m in
+      let hop = known.least in let crc = known.between in
+      is_lowered.others k (λ e. omega (arith, below, hop, e)) (λ e. omega (arith, below, hop, crc, e))
+      (λ e. omega (arith, below, hop, crc, e))
+
+  -- the hop count stays where it was
+  place_is : hop_place (lowered old) ≡ hop_place old
+  place_is = ap (λ type. (if type == 1 then 6 else 4) + 2) is_lowered.same_type
 
   hop_is : hop_of (lowered old) ≡ option_map (λ h. h - 1) (hop_of old)
-  hop_is = let six = is_lowered.hop in rw (m, is_lowered.is) (ap Some (omega arith))
+  hop_is =
+      let less = is_lowered.hop in
+      let count : get_or (lowered old) (hop_place (lowered old)) 0 ≡ get_or old (hop_place old) 0 - 1 =
+      ap (λ place. get_or (lowered old) place 0) place_is ∙ omega (arith, less) in
+      rw (m, is_lowered.is) (ap Some count)
 
   moves_lowered : MovesOn old (lowered old)
   moves_lowered = record {
-    passes = Passes-lowered old passes m hops (lowered old) (closed_is _);
+    passes = Passes-lowered old passes m hops;
     once = rw m is_lowered;
     prio = ap (λ b. b / 64) (byte 1 (omega arith));
-    dest = rw (byte 1 (omega arith), byte 2 (omega arith)) refl;
+    dest = rw (byte 1 (omega arith), byte 2 (omega arith), byte 3 (omega arith)) refl;
     key = λ i. record { eight = byte 1 (omega arith) i % 16 == 8; hop = hop_is i };
   }
 
@@ -80,7 +88,8 @@ moves_on old passes goes = go (is_maintenance old) refl
     some (suc n) none = omega arith
 
     go : (t : Bool) → is_maintenance old ≡ t → MovesOn old (cond t (lowered old) old)
-    go true m = moves_lowered old passes m (some (get_or old 6 0) (subst (λ t. is_spent (cond t (Some (get_or old 6 0)) None) ≡ false) m goes))
+    go true m = moves_lowered old passes m (some (get_or old (hop_place old) 0)
+        (subst (λ t. is_spent (cond t (Some (get_or old (hop_place old) 0)) None) ≡ false) m goes))
     go false other = moves_as_is old passes other
 
 -- a packet for which a switch names a port is not at its end
@@ -131,8 +140,8 @@ pub next_agrees : (device : Device) (packet : List ℕ)
     (option_and_then (next_port device) (dest_of packet))) (next_of device packet)
 next_agrees device packet =
     agrees (ftype_of packet == 8)
-    ((tt_of packet == 0) && is_maintenance_length (length packet))
-    (nat_lt (ttype_of packet) 2) (get_or packet 6 0)
+    (has_maintenance_form packet)
+    (nat_lt (ttype_of packet) 2) (get_or packet (hop_place packet) 0)
     (option_and_then (next_port device) (dest_of packet))
 
 -- the switch that sends a packet

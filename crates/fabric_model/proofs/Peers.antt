@@ -1,6 +1,6 @@
 -- In proper links the peer of a port's peer is the port. Links that join free ports one by one are proper.
-use Rattle.std.proofs.Common.{◌≡◌, Bool, true, false, eqb, List, [], ◌∷◌, ◌++◌, Option, Some, None, ap, subst, refl, cond}
-use Rattle.std.proofs.lemmas.Bool.{and_parts, eqb-true, eq-eqb, and_from, false_from_ne_true}
+use Rattle.std.proofs.Common.{◌≡◌, Bool, true, false, List, [], ◌∷◌, ◌++◌, Option, Some, None, ap, subst, refl, cond}
+use Rattle.std.proofs.lemmas.Bool.{false_from_ne_true}
 use Rattle.fabric_script.specs.declared.ports.PortRef.{PortRef}
 pub use Rattle.fabric_script.proofs.PeerLaws.{port_is, same_port-refl}
 use Rattle.fabric_model.specs.Network.{same_port, peer_in, link_in}

@@ -63,7 +63,7 @@ pub overtaking_legal : LegalFrom fork overtaking (after_all fork overtaking)
 overtaking_legal = ((refl, packet_passes, refl), ((refl, other_passes, refl), ((port_of 0, refl, refl, refl), ((port_of 0, refl, refl, refl), ((refl, refl, refl), ((refl, refl, refl), refl))))))
 
 pub overtaking_breaks : InOrder fork overtaking → ⊥
-overtaking_breaks law = omega (arith, law.earlier_first [] (AtNode (Take 0 packet)) (AtNode (Take 0 other) ∷ Linked (Hold (port_of 1) packet) ∷ Linked (Hold (port_of 2) other) ∷ []) (AtNode (Leave 2 other)) (AtNode (Leave 1 packet) ∷ []) first second refl refl refl (λ n. refl, (λ n. refl, (λ n. refl, tt))) (record { source = refl; course = record { port = refl; dest = refl; priority = refl; maintenance = refl; hop = refl } }) (omega arith))
+overtaking_breaks law = omega (arith, law.earlier_first [] (AtNode (Take 0 packet)) (AtNode (Take 0 other) ∷ Linked (Hold (port_of 1) packet) ∷ Linked (Hold (port_of 2) other) ∷ []) (AtNode (Leave 2 other)) (AtNode (Leave 1 packet) ∷ []) first second refl refl refl (λ n. refl, (λ n. refl, (λ n. refl, tt))) (record { transport = refl; source = refl; course = record { port = refl; dest = refl; priority = refl; maintenance = refl; hop = refl } }) (omega arith))
   where
     second : Item
     second = record { number = 1; port = port_of 0; taken = other; now = other }

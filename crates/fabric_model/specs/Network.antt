@@ -1,5 +1,5 @@
 -- The plain network: first-in first-out queues of packets, with no link protocol.
-use Rattle.std.specs.Prelude.{◌≡◌, ℕ, zero, suc, ◌+◌, ◌-◌, Bool, true, false, ◌&&◌, ◌==◌, nat_lt, List, [], ◌∷◌, ◌++◌, length, Option, Some, None, filter, slice_get, option_map, option_and_then, unwrap_or, if◌then◌else◌}
+use Rattle.std.specs.Prelude.{◌≡◌, ℕ, ◌+◌, ◌-◌, Bool, true, false, ◌&&◌, ◌==◌, nat_lt, List, [], ◌∷◌, ◌++◌, length, Option, Some, None, filter, slice_get, option_map, option_and_then, unwrap_or, if◌then◌else◌}
 use Rattle.rio_packets.specs.Fields.{prio_of}
 use Rattle.maint_registers.specs.Devices.{Device, is_switch}
 use Rattle.maint_registers.specs.Routes.{next_port}
@@ -108,9 +108,14 @@ IsEndpoint net n = switch_at net n ≡ Some false
 abbrev pub IsSwitch : Network → ℕ → Type 0
 IsSwitch net n = switch_at net n ≡ Some true
 
--- the base device ID of a node
-abbrev pub base_of : Network → ℕ → ℕ
-base_of net n = unwrap_or (option_map (λ device. device.base_id) (slice_get net.registers n)) 0
+-- the ID with which a device sends packets, of 16 bits or of 8
+abbrev pub sender_id : Device → Bool → ℕ
+sender_id device large = if large then device.large_id else device.base_id
+
+-- that of a node
+abbrev pub id_of : Network → ℕ → Bool → ℕ
+id_of net n large = unwrap_or
+    (option_map (λ (device : Device). sender_id device large) (slice_get net.registers n)) 0
 
 -- the port to which a node sends packets for a destination, if it is a switch that names one
 abbrev pub route_at : Network → Option ℕ → ℕ → Option ℕ

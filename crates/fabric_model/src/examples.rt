@@ -7,11 +7,11 @@ ghost use Rattle.fabric_model.specs.Laws.History.{Dropped, ended, gone};
 ghost use Rattle.fabric_model.specs.Laws.Holding.{HoldingExactly};
 ghost use Rattle.fabric_model.specs.Laws.Leaving.{Once, Unchanged};
 ghost use Rattle.fabric_model.specs.Laws.Freeing.{FreedAfterHeld};
-ghost use Rattle.fabric_model.specs.Laws.Flows.{EarlierFirst, InOrder};
+ghost use Rattle.fabric_model.specs.Laws.Flows.{SameCourse, SameFlow, EarlierFirst, InOrder};
 ghost use Rattle.fabric_model.specs.Laws.Tables.{ByTables};
 ghost use Rattle.fabric_model.specs.Laws.Proper.{AreProper};
 ghost use Rattle.fabric_model.specs.Laws.Examples.{pair, pair_steps, first, held_once, kept_too, left_twice, twins, left_both, left_as_other, freed_too_early, fork, overtaking};
-ghost use Rattle.fabric_model.specs.Laws.Switches.{port_at, around, through, circle, parting, SamePriority, moved_elsewhere, dropped_on_its_way, for_7, later_for_7, changing, with_hop_0, with_hop_5, with_hop_3, hopping, taken_as};
+ghost use Rattle.fabric_model.specs.Laws.Switches.{port_at, around, through, circle, parting, SamePriority, moved_elsewhere, dropped_on_its_way, for_7, later_for_7, changing, with_hop_0, with_hop_5, with_hop_3, hopping, large, of_both_sizes, taken_as};
 
 /// A packet is sent over the one link of two endpoints and collected: the steps are legal, and the
 /// one item has left.
@@ -75,4 +75,14 @@ pub fn hop_counts_part_flows()
     ensures legal { LegalFrom around hopping (after_all around hopping) }
     ensures dropped { ended around hopping Dropped ≡ taken_as 0 with_hop_0 with_hop_0 ∷ [] }
     ensures left { gone around hopping ≡ taken_as 1 with_hop_5 with_hop_3 ∷ [] }
+{}
+
+/// A packet with IDs of 16 bits goes the way of one with IDs of 8 bits that are the same numbers: a
+/// destination of either size has the entry of its number. Two such packets are of one course, but
+/// of two flows.
+pub fn sizes_part_flows()
+    ensures legal { LegalFrom around of_both_sizes (after_all around of_both_sizes) }
+    ensures left { gone around of_both_sizes ≡ first ∷ taken_as 1 large large ∷ [] }
+    ensures course { SameCourse first (taken_as 1 large large) }
+    ensures flow { SameFlow first (taken_as 1 large large) → ⊥ }
 {}

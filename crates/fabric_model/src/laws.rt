@@ -67,7 +67,8 @@ pub fn in_order()
         → AreProper start.links → LegalFrom start steps end → InOrder start steps }
 {}
 
-/// The same of any two items of one course, so of flows that are told apart by all but the source.
+/// The same of any two items of one course, so of flows that are told apart by all but the source
+/// and the transport type.
 pub fn in_order_of_course()
     ensures { (start : Network) (steps : List Step) (end : Network) → IsEmptyNetwork start
         → AreProper start.links → LegalFrom start steps end

@@ -24,7 +24,7 @@ mod laws;
 
 pub use examples::{
     circles_are_legal, flows_can_part, hop_counts_part_flows, laws_can_fail, over_a_link,
-    routes_can_change, through_switches,
+    routes_can_change, sizes_part_flows, through_switches,
 };
 pub use laws::{
     answers_pass, by_priority, by_tables, forms_are_kept, freed_after_held, holding_exactly,

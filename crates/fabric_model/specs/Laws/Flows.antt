@@ -1,6 +1,6 @@
 -- In order per flow, while the routes of its destination stand.
 use Rattle.std.specs.Prelude.{◌≡◌, ℕ, ◌+◌, ◌<◌, ◌==◌, List, [], ◌∷◌, ◌++◌, Option, ⊤}
-use Rattle.rio_packets.specs.Fields.{prio_of, ftype_of, dest_of, source_of, hop_of}
+use Rattle.rio_packets.specs.Fields.{prio_of, tt_of, ftype_of, dest_of, source_of, hop_of}
 use Rattle.fabric_model.specs.Network.{Item, Network, route_at}
 use Rattle.fabric_model.specs.Steps.{Step, after, after_all}
 use Rattle.fabric_model.specs.Laws.History.{Left, Answered, taken_by, ended_by, ended}
@@ -15,9 +15,10 @@ pub record SameCourse (x y : Item) : Type 0 where
   pub maintenance : (ftype_of x.taken == 8) ≡ (ftype_of y.taken == 8)
   pub hop : hop_of x.taken ≡ hop_of y.taken
 
--- The items are of one flow: of one course and one source. A further field makes flows finer, and
--- the law weaker.
+-- The items are of one flow: of one course, one source and one transport type, which says the size
+-- of their IDs. A further field makes flows finer, and the law weaker.
 pub record SameFlow (x y : Item) : Type 0 where
+  pub transport : tt_of x.taken ≡ tt_of y.taken
   pub source : source_of x.taken ≡ source_of y.taken
   pub course : SameCourse x y
 

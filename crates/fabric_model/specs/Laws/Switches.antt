@@ -191,6 +191,29 @@ hopping =
     ∷ AtNode (Leave 1 with_hop_3)
     ∷ []
 
+-- a packet with IDs of 16 bits, whose numbers are those of the first packet
+abbrev pub large : List ℕ
+large = 0x00 ∷ 0x1f ∷ 0x00 ∷ 0x02 ∷ 0x00 ∷ 0x01 ∷ 0xca ∷ 0xfe ∷ 0x08 ∷ 0x51 ∷ 0x00 ∷ 0x00 ∷ []
+
+-- it goes the way of the first packet, behind it
+abbrev pub of_both_sizes : List Step
+of_both_sizes =
+    AtNode (Take 0 packet)
+    ∷ AtNode (Take 0 large)
+    ∷ Linked (Hold (port_at 2 0) packet)
+    ∷ Linked (Hold (port_at 2 0) large)
+    ∷ ByDevice (Move (port_at 2 0) (port_at 2 1) packet)
+    ∷ ByDevice (Move (port_at 2 0) (port_at 2 1) large)
+    ∷ Linked (Hold (port_at 3 1) packet)
+    ∷ Linked (Hold (port_at 3 1) large)
+    ∷ ByDevice (Move (port_at 3 1) (port_at 3 0) packet)
+    ∷ ByDevice (Move (port_at 3 1) (port_at 3 0) large)
+    ∷ Linked (Hold (port_of 1) packet)
+    ∷ Linked (Hold (port_of 1) large)
+    ∷ AtNode (Leave 1 packet)
+    ∷ AtNode (Leave 1 large)
+    ∷ []
+
 -- the item of a number that was taken at the first endpoint as one packet, and is now another
 abbrev pub taken_as : ℕ → List ℕ → List ℕ → Item
 taken_as number packet now =
