@@ -45,8 +45,9 @@ use Rattle.fabric_map.specs.Topology.{Topology}
 use Rattle.fabric_ask.proofs.Crossing.{Split, split}
 use Rattle.fabric_ask.proofs.Serving.{put_only, cleared}
 use Rattle.fabric_ask.proofs.Collecting.{collect_lines_made}
-use Rattle.fabric_ask.proofs.Lowering.{on_request, asks, moves_same}
-use Rattle.fabric_ask.proofs.Packets.{IsBack, is_back, on_response, response_asks, moved_response}
+use Rattle.fabric_ask.proofs.OnWay.{asks, on_request, on_response, response_asks}
+use Rattle.fabric_ask.proofs.Lowering.{moves_same}
+use Rattle.fabric_ask.proofs.Packets.{IsBack, is_back, read_again, moved_response}
 use Rattle.fabric_ask.proofs.Walking.{walk_peer}
 use Rattle.fabric_ask.proofs.Traveling.{travels, table_is}
 use Rattle.fabric_ask.proofs.Asking.{IsHeard, is_heard, IsHome, comes_home, holds_it, lost_response}
@@ -249,18 +250,23 @@ module _ (host : ℕ) (request : Request) (noise : List Edit) (s : Seen) (lines 
             passes
             asked
 
+        response_read : response_of (response_bytes response) ≡ Some response
+        response_read = read_again response response_passes response_low back.formed
+
         on_way : IsOn h.item.now request.source 255
         on_way =
-            let own = on_response response response_passes response_low in
+            let own = on_response (response_bytes response) response response_passes response_read
+            in
             subst (λ p. IsOn p request.source 255) (sym h.response) (record {
               passes = own.passes;
               maintenance = own.maintenance;
-              goal = own.goal ∙ back.dest;
-              hop = own.hop ∙ back.hop;
+              goal = own.goal ∙ ap Some back.dest;
+              hop = own.hop ∙ ap Some back.hop;
             })
 
         unasked : is_request h.item.now ≡ false
-        unasked = ap is_request h.response ∙ response_asks response back.status
+        unasked = ap is_request h.response
+            ∙ response_asks (response_bytes response) response response_read
 
         u_behind : (seen u h.rest).unfaithful ≡ None
         u_behind = sym (ap (λ (x : Seen). x.unfaithful) (seen-append t h.front h.rest))

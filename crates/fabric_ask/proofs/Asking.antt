@@ -35,7 +35,8 @@ use Rattle.fabric_ask.proofs.Uncollected.{never-append, never_by, made_endpoint}
 use Rattle.fabric_ask.proofs.Losing.{clear_rounds}
 use Rattle.fabric_ask.proofs.Walking.{next_ends}
 use Rattle.fabric_ask.proofs.Traveling.{travels, nothing_holds}
-use Rattle.fabric_ask.proofs.Lowering.{asks, anyhow, moves_same}
+use Rattle.fabric_ask.proofs.OnWay.{asks}
+use Rattle.fabric_ask.proofs.Lowering.{anyhow, moves_same}
 use Rattle.fabric_ask.proofs.Packets.{answered_alike}
 
 -- ---- the request at its device

@@ -16,7 +16,7 @@ use Rattle.fabric_ask.specs.Answered.{after_request}
 -- ---- a device that answers
 
 same_here : (device : Device) → IsSameDevice device device
-same_here device = record { kind = refl; ports = refl; linked = refl }
+same_here device = record { kind = refl; ports = refl; linked = refl; large_id = refl }
 
 pub answered_same : (device : Device) (request : Request) (port : ℕ)
     → IsSameDevice device (answered device request port).device

@@ -23,3 +23,4 @@ pub mod Uncollected
 pub mod Gathering
 pub mod Beginning
 pub mod Resting
+pub mod OnWay

@@ -1,50 +1,21 @@
 -- A request or a response as it moves on.
-use Rattle.std.proofs.Common.{◌≡◌, ℕ, zero, suc, ◌+◌, ◌/◌, ◌%◌, ◌<◌, ◌≤◌, ◌==◌, ◌&&◌, nat_lt, Bool, true, false, List, length, Option, Some, None, option_map, refl, ap, ◌∙◌, arith, if◌then◌else◌, MatchBool, eqb-true}
+use Rattle.std.proofs.Common.{◌≡◌, ℕ, zero, suc, ◌+◌, ◌-◌, ◌/◌, ◌%◌, ◌<◌, ◌≤◌, ◌==◌, ◌&&◌, nat_lt, Bool, true, false, List, length, Option, Some, None, option_map, unwrap_or, refl, sym, ap, ◌∙◌, arith, if◌then◌else◌, MatchBool, eqb-true}
 use Rattle.std.specs.List.{slice_index}
 use Rattle.std.proofs.lemmas.Bool.{and_parts}
-use Rattle.rio_packets.specs.Fields.{prio_of, ttype_of, is_maintenance, is_request, Lowered}
+use Rattle.std.proofs.lemmas.Option.{same_Some}
+use Rattle.rio_packets.specs.Fields.{prio_of, tt_of, ftype_of, ttype_of, dest_of, source_of, hop_of, ids_end, half_word_at, hop_place, crc_place, is_maintenance, is_maintenance_length, is_padded_form, is_request, Lowered}
+use Rattle.rio_packets.specs.Hops.{is_large}
 use Rattle.rio_packets.specs.LinkForm.{Passes}
-use Rattle.rio_packets.proofs.LowerLaws.{maintenance_size}
+use Rattle.rio_packets.proofs.PlaceLaws.{Places, places}
 use Rattle.maint_packets.specs.declared.request.Op.TheVariants.{Read, Write, BadRead, BadWrite}
 use Rattle.maint_packets.specs.declared.request.Request.{Request}
 use Rattle.maint_packets.specs.declared.response.Response.{Response}
-use Rattle.maint_packets.specs.Layout.{word_at, offset_of, low_half_of}
+use Rattle.maint_packets.specs.Layout.{word_at, offset_of, tid_of, low_half_of, short_length, long_length}
 use Rattle.maint_packets.specs.Requests.{names_second, value_in, has_form, op_of, request_of}
 use Rattle.maint_packets.specs.Responses.{is_with_data, is_without_data, with_words, response_of}
 use Rattle.fabric_model.specs.Laws.Leaving.{IsAfterMoves, MovesTo}
 use Rattle.fabric_model.specs.Laws.Leaving.IsAfterMoves.{AsItWas, OnceMore}
-use Rattle.fabric_ask.specs.Travel.{IsOn}
-
--- ---- a request
-
-some_request : (packet : List ℕ) (request : Request) → request_of packet ≡ Some request
-    → (is_request packet ≡ true) × ((slice_index packet 2 ≡ request.dest)
-    × (slice_index packet 6 ≡ request.hop))
-some_request packet request is = by_test (is_request packet) refl
-  where
-    inside : (a : Request) → Some a ≡ Some request → a ≡ request
-    inside a e = cc
-
-    by_test : (t : Bool) → is_request packet ≡ t → (is_request packet ≡ true)
-        × ((slice_index packet 2 ≡ request.dest) × (slice_index packet 6 ≡ request.hop))
-    by_test true e = let own = inside _ (rw e at is) in
-        (e, (ap (λ (r : Request). r.dest) own, ap (λ (r : Request). r.hop) own))
-    by_test false e = let bad : None ≡ Some request = rw e at is in absurd cc
-
-pub on_request : (packet : List ℕ) (request : Request) → Passes packet
-    → request_of packet ≡ Some request → IsOn packet request.dest request.hop
-on_request packet request passes is =
-    let own = some_request packet request is in
-    record {
-      passes = passes;
-      maintenance = (and_parts (is_maintenance packet) (nat_lt (ttype_of packet) 2) own.0).0;
-      goal = own.1.0;
-      hop = own.1.1;
-    }
-
-pub asks : (packet : List ℕ) (request : Request) → request_of packet ≡ Some request
-    → is_request packet ≡ true
-asks packet request is = (some_request packet request is).0
+use Rattle.fabric_ask.proofs.OnWay.{hop_there}
 
 -- ---- a request or a response as it moves on
 
@@ -56,148 +27,214 @@ abbrev pub anyhow : Request → Request
 anyhow request = record request { hop = 0 }
 
 module _ (old new : List ℕ) (low : Lowered old new) where
-  pub size : 12 ≤ length old
-  size = (maintenance_size old low.was).least
+  spaces : Places (is_large old) old (hop_place old) (crc_place old)
+  spaces = places old low.was
 
-  byte : (k : ℕ) → k < 6 → slice_index new k ≡ slice_index old k
-  byte k below = low.others k (omega arith) (let s = size in omega (arith, below, s))
+  -- what stands before the hop count, and what between that and the CRC
+  byte : (k : ℕ) → k < hop_place old → slice_index new k ≡ slice_index old k
+  byte k below =
+      let between = spaces.between in
+      low.others k (omega (arith, below)) (omega (arith, below, between))
+      (omega (arith, below, between))
 
-  late : (k : ℕ) → 6 < k → k + 2 < length old → slice_index new k ≡ slice_index old k
-  late k above below = low.others k (omega (arith, above)) below
+  late : (k : ℕ) → hop_place old < k → k < crc_place old → slice_index new k ≡ slice_index old k
+  late k above below =
+      low.others k (omega (arith, above)) (omega (arith, below)) (omega (arith, below))
+
+  front : (k : ℕ) → k < 6 → slice_index new k ≡ slice_index old k
+  front k below = let least = spaces.least in byte k (omega (arith, below, least))
+
+  ends_same : ids_end new ≡ ids_end old
+  ends_same = ap (λ t. if t == 1 then 6 else 4) low.same_type
+
+  large_same : is_large new ≡ is_large old
+  large_same = ap (λ t. t == 1) low.same_type
+
+  head : (k : ℕ) → k < 2 → slice_index new (ids_end new + k) ≡ slice_index old (ids_end old + k)
+  head k below =
+      ap (λ e. slice_index new (e + k)) ends_same
+      ∙ byte (ids_end old + k) (omega (arith, below))
+
+  tail : (k : ℕ) → 2 < k → ids_end old + k < crc_place old
+      → slice_index new (ids_end new + k) ≡ slice_index old (ids_end old + k)
+  tail k above below =
+      ap (λ e. slice_index new (e + k)) ends_same
+      ∙ late (ids_end old + k) (omega (arith, above)) below
+
+  type_byte : slice_index new (ids_end new) ≡ slice_index old (ids_end old)
+  type_byte = ap (λ e. slice_index new e) ends_same ∙ byte (ids_end old) (omega arith)
+
+  pub dest_same : dest_of new ≡ dest_of old
+  dest_same =
+      let two = front 2 (omega arith) in
+      let three = front 3 (omega arith) in
+      rw (low.same_type, two, three) refl
+
+  source_same : source_of new ≡ source_of old
+  source_same =
+      let three = front 3 (omega arith) in
+      let four = front 4 (omega arith) in
+      let five = front 5 (omega arith) in
+      rw (low.same_type, three, four, five) refl
+
+  -- the hop count is one less
+  pub hop_less : (h : ℕ) → hop_of old ≡ Some (suc h) → hop_of new ≡ Some h
+  hop_less h was =
+      let place : hop_place new ≡ hop_place old = ap (λ e. e + 2) ends_same in
+      let count : slice_index old (hop_place old) ≡ suc h =
+      same_Some _ (suc h) (sym (hop_there old low.was) ∙ was) in
+      let one = low.hop in
+      let less : slice_index new (hop_place old) ≡ h = omega (arith, one, count) in
+      hop_there new low.is ∙ ap Some (ap (λ k. slice_index new k) place ∙ less)
+
+  type_same : ttype_of new ≡ ttype_of old
+  type_same = ap (λ b. b / 16) type_byte
 
   request_same : is_request new ≡ is_request old
-  request_same = let four = byte 4 (omega arith) in rw (low.was, low.is, four) refl
+  request_same = rw (low.was, low.is, type_same) refl
 
   offset_same : offset_of new ≡ offset_of old
   offset_same =
-      let s = size in
-      let seven = late 7 (omega arith) (omega (arith, s)) in
-      let eight = late 8 (omega arith) (omega (arith, s)) in
-      let nine = late 9 (omega arith) (omega (arith, s)) in
-      rw (seven, eight, nine) refl
+      let between = spaces.between in
+      let three = tail 3 (omega arith) (omega (arith, between)) in
+      let four = tail 4 (omega arith) (omega (arith, between)) in
+      let five = tail 5 (omega arith) (omega (arith, between)) in
+      rw (three, four, five) refl
+
+  half_same : low_half_of new ≡ low_half_of old
+  half_same = ap (λ b. b % 16) type_byte
 
   form_same : (long : ℕ) → has_form new long ≡ has_form old long
-  form_same long = let four = byte 4 (omega arith) in rw (four, low.same_length) refl
+  form_same long = rw (half_same, low.same_length) refl
 
-  word_same : (at : ℕ) → 6 < at → at + 5 < length old → word_at new at ≡ word_at old at
-  word_same at above below =
-      let a = late at above (omega (arith, below)) in
+  word_same : (k : ℕ) → 2 < k → ids_end old + k + 3 < crc_place old
+      → word_at new (ids_end new + k) ≡ word_at old (ids_end old + k)
+  word_same k above below =
+      let at = ids_end old + k in
+      let a = late at (omega (arith, above)) (omega (arith, below)) in
       let b = late (at + 1) (omega (arith, above)) (omega (arith, below)) in
       let c = late (at + 2) (omega (arith, above)) (omega (arith, below)) in
       let d = late (at + 3) (omega (arith, above)) (omega (arith, below)) in
-      rw (a, b, c, d) refl
+      ap (λ e. word_at new (e + k)) ends_same ∙ rw (a, b, c, d) refl
 
-  value_same : length old ≡ 20 → value_in new ≡ value_in old
-  value_same is = by_half (names_second (offset_of old)) (ap (λ o. names_second o) offset_same)
+  -- two words of data stand before the CRC
+  long_fits : length old ≡ long_length (is_large old) → ids_end old + 14 ≤ crc_place old
+  long_fits is = by_size (tt_of old == 1) is
     where
-      by_half : (second : Bool) → names_second (offset_of new) ≡ names_second (offset_of old)
-          → value_in new ≡ value_in old
-      by_half second same = ap (λ b. word_at new (if b then 14 else 10)) same
-          ∙ by_two (names_second (offset_of old))
-        where
-          by_two : (b : Bool) → word_at new (if b then 14 else 10) ≡ word_at old
-              (if b then 14 else 10)
-          by_two true = word_same 14 (omega arith) (omega (arith, is))
-          by_two false = word_same 10 (omega arith) (omega (arith, is))
+      by_size : (b : Bool) → length old ≡ long_length b
+          → (if b then 6 else 4) + 14 ≤ length old - (if b then 4 else 2)
+      by_size true is = omega (arith, is)
+      by_size false is = omega (arith, is)
 
-  write_same : (b : Bool) → has_form old 20 ≡ b
-      → (if b then Write (value_in new) else BadWrite) ≡ (if b then Write (value_in old) else
-      BadWrite)
-  write_same true is = ap Write (value_same
-      (eqb-true (length old) 20 (and_parts (low_half_of old == 8) (length old == 20) is).1))
+  value_same : length old ≡ long_length (is_large old) → value_in new ≡ value_in old
+  value_same is =
+      ap (λ o. word_at new (ids_end new + (if names_second o then 10 else 6))) offset_same
+      ∙ by_half (names_second (offset_of old))
+    where
+      by_half : (second : Bool) → word_at new (ids_end new + (if second then 10 else 6))
+          ≡ word_at old (ids_end old + (if second then 10 else 6))
+      by_half true = let fits = long_fits is in word_same 10 (omega arith) (omega (arith, fits))
+      by_half false = let fits = long_fits is in word_same 6 (omega arith) (omega (arith, fits))
+
+  abbrev short_old : ℕ
+  short_old = short_length (is_large old)
+
+  abbrev long_old : ℕ
+  long_old = long_length (is_large old)
+
+  write_same : (b : Bool) → has_form old long_old ≡ b
+      → (if b then Write (value_in new) else BadWrite)
+      ≡ (if b then Write (value_in old) else BadWrite)
+  write_same true is = ap Write (value_same (eqb-true (length old) long_old
+      (and_parts (low_half_of old == 8) (length old == long_old) is).1))
   write_same false is = refl
 
   op_same : op_of new ≡ op_of old
   op_same =
-      let four = byte 4 (omega arith) in
-      let twelve = form_same 12 in
-      let twenty = form_same 20 in
-      let write = write_same (has_form old 20) refl in
-      (λ i. if four i / 16 == 0 then (if twelve i then Read else BadRead) else
-      (if twenty i then Write (value_in new) else BadWrite))
-      ∙ (λ i. if slice_index old 4 / 16 == 0 then (if has_form old 12 then Read else BadRead) else
+      let short = ap (λ b. has_form new (short_length b)) large_same ∙ form_same short_old in
+      let long = ap (λ b. has_form new (long_length b)) large_same ∙ form_same long_old in
+      let write = write_same (has_form old long_old) refl in
+      (λ i. if type_same i == 0 then (if short i then Read else BadRead) else
+      (if long i then Write (value_in new) else BadWrite))
+      ∙ (λ i. if ttype_of old == 0 then (if has_form old short_old then Read else BadRead) else
       write i)
+
+  -- a request with these fields
+  abbrev with_hop : ℕ → Request
+  with_hop hop = record {
+    prio = prio_of old;
+    dest = unwrap_or (dest_of old) 0;
+    source = unwrap_or (source_of old) 0;
+    large = is_large old;
+    op = op_of old;
+    tid = tid_of old;
+    hop = hop;
+    offset = offset_of old;
+  }
 
   anyhow_same : option_map anyhow (request_of new) ≡ option_map anyhow (request_of old)
   anyhow_same =
-      let one = byte 1 (omega arith) in
-      let two = byte 2 (omega arith) in
-      let three = byte 3 (omega arith) in
-      let five = byte 5 (omega arith) in
-      let op = op_same in
-      let offset = offset_same in
-      let asks2 = request_same in
-      (λ i. option_map anyhow (if asks2 i then Some
+      let one = front 1 (omega arith) in
+      let tid = head 1 (omega arith) in
+      (λ i. option_map anyhow (if request_same i then Some
       (record {
         prio = one i / 64;
-        dest = two i;
-        source = three i;
-        op = op i;
-        tid =
-            five i;
-        hop = slice_index new 6;
-        offset = offset i;
+        dest = unwrap_or (dest_same i) 0;
+        source = unwrap_or (source_same i) 0;
+        large = large_same i;
+        op = op_same i;
+        tid = tid i;
+        hop = slice_index new (hop_place new);
+        offset = offset_same i;
       }) else None))
       ∙ by_test (is_request old)
     where
       by_test : (b : Bool) → option_map anyhow
-          (if b then Some (record {
-            prio = prio_of old;
-            dest = slice_index old 2;
-            source =
-                slice_index old 3;
-            op = op_of old;
-            tid = slice_index old 5;
-            hop =
-                slice_index new 6;
-            offset = offset_of old;
-          }) else None)
-          ≡ option_map anyhow (if b then Some
-          (record {
-            prio = prio_of old;
-            dest = slice_index old 2;
-            source =
-                slice_index old 3;
-            op = op_of old;
-            tid = slice_index old 5;
-            hop =
-                slice_index old 6;
-            offset = offset_of old;
-          }) else None)
+          (if b then Some (with_hop (slice_index new (hop_place new))) else None)
+          ≡ option_map anyhow
+          (if b then Some (with_hop (slice_index old (hop_place old))) else None)
       by_test true = refl
       by_test false = refl
 
-  type_same : ttype_of new ≡ ttype_of old
-  type_same = let four = byte 4 (omega arith) in ap (λ b. b / 16) four
+  long_same : (length new == long_length (is_large new)) ≡ (length old == long_old)
+  long_same = rw (low.same_length, large_same) refl
+
+  short_same : (length new == short_length (is_large new)) ≡ (length old == short_old)
+  short_same = rw (low.same_length, large_same) refl
 
   data_same : is_with_data new ≡ is_with_data old
-  data_same = let four = byte 4 (omega arith) in rw (four, low.same_length) refl
+  data_same = rw (type_same, half_same, long_same) refl
 
   no_data_same : is_without_data new ≡ is_without_data old
-  no_data_same = let four = byte 4 (omega arith) in rw (four, low.same_length) refl
+  no_data_same = rw (type_same, half_same, short_same) refl
 
-  words_same : length old ≡ 20
-      → (word_at new 10 ≡ word_at old 10) × (word_at new 14 ≡ word_at old 14)
-  words_same is = (
-    word_same 10 (omega arith) (omega (arith, is)),
-    word_same 14 (omega arith) (omega (arith, is)),
-  )
+  abbrev first_at : List ℕ → ℕ
+  first_at bytes = word_at bytes (ids_end bytes + 6)
+
+  abbrev second_at : List ℕ → ℕ
+  second_at bytes = word_at bytes (ids_end bytes + 10)
+
+  words_same : length old ≡ long_old
+      → (first_at new ≡ first_at old) × (second_at new ≡ second_at old)
+  words_same is =
+      let fits = long_fits is in (
+        word_same 6 (omega arith) (omega (arith, fits)),
+        word_same 10 (omega arith) (omega (arith, fits)),
+      )
 
   with_same : (first second : Option (ℕ × ℕ)) → first ≡ second
       → unhopped (with_words new first) ≡ unhopped (with_words old second)
   with_same first second same =
-      let one = byte 1 (omega arith) in
-      let two = byte 2 (omega arith) in
-      let three = byte 3 (omega arith) in
-      let four = byte 4 (omega arith) in
-      let five = byte 5 (omega arith) in
+      let one = front 1 (omega arith) in
+      let tid = head 1 (omega arith) in
       λ i. record {
         prio = one i / 64;
-        dest = two i;
-        source = three i;
-        write = four i / 16 == 3;
-        status = four i % 16;
-        tid = five i;
+        dest = unwrap_or (dest_same i) 0;
+        source = unwrap_or (source_same i) 0;
+        large = large_same i;
+        write = type_same i == 3;
+        status = half_same i;
+        tid = tid i;
         hop = 0;
         words = same i;
       }
@@ -220,14 +257,14 @@ module _ (old new : List ℕ) (low : Lowered old new) where
           → option_map unhopped (response_of new) ≡ option_map unhopped (response_of old)
       by_data true is =
           let data_is = data_same ∙ is in
-          let size : length old ≡ 20 = eqb-true (length old) 20
-          (and_parts (low_half_of old == 0) (length old == 20)
+          let size : length old ≡ long_old = eqb-true (length old) long_old
+          (and_parts (low_half_of old == 0) (length old == long_old)
           (and_parts (ttype_of old == 2)
-          ((low_half_of old == 0) && (length old == 20)) is).1).1 in
+          ((low_half_of old == 0) && (length old == long_old)) is).1).1 in
           let both = words_same size in
           rw (low.was, low.is, is, data_is)
-          (ap Some (with_same (Some (word_at new 10, word_at new 14))
-          (Some (word_at old 10, word_at old 14)) (λ i. Some (both.0 i, both.1 i))))
+          (ap Some (with_same (Some (first_at new, second_at new))
+          (Some (first_at old, second_at old)) (λ i. Some (both.0 i, both.1 i))))
       by_data false is = by_none (is_without_data old) refl is
 
 one_move : (old new : List ℕ) → MovesTo old new

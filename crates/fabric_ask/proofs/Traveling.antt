@@ -6,7 +6,7 @@ use Rattle.rio_packets.specs.Fields.{is_request}
 use Rattle.maint_registers.specs.Devices.{Device, is_switch, new_endpoint}
 use Rattle.maint_registers.specs.Routes.{next_port}
 use Rattle.maint_packets.specs.declared.next_hop.Next.TheVariants.{Nowhere, RegisterUnit, Port}
-use Rattle.maint_packets.specs.NextHops.{to_port, moved}
+use Rattle.maint_packets.specs.NextHops.{to_port, moved, is_spent}
 use Rattle.link_wires.specs.declared.edits.Edit.{Edit}
 use Rattle.fabric_script.specs.declared.ports.PortRef.{PortRef}
 use Rattle.fabric_map.specs.Topology.{Topology}
@@ -87,7 +87,7 @@ arrival_behind host rounds dest h left s first rest lines at item whole run noth
   where
     once : MovesTo item.now (moved item.now)
     once = (moves_on item.now on.passes
-        (rw (on.maintenance, on.hop) (ne_eqb (suc h) 0 (λ same. omega arith)))).once
+        (ap is_spent on.hop ∙ ne_eqb (suc h) 0 (λ same. omega arith))).once
 
     after_one : (old mid new : List ℕ) (n : ℕ) → MovesTo old mid → IsAfterMoves mid n new
         → IsAfterMoves old (suc n) new

@@ -3,8 +3,7 @@ use Rattle.std.proofs.Common.{◌≡◌, ℕ, zero, suc, ◌==◌, ◌&&◌, not
 use Rattle.std.specs.List.{slice_index}
 use Rattle.std.specs.Option.{option_and_then}
 use Rattle.std.proofs.lemmas.Bool.{ne_eqb}
-use Rattle.rio_packets.specs.Fields.{tt_of, ftype_of, is_maintenance, is_maintenance_length, is_request, Lowered, dest_of, hop_of}
-use Rattle.rio_packets.proofs.LowerLaws.{maintenance_size}
+use Rattle.rio_packets.specs.Fields.{ftype_of, is_maintenance, is_request, Lowered, dest_of}
 use Rattle.maint_registers.specs.Devices.{Device}
 use Rattle.maint_registers.specs.Routes.{next_port}
 use Rattle.maint_packets.specs.declared.next_hop.Next.TheVariants.{Nowhere, RegisterUnit}
@@ -21,36 +20,24 @@ use Rattle.fabric_map.specs.Topology.{port_at}
 use Rattle.fabric_map.specs.Plain.{topology_of, registers_of}
 use Rattle.fabric_ask.specs.Answered.{hops_left}
 use Rattle.fabric_ask.specs.Travel.{IsOn}
+use Rattle.fabric_ask.proofs.Lowering.{dest_same, hop_less}
 
 -- ---- the packet
 
-narrow_is : (packet : List ℕ) → is_maintenance packet ≡ true
-    → (is_foreign packet ≡ false) × ((tt_of packet == 0) ≡ true)
-narrow_is packet is = by_tests (ftype_of packet == 8) (tt_of packet == 0)
-    (is_maintenance_length (length packet)) is
+not_foreign : (packet : List ℕ) → is_maintenance packet ≡ true → is_foreign packet ≡ false
+not_foreign packet is = ap (λ b. (ftype_of packet == 8) && not b) is
+    ∙ none (ftype_of packet == 8)
   where
-    by_tests : (eight narrow long : Bool) → (eight && (narrow && long)) ≡ true
-        → ((eight && not (eight && (narrow && long))) ≡ false) × (narrow ≡ true)
-    by_tests true true true is = (refl, refl)
-    by_tests true true false is = absurd cc
-    by_tests true false long is = absurd cc
-    by_tests false narrow long is = absurd cc
-
-dest_is : (packet : List ℕ) (dest hops : ℕ) → IsOn packet dest hops → dest_of packet ≡ Some dest
-dest_is packet dest hops on =
-    ap (λ b. if b then Some (slice_index packet 2) else None)
-    (narrow_is packet on.maintenance).1 ∙ ap Some on.goal
-
-hop_is : (packet : List ℕ) (dest hops : ℕ) → IsOn packet dest hops → hop_of packet ≡ Some hops
-hop_is packet dest hops on =
-    ap (λ b. if b then Some (slice_index packet 6) else None) on.maintenance ∙ ap Some on.hop
+    none : (b : Bool) → (b && false) ≡ false
+    none true = refl
+    none false = refl
 
 -- where a switch sends it, with no hop left, and with one
 pub next_ends : (device : Device) (packet : List ℕ) (dest : ℕ) → IsOn packet dest 0
     → next_of device packet ≡ (if is_request packet then RegisterUnit else Nowhere)
 next_ends device packet dest on =
-    let foreign = (narrow_is packet on.maintenance).0 in
-    let hop = hop_is packet dest 0 on in
+    let foreign = not_foreign packet on.maintenance in
+    let hop = on.hop in
     λ i. if foreign i then Nowhere
     else (if is_spent (hop i) then (if is_request packet then RegisterUnit else Nowhere)
     else to_port (option_and_then (next_port device) (dest_of packet)))
@@ -58,9 +45,9 @@ next_ends device packet dest on =
 pub next_goes : (device : Device) (packet : List ℕ) (dest h : ℕ) → IsOn packet dest (suc h)
     → next_of device packet ≡ to_port (next_port device dest)
 next_goes device packet dest h on =
-    let foreign = (narrow_is packet on.maintenance).0 in
-    let hop = hop_is packet dest (suc h) on in
-    let goal = dest_is packet dest (suc h) on in
+    let foreign = not_foreign packet on.maintenance in
+    let hop = on.hop in
+    let goal = on.goal in
     (λ i. if foreign i then Nowhere
     else (if is_spent (hop i) then (if is_request packet then RegisterUnit else Nowhere)
     else to_port (option_and_then (next_port device) (goal i))))
@@ -72,18 +59,17 @@ pub on_moves : (packet : List ℕ) (dest h : ℕ) → IsOn packet dest (suc h)
     → IsOn (moved packet) dest h
 on_moves packet dest h on =
     let goes : is_at_end packet ≡ false =
-    ap is_spent (hop_is packet dest (suc h) on) ∙ ne_eqb (suc h) 0 (λ same. omega arith) in
+    ap is_spent on.hop ∙ ne_eqb (suc h) 0 (λ same. omega arith) in
     let moves = moves_on packet on.passes goes in
     let low : MovesTo packet (moved packet) = moves.once in
     let lower : Lowered packet (moved packet) =
     subst (λ b. MatchBool b (Lowered packet (moved packet)) (moved packet ≡ packet))
     on.maintenance low in
-    let size = (maintenance_size packet on.maintenance).least in
     record {
       passes = moves.passes;
       maintenance = lower.is;
-      goal = lower.others 2 (omega arith) (omega (arith, size)) ∙ on.goal;
-      hop = (let now = lower.hop in let was = on.hop in omega (arith, now, was));
+      goal = dest_same packet (moved packet) lower ∙ on.goal;
+      hop = hop_less packet (moved packet) lower h on.hop;
     }
 
 -- ---- the walk

@@ -1,6 +1,6 @@
 -- Where a maintenance packet comes to, round by round.
-use Rattle.std.specs.Prelude.{◌≡◌, ℕ, suc, ◌+◌, ◌≤◌, true, List, ◌++◌, slice_index, None, MatchBool}
-use Rattle.rio_packets.specs.Fields.{is_maintenance}
+use Rattle.std.specs.Prelude.{◌≡◌, ℕ, suc, ◌+◌, ◌≤◌, true, List, ◌++◌, Some, None, MatchBool}
+use Rattle.rio_packets.specs.Fields.{is_maintenance, dest_of, hop_of}
 use Rattle.rio_packets.specs.LinkForm.{Passes}
 use Rattle.link_wires.specs.declared.edits.Edit.{Edit}
 use Rattle.fabric_script.specs.declared.ports.PortRef.{PortRef}
@@ -19,8 +19,8 @@ use Rattle.fabric_ask.specs.Asks.{holds_some, AskRounds}
 pub record IsOn (packet : List ℕ) (dest hops : ℕ) : Type 0 where
   pub passes : Passes packet
   pub maintenance : is_maintenance packet ≡ true
-  pub goal : slice_index packet 2 ≡ dest
-  pub hop : slice_index packet 6 ≡ hops
+  pub goal : dest_of packet ≡ Some dest
+  pub hop : hop_of packet ≡ Some hops
 
 -- what follows a round in which at most so many are left
 abbrev pub GoesOn : ℕ → ℕ → List Edit → Seen → List TraceLine → Type 0

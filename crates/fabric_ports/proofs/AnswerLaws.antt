@@ -31,7 +31,7 @@ use Rattle.fabric_ask.specs.Only.{IsClear}
 use Rattle.fabric_ask.specs.Own.{NeverAnswers}
 use Rattle.fabric_ask.specs.Quiet.{AreQuiet}
 use Rattle.fabric_ask.proofs.Answering.{is_replied, goes_there}
-use Rattle.fabric_ask.proofs.Lowering.{on_request}
+use Rattle.fabric_ask.proofs.OnWay.{on_request, hop_low}
 use Rattle.fabric_ask.proofs.Laying.{laid_heard}
 use Rattle.fabric_ask.proofs.Uncollected.{nothing_answers, answers-append}
 use Rattle.fabric_ports.specs.Asking.{CanAsk, Returns, Replied, AskEnds, Unwritten}
@@ -50,15 +50,16 @@ pub record IsSendable (request : Request) : Type 0 where
   pub op : IsGoodOp request.op
   pub prio : request.prio < 4
 
+read : (request : Request) (packet : List ℕ) → IsSendable request
+    → LinkForm (request_body request) packet → request_of packet ≡ Some request
+read request packet sendable form = read_back request packet sendable.prio sendable.op form
+
 -- its hop count is a byte of its packet
 low_hop : (request : Request) (packet : List ℕ) → IsSendable request
     → LinkForm (request_body request) packet → request.hop < 256
 low_hop request packet sendable form =
-    let passes = Passes-from_form (request_body request) packet form in
-    let own = (on_request packet request passes
-    (read_back request packet sendable.prio sendable.op form)).hop in
-    let byte = passes.range 6 0 (omega (arith, passes.least)) in
-    subst (λ n. n < 256) own byte
+    hop_low packet request.dest request.hop (on_request packet request
+    (Passes-from_form (request_body request) packet form) (read request packet sendable form))
 
 -- what was told of an ask, by what left at the host or why it ended
 abbrev pub IsTold : List (List ℕ) → {K : Type 0} → (K → Option (List ℕ)) → (K → ℕ) → Outbox K
@@ -106,7 +107,7 @@ module _ (names : List (List ℕ)) (before after : Option (List ℕ)) (host : �
 
     reads : (packet : List ℕ) → LinkForm (request_body request) packet
         → request_of packet ≡ Some request
-    reads packet form = read_back request packet sendable.prio sendable.op form
+    reads packet form = read request packet sendable form
 
     module _ (left : Option (List ℕ))
         (ran : Ran (AskLeaves host request noise left) names written faults a b from lines new)

@@ -1,11 +1,12 @@
 -- Where ports stand when a device changes that has as many ports as before: where they stood.
-use Rattle.std.proofs.Common.{◌≡◌, ℕ, zero, suc, ◌+◌, ◌<◌, true, List, [], ◌∷◌, All, Some, option_map, length, get_or, set, refl, sym, ap, ◌∙◌, subst, arith}
+use Rattle.std.proofs.Common.{◌≡◌, ℕ, Bool, zero, suc, ◌+◌, ◌<◌, true, List, [], ◌∷◌, All, Some, option_map, length, get_or, set, refl, sym, ap, ◌∙◌, subst, arith}
 use Rattle.std.proofs.lemmas.List.Elements.{All-cons, All-head, All-tail}
 use Rattle.std.proofs.lemmas.Option.{same_Some, slice_get_read}
 use Rattle.std.specs.List.{slice_get}
 use Rattle.maint_registers.specs.Devices.{Device, is_switch}
-use Rattle.fabric_model.specs.Network.{Network, IsSwitch, with_device}
+use Rattle.fabric_model.specs.Network.{Network, switch_at, with_device}
 use Rattle.fabric_model.proofs.Devices.{map-with_device}
+use Rattle.fabric_trace.proofs.KindLaws.{IsKindThere, kind_there}
 use Rattle.fabric_ports.specs.Places.{AreFirsts, port_count, HasPort}
 use Rattle.fabric_ports.specs.Plans.{counts_of, HasPorts}
 use Rattle.fabric_ports.specs.Showing.{AreRegisters}
@@ -88,28 +89,11 @@ changed_at devices node i read written change same within value is =
     (slice_get_read devices (length devices) i read refl within value)
     ∙ ap (λ n. with_device devices n change) same
 
--- ---- a switch that is there
-
-pub record IsSwitchThere (devices : List Device) (node : ℕ) : Type 0 where
-  pub within : node < length devices
-  pub kind : (read : Device) → read ≡ get_or devices node read → is_switch read ≡ true
-
-switch_there : (devices : List Device) (node : ℕ)
-    → option_map is_switch (slice_get devices node) ≡ Some true → IsSwitchThere devices node
-switch_there [] node is = absurd cc
-switch_there (d ∷ devices) zero is = record {
-  within = omega arith;
-  kind = λ read value. ap is_switch value ∙ same_Some (is_switch d) true is;
-}
-switch_there (d ∷ devices) (suc node) is =
-    let later = switch_there devices node is in
-    let within = later.within in
-    record { within = omega arith; kind = later.kind }
-
--- a switch of the network is one of its devices
-pub switch_of : (net : Network) (devices : List Device) (node : ℕ) → AreRegisters net devices
-    → IsSwitch net node → IsSwitchThere devices node
-switch_of net devices node registers switch =
-    switch_there devices node
-    (subst (λ (x : List Device). option_map is_switch (slice_get x node) ≡ Some true) registers
-    switch)
+-- an endpoint or a switch of the network is one of its devices
+pub kind_of : (switch : Bool) (net : Network) (devices : List Device) (node : ℕ)
+    → AreRegisters net devices → switch_at net node ≡ Some switch
+    → IsKindThere switch devices node
+kind_of switch net devices node registers is =
+    kind_there switch devices node
+    (subst (λ (x : List Device). option_map is_switch (slice_get x node) ≡ Some switch) registers
+    is)

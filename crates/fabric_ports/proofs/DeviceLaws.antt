@@ -9,7 +9,7 @@ abbrev pub AreSameDevices : List Device → List Device → Type 0
 AreSameDevices old new = AreAlike IsSameDevice old new
 
 pub same_device : (device : Device) → IsSameDevice device device
-same_device device = record { kind = refl; ports = refl; linked = refl }
+same_device device = record { kind = refl; ports = refl; linked = refl; large_id = refl }
 
 pub same_devices : (devices : List Device) → AreSameDevices devices devices
 same_devices [] = tt

@@ -15,7 +15,7 @@ use Rattle.link_wires.specs.declared.edits.Edited.{Edited}
 use Rattle.link_machine.specs.Calls.{edited_from}
 use Rattle.link_machine.specs.States.{Wires, LinkState, link, wire_at}
 use Rattle.fabric_script.specs.declared.lines.Line.{Line}
-use Rattle.fabric_script.specs.declared.lines.Line.TheVariants.{Endpoint, Switch, Link, Buffers, Route, Default, Lock, Send, Read, Write, Pump, Deliver, Alter, Insert, Erase, Timeout, Settle, Move, Collect, Run}
+use Rattle.fabric_script.specs.declared.lines.Line.TheVariants.{Endpoint, Switch, Link, Buffers, Route, Default, Lock, Large, Send, Read, Write, Pump, Deliver, Alter, Insert, Erase, Timeout, Settle, Move, Collect, Run, Send16, Read16, Write16}
 use Rattle.fabric_script.specs.declared.ports.PortRef.{PortRef}
 use Rattle.fabric_model.specs.Network.{Network, same_port}
 use Rattle.fabric_model.proofs.Peers.{apart_back}
@@ -59,9 +59,13 @@ edit_block s (Buffers p n) port edit block is same = absurd cc
 edit_block s (Route node id p) port edit block is same = absurd cc
 edit_block s (Default node p) port edit block is same = absurd cc
 edit_block s (Lock node id) port edit block is same = absurd cc
+edit_block s (Large node id) port edit block is same = absurd cc
 edit_block s (Send node prio ftype dest hex) port edit block is same = absurd cc
 edit_block s (Read node prio dest hop tid offset) port edit block is same = absurd cc
 edit_block s (Write node prio dest hop tid offset value) port edit block is same = absurd cc
+edit_block s (Send16 node prio ftype dest hex) port edit block is same = absurd cc
+edit_block s (Read16 node prio dest hop tid offset) port edit block is same = absurd cc
+edit_block s (Write16 node prio dest hop tid offset value) port edit block is same = absurd cc
 edit_block s (Pump p n) port edit block is same = absurd cc
 edit_block s (Deliver p n) port edit block is same = absurd cc
 edit_block s (Timeout p) port edit block is same = absurd cc

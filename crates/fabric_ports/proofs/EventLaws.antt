@@ -1,16 +1,19 @@
 -- What an event at a node needs, and what it did.
-use Rattle.std.proofs.Common.{◌≡◌, ℕ, true, List, [], ◌∷◌, ◌++◌, get_or, slice_get, Option, Some, None, IsSome, Result, Ok, Err, OnOk, IfOk, IfErr, option_map, unwrap_or, refl, sym, ap, ◌∙◌, subst}
-use Rattle.std.proofs.lemmas.Option.{slice_get_within, slice_get-get_or}
+use Rattle.std.proofs.Common.{◌≡◌, ℕ, Bool, true, List, [], ◌∷◌, ◌++◌, get_or, slice_get, Option, Some, None, IsSome, Result, Ok, Err, OnOk, IfOk, IfErr, option_map, unwrap_or, refl, sym, ap, ◌∙◌, subst}
+use mathlib.Core.Path.{fun_ext}
+use Rattle.std.proofs.lemmas.Option.{same_Some, slice_get_within, slice_get-get_or}
 use Rattle.rio_chars.specs.Written.{Writes}
 use Rattle.rio_chars.specs.declared.outbox.Outbox.{Outbox}
 use Rattle.rio_chars.proofs.WrittenLaws.{Writes-then}
 use Rattle.rio_packets.specs.LinkForm.{LinkForm}
 use Rattle.maint_registers.specs.Devices.{Device, is_switch}
+use Rattle.maint_packets.specs.declared.request.Request.{Request}
+use Rattle.maint_packets.specs.Requests.{request_body}
 use Rattle.fabric_script.specs.declared.lines.Line.{Line}
-use Rattle.fabric_script.specs.declared.lines.Line.TheVariants.{Endpoint, Switch, Link, Buffers, Route, Default, Lock, Send, Read, Write, Pump, Deliver, Alter, Insert, Erase, Timeout, Settle, Move, Collect, Run}
+use Rattle.fabric_script.specs.declared.lines.Line.TheVariants.{Endpoint, Switch, Link, Buffers, Route, Default, Lock, Large, Send, Read, Write, Pump, Deliver, Alter, Insert, Erase, Timeout, Settle, Move, Collect, Run, Send16, Read16, Write16}
 use Rattle.fabric_script.specs.Lines.{is_event}
-use Rattle.fabric_model.specs.Network.{Network, IsEndpoint, IsSwitch, base_of, peer_in}
-use Rattle.fabric_trace.specs.Blocks.{takes, IsBlock}
+use Rattle.fabric_model.specs.Network.{Network, IsEndpoint, IsSwitch, sender_id, id_of, peer_in}
+use Rattle.fabric_trace.specs.Blocks.{takes, Sends, IsBlock}
 use Rattle.fabric_trace.specs.Events.{HasLink, IsThere}
 use Rattle.fabric_trace.specs.Fold.{edit_of, edited_by, seen}
 use Rattle.fabric_trace.specs.Known.{Seen}
@@ -26,7 +29,7 @@ use Rattle.fabric_ports.specs.Blocked.{Blocked, BlockEnds}
 use Rattle.fabric_ports.specs.Ends.{IsLinked}
 use Rattle.fabric_ports.specs.declared.fabric.Fabric.{Fabric}
 use Rattle.fabric_trace.proofs.Unique.{block_one}
-use Rattle.fabric_ports.specs.Events.{body_in, taken, happened, other_of, Did, Evented, EventEnds, IsAtLink}
+use Rattle.fabric_ports.specs.Events.{body_in, taker, taken, happened, other_of, Did, Evented, EventEnds, IsAtLink}
 use Rattle.fabric_ports.specs.Places.{IsEndpointAt, IsSwitchAt}
 use Rattle.fabric_ports.specs.Showing.{ShowsFabric}
 use Rattle.fabric_ports.specs.Standing.{Stands}
@@ -58,18 +61,28 @@ end_of fabric s node shows is = record {
   known = λ t other. rw (other.registers, sym shows.registers) is;
 }
 
--- the ID that was read of an endpoint is the one that is known
-pub base_is : (fabric : Fabric) (s : Seen) (node place : ℕ) (device : Device) → ShowsFabric fabric s
-    → IsEndpointAt fabric.devices.items node → place ≡ node
-    → device ≡ get_or fabric.devices.items place device → device.base_id ≡ base_of s.network node
-base_is fabric s node place device shows at same value =
+-- the IDs that are read of an endpoint are those that are known
+pub ids_are : (fabric : Fabric) (s : Seen) (node place : ℕ) (device : Device)
+    → ShowsFabric fabric s → IsEndpointAt fabric.devices.items node → place ≡ node
+    → device ≡ get_or fabric.devices.items place device → sender_id device ≡ id_of s.network node
+ids_are fabric s node place device shows at same value =
     let within = slice_get_within fabric.devices.items node at.device at.stands in
     let read : slice_get fabric.devices.items node ≡ Some device =
     slice_get-get_or fabric.devices.items node device within
     ∙ ap Some (ap (λ n. get_or fabric.devices.items n device) (sym same) ∙ sym value) in
-    sym (ap (λ devices. unwrap_or (option_map (λ (d : Device). d.base_id) (slice_get devices node))
-    0) shows.registers
-    ∙ ap (λ o. unwrap_or (option_map (λ (d : Device). d.base_id) o) 0) read)
+    let known : slice_get s.network.registers node ≡ Some device =
+    ap (λ (devices : List Device). slice_get devices node) shows.registers ∙ read in
+    fun_ext (λ (large : Bool).
+    sym (ap (λ (o : Option Device). unwrap_or (option_map (λ (d : Device). sender_id d large) o) 0)
+    known))
+
+-- the packet of a request is that of the line which says it
+pub asked_form : (line said : Line) (device : Device) (request : Request) (packet : List ℕ)
+    → line ≡ said → request_body request ≡ body_in said (sender_id device)
+    → LinkForm (request_body request) packet → LinkForm (body_in line (sender_id device)) packet
+asked_form line said device request packet is same form =
+    subst (λ (l : Line). LinkForm (body_in l (sender_id device)) packet) (sym is)
+    (subst (λ (b : List ℕ). LinkForm b packet) same form)
 
 -- ---- afterwards
 
@@ -105,47 +118,69 @@ pub record IsTaken (line : Line) (node : ℕ) : Type 0 where
   pub edits : edit_of line ≡ None
   pub there : (net : Network) → IsThere net line → IsEndpoint net node
   pub block : (s : Seen) (packet : List ℕ) (block : List TraceLine) → IsEndpoint s.network node
-      → LinkForm (body_in line (base_of s.network node)) packet → block ≡ takes s node packet
+      → LinkForm (body_in line (id_of s.network node)) packet → block ≡ takes s node packet
       → IsBlock s line block
   pub answers : (block : List TraceLine) → happened line block ≡ taken block
 
-pub is_send : (node prio ftype dest : ℕ) (hex : List ℕ)
-    → IsTaken (Send node prio ftype dest hex) node
-is_send node prio ftype dest hex = record {
-  edits = refl;
-  there = λ net is. is;
-  block = λ s packet block endpoint form is.
-      record { packet = packet; endpoint = endpoint; form = form; lines = is };
-  answers = λ block. refl;
-}
+sends : (s : Seen) (node : ℕ) {body : List ℕ} (packet : List ℕ) (block : List TraceLine)
+    → IsEndpoint s.network node → LinkForm body packet → block ≡ takes s node packet
+    → Sends s node body block
+sends s node packet block endpoint form is =
+    record { packet = packet; endpoint = endpoint; form = form; lines = is }
 
-pub is_read : (node prio dest hop tid offset : ℕ) → IsTaken (Read node prio dest hop tid offset) node
-is_read node prio dest hop tid offset = record {
-  edits = refl;
-  there = λ net is. is;
-  block = λ s packet block endpoint form is.
-      record { packet = packet; endpoint = endpoint; form = form; lines = is };
-  answers = λ block. refl;
-}
+pub is_taken : (line : Line) (node : ℕ) → taker line ≡ Some node → IsTaken line node
+is_taken (Send at prio ftype dest hex) node is =
+    subst (IsTaken (Send at prio ftype dest hex)) (same_Some at node is) (record {
+      edits = refl;
+      there = λ net is. is;
+      block = λ s. sends s at;
+      answers = λ block. refl;
+    })
+is_taken (Read at prio dest hop tid offset) node is =
+    subst (IsTaken (Read at prio dest hop tid offset)) (same_Some at node is) (record {
+      edits = refl;
+      there = λ net is. is;
+      block = λ s. sends s at;
+      answers = λ block. refl;
+    })
+is_taken (Write at prio dest hop tid offset value) node is =
+    subst (IsTaken (Write at prio dest hop tid offset value)) (same_Some at node is) (record {
+      edits = refl;
+      there = λ net is. is;
+      block = λ s. sends s at;
+      answers = λ block. refl;
+    })
+is_taken (Send16 at prio ftype dest hex) node is =
+    subst (IsTaken (Send16 at prio ftype dest hex)) (same_Some at node is) (record {
+      edits = refl;
+      there = λ net is. is;
+      block = λ s. sends s at;
+      answers = λ block. refl;
+    })
+is_taken (Read16 at prio dest hop tid offset) node is =
+    subst (IsTaken (Read16 at prio dest hop tid offset)) (same_Some at node is) (record {
+      edits = refl;
+      there = λ net is. is;
+      block = λ s. sends s at;
+      answers = λ block. refl;
+    })
+is_taken (Write16 at prio dest hop tid offset value) node is =
+    subst (IsTaken (Write16 at prio dest hop tid offset value)) (same_Some at node is) (record {
+      edits = refl;
+      there = λ net is. is;
+      block = λ s. sends s at;
+      answers = λ block. refl;
+    })
+is_taken _ node is = absurd cc
 
-pub is_write : (node prio dest hop tid offset value : ℕ)
-    → IsTaken (Write node prio dest hop tid offset value) node
-is_write node prio dest hop tid offset value = record {
-  edits = refl;
-  there = λ net is. is;
-  block = λ s packet block endpoint form is.
-      record { packet = packet; endpoint = endpoint; form = form; lines = is };
-  answers = λ block. refl;
-}
-
-pub sent_block : (s : Seen) (line : Line) (node source : ℕ) (packet : List ℕ) (told : Happened)
-    → IsTaken line node → IsEndpoint s.network node → source ≡ base_of s.network node
-    → LinkForm (body_in line source) packet
+pub sent_block : (s : Seen) (line : Line) (node : ℕ) (ids : Bool → ℕ) (packet : List ℕ)
+    (told : Happened) → IsTaken line node → IsEndpoint s.network node
+    → ids ≡ id_of s.network node → LinkForm (body_in line ids) packet
     → (block : List TraceLine) → (block ≡ takes s node packet) × (told ≡ taken block)
     → IsBlock s line block × (told ≡ happened line block)
-sent_block s line node source packet told takes_it endpoint base form block is = (
+sent_block s line node ids packet told takes_it endpoint same form block is = (
   takes_it.block s packet block endpoint
-      (subst (λ n. LinkForm (body_in line n) packet) base form) is.0,
+      (subst (λ (own : Bool → ℕ). LinkForm (body_in line own) packet) same form) is.0,
   is.1 ∙ sym (takes_it.answers block),
 )
 
@@ -233,37 +268,25 @@ is_linked fabric from lines port stands has = record {
       (seen_links from lines) has;
 }
 
+pub none_of : (o : Option ℕ) → ((x : ℕ) → o ≡ Some x → ⊥) → o ≡ None
+none_of None other = refl
+none_of (Some x) other = absurd (other x refl)
+
 -- an event of no other kind is one at a link
-pub at_link_is : (line : Line) → is_event line ≡ true
-    → ((node prio ftype dest : ℕ) (hex : List ℕ) → line ≡ Send node prio ftype dest hex → ⊥)
-    → ((node prio dest hop tid offset : ℕ) → line ≡ Read node prio dest hop tid offset → ⊥)
-    → ((node prio dest hop tid offset value : ℕ) → line ≡ Write node prio dest hop tid offset value
-    → ⊥)
+pub at_link_is : (line : Line) → is_event line ≡ true → taker line ≡ None
     → ((node : ℕ) → line ≡ Move node → ⊥) → ((node : ℕ) → line ≡ Collect node → ⊥)
     → ((n : ℕ) → line ≡ Run n → ⊥) → IsAtLink line
-at_link_is (Pump port n) event send read write move collect run = tt
-at_link_is (Deliver port n) event send read write move collect run = tt
-at_link_is (Alter port place ch) event send read write move collect run = tt
-at_link_is (Erase port place n) event send read write move collect run = tt
-at_link_is (Insert port place ch) event send read write move collect run = tt
-at_link_is (Timeout port) event send read write move collect run = tt
-at_link_is (Settle port) event send read write move collect run = tt
-at_link_is (Send node prio ftype dest hex) event send read write move collect run =
-    absurd (send node prio ftype dest hex refl)
-at_link_is (Read node prio dest hop tid offset) event send read write move collect run =
-    absurd (read node prio dest hop tid offset refl)
-at_link_is (Write node prio dest hop tid offset value) event send read write move collect run =
-    absurd (write node prio dest hop tid offset value refl)
-at_link_is (Move node) event send read write move collect run = absurd (move node refl)
-at_link_is (Collect node) event send read write move collect run = absurd (collect node refl)
-at_link_is (Endpoint name id) event send read write move collect run = absurd cc
-at_link_is (Link a b) event send read write move collect run = absurd cc
-at_link_is (Buffers port n) event send read write move collect run = absurd cc
-at_link_is (Switch name ports) event send read write move collect run = absurd cc
-at_link_is (Route node id p) event send read write move collect run = absurd cc
-at_link_is (Default node p) event send read write move collect run = absurd cc
-at_link_is (Lock node id) event send read write move collect run = absurd cc
-at_link_is (Run n) event send read write move collect run = absurd (run n refl)
+at_link_is (Pump port n) event takes move collect run = tt
+at_link_is (Deliver port n) event takes move collect run = tt
+at_link_is (Alter port place ch) event takes move collect run = tt
+at_link_is (Erase port place n) event takes move collect run = tt
+at_link_is (Insert port place ch) event takes move collect run = tt
+at_link_is (Timeout port) event takes move collect run = tt
+at_link_is (Settle port) event takes move collect run = tt
+at_link_is (Move node) event takes move collect run = absurd (move node refl)
+at_link_is (Collect node) event takes move collect run = absurd (collect node refl)
+at_link_is (Run n) event takes move collect run = absurd (run n refl)
+at_link_is _ event takes move collect run = absurd cc
 
 pub other_happened : (line : Line) → IsAtLink line → (block : List TraceLine)
     → Other ≡ happened line block
@@ -274,16 +297,4 @@ other_happened (Erase port place n) is block = refl
 other_happened (Insert port place ch) is block = refl
 other_happened (Timeout port) is block = refl
 other_happened (Settle port) is block = refl
-other_happened (Send node prio ftype dest hex) is block = absurd is
-other_happened (Collect node) is block = absurd is
-other_happened (Endpoint name id) is block = absurd is
-other_happened (Link a b) is block = absurd is
-other_happened (Buffers port n) is block = absurd is
-other_happened (Switch name ports) is block = absurd is
-other_happened (Route node id p) is block = absurd is
-other_happened (Default node p) is block = absurd is
-other_happened (Lock node id) is block = absurd is
-other_happened (Read node prio dest hop tid offset) is block = absurd is
-other_happened (Write node prio dest hop tid offset value) is block = absurd is
-other_happened (Move node) is block = absurd is
-other_happened (Run n) is block = absurd is
+other_happened _ is block = absurd is

@@ -78,6 +78,8 @@ impl Fabric {
         requires op { IsGood request.now.op }
         requires prio { request.now.prio < 4 }
         requires offset { request.now.offset < 0x1000000 }
+        requires dest { request.now.large ≡ false → request.now.dest < 256 }
+        requires source { request.now.large ≡ false → request.now.source < 256 }
         ensures replied { IfOk result (λ response. (from : Seen) (lines : List TraceLine)
             → CanAsk host from lines self.old → Replied names.now
             (K.written sink.old) (K.written sink.new) host request.now (N.edits noise.old)
@@ -114,6 +116,8 @@ impl Fabric {
         requires op { IsGood request.now.op }
         requires prio { request.now.prio < 4 }
         requires offset { request.now.offset < 0x1000000 }
+        requires dest { request.now.large ≡ false → request.now.dest < 256 }
+        requires source { request.now.large ≡ false → request.now.source < 256 }
         requires fine { outbox.old.failed ≡ false }
         requires empty { outbox.old.buffer.now ≡ [] }
         ensures same { outbox.new.sink.ghost_name ≡ outbox.old.sink.ghost_name }
@@ -155,6 +159,8 @@ impl Fabric {
         requires op { IsGood request.now.op }
         requires prio { request.now.prio < 4 }
         requires offset { request.now.offset < 0x1000000 }
+        requires dest { request.now.large ≡ false → request.now.dest < 256 }
+        requires source { request.now.large ≡ false → request.now.source < 256 }
         ensures done { IfOk result (λ left. (from : Seen) (lines : List TraceLine)
             → CanAsk host from lines self.old
             → Ran (AskLeaves host request.now (N.edits noise.old) left) names.now
@@ -207,6 +213,8 @@ fn show_request(request: &Request)
     requires op { IsGood request.now.op }
     requires prio { request.now.prio < 4 }
     requires offset { request.now.offset < 0x1000000 }
+    requires dest { request.now.large ≡ false → request.now.dest < 256 }
+    requires source { request.now.large ≡ false → request.now.source < 256 }
     ensures { (packet : List ℕ) × LinkForm (request_body request.now) packet }
 {
     let _ = write_request(request);

@@ -1,17 +1,19 @@
 //! Events: what a line of a script does to a fabric.
-ghost use Rattle.std.specs.Prelude.{◌≡◌, List, IsSome, IfOk, IfErr};
+ghost use Rattle.std.specs.Prelude.{◌≡◌, ◌<◌, false, List, length, IsSome, IfOk, IfErr};
 ghost use Rattle.rio_packets.specs.LinkForm.{LinkForm};
-ghost use Rattle.fabric_model.specs.Network.{Network};
-ghost use Rattle.fabric_trace.specs.Events.{IsInRange};
+ghost use Rattle.rio_packets.specs.Fields.{body_of};
+ghost use Rattle.fabric_model.specs.Network.{Network, sender_id};
+ghost use Rattle.fabric_trace.specs.Events.{IsInRange, IsDataLength};
 ghost use Rattle.fabric_trace.specs.Known.{Seen};
 ghost use Rattle.fabric_trace.specs.Lines.{TraceLine};
-ghost use Rattle.fabric_ports.specs.Events.{MayFollow, Evented, EventEnds, taker, IsWrite, body_in, other_of};
+ghost use Rattle.fabric_ports.specs.Events.{MayFollow, Evented, EventEnds, taker, IsAsk, IsLargeAsk, body_in, other_of};
 ghost use Rattle.fabric_ports.specs.Standing.{Stands};
 
 use crate::answers::{EventEnd, Happened};
 use crate::fabric::Fabric;
 use fabric_script::{Line, Name};
 use maint_packets::{Op, Request, write_request};
+use maint_registers::Registers;
 use rio_chars::{Outbox, Sink};
 use rio_packets::{Header, Packet, build};
 use std::alloc::Global;
@@ -42,11 +44,11 @@ impl Fabric {
             K.written K.faults outbox.old outbox.new from lines end) }
     {
         write_begun(outbox, names, line);
+        if let Some(node) = taker(line) {
+            let packet = packet_of(line, &self.devices[usize::from(node)]);
+            return Ok(self.send(names, node, packet, outbox));
+        }
         match line {
-            Line::Send { node, .. } | Line::Read { node, .. } | Line::Write { node, .. } => {
-                let packet = packet_of(line, self.devices[usize::from(*node)].base_id());
-                Ok(self.send(names, *node, packet, outbox))
-            }
             Line::Move { node } => {
                 self.step_or_none(names, *node, outbox);
                 Ok(Happened::Other)
@@ -59,11 +61,26 @@ impl Fabric {
     }
 }
 
-/// The packet of a line that has one taken, with this source ID.
-fn packet_of(line: &Line, source: u8) -> Packet
+/// The endpoint that has a packet taken by a line.
+fn taker(line: &Line) -> Option<u8>
+    ensures { result ≡ taker line.now }
+{
+    match line {
+        Line::Send { node, .. }
+        | Line::Read { node, .. }
+        | Line::Write { node, .. }
+        | Line::Send16 { node, .. }
+        | Line::Read16 { node, .. }
+        | Line::Write16 { node, .. } => Some(*node),
+        _ => None,
+    }
+}
+
+/// The packet of a line that has one taken, from the device with these registers.
+fn packet_of(line: &Line, device: &Registers) -> Packet
     requires taken { IsSome (taker line.now) }
     requires range { IsInRange line.now }
-    ensures { LinkForm (body_in line.now source) result }
+    ensures { LinkForm (body_in line.now (sender_id device.now)) result }
 {
     match line {
         Line::Send {
@@ -76,15 +93,55 @@ fn packet_of(line: &Line, source: u8) -> Packet
             let header = Header {
                 prio: *prio,
                 ftype: *ftype,
-                dest: *dest,
-                source,
+                dest: u16::from(*dest),
+                source: u16::from(device.base_id()),
+                large: false,
             };
-            match build(&header, hex.as_slice()) {
-                Ok(packet) => packet,
-                // A line of a script has data of a length that a packet may have.
-                Err(_) => unreachable!(),
-            }
+            sent(&header, hex.as_slice())
         }
+        Line::Send16 {
+            prio,
+            ftype,
+            dest,
+            hex,
+            ..
+        } => {
+            let header = Header {
+                prio: *prio,
+                ftype: *ftype,
+                dest: *dest,
+                source: device.large_id(),
+                large: true,
+            };
+            sent(&header, hex.as_slice())
+        }
+        _ => asked(line, device),
+    }
+}
+
+/// The packet of this header and data of a length that a packet may have.
+fn sent(header: &Header, hex: &[u8]) -> Packet
+    requires prio { header.now.prio < 4 }
+    requires ftype { header.now.ftype < 16 }
+    requires dest { header.now.large ≡ false → header.now.dest < 256 }
+    requires source { header.now.large ≡ false → header.now.source < 256 }
+    requires length { IsDataLength header.now.large header.now.ftype (length hex.now) }
+    ensures { LinkForm (body_of header.now.prio header.now.ftype header.now.large header.now.dest
+        header.now.source hex.now) result }
+{
+    match build(header, hex) {
+        Ok(packet) => packet,
+        Err(_) => unreachable!(),
+    }
+}
+
+/// The packet of a line that reads or writes a register, from the device with these registers.
+fn asked(line: &Line, device: &Registers) -> Packet
+    requires ask { IsAsk line.now }
+    requires range { IsInRange line.now }
+    ensures { LinkForm (body_in line.now (sender_id device.now)) result }
+{
+    match line {
         Line::Read {
             prio,
             dest,
@@ -94,44 +151,80 @@ fn packet_of(line: &Line, source: u8) -> Packet
             ..
         } => write_request(&Request {
             prio: *prio,
-            dest: *dest,
-            source,
+            dest: u16::from(*dest),
+            source: u16::from(device.base_id()),
+            large: false,
             op: Op::Read,
             tid: *tid,
             hop: *hop,
             offset: *offset,
         }),
-        _ => written_packet(line, source),
+        Line::Write {
+            prio,
+            dest,
+            hop,
+            tid,
+            offset,
+            value,
+            ..
+        } => write_request(&Request {
+            prio: *prio,
+            dest: u16::from(*dest),
+            source: u16::from(device.base_id()),
+            large: false,
+            op: Op::Write { value: *value },
+            tid: *tid,
+            hop: *hop,
+            offset: *offset,
+        }),
+        _ => large_asked(line, device),
     }
 }
 
-/// The packet of a line that writes a register.
-fn written_packet(line: &Line, source: u8) -> Packet
-    requires write { IsWrite line.now }
+/// The same of a line with 16-bit IDs.
+fn large_asked(line: &Line, device: &Registers) -> Packet
+    requires ask { IsLargeAsk line.now }
     requires range { IsInRange line.now }
-    ensures { LinkForm (body_in line.now source) result }
+    ensures { LinkForm (body_in line.now (sender_id device.now)) result }
 {
-    let Line::Write {
-        prio,
-        dest,
-        hop,
-        tid,
-        offset,
-        value,
-        ..
-    } = line
-    else {
-        unreachable!();
-    };
-    write_request(&Request {
-        prio: *prio,
-        dest: *dest,
-        source,
-        op: Op::Write { value: *value },
-        tid: *tid,
-        hop: *hop,
-        offset: *offset,
-    })
+    match line {
+        Line::Read16 {
+            prio,
+            dest,
+            hop,
+            tid,
+            offset,
+            ..
+        } => write_request(&Request {
+            prio: *prio,
+            dest: *dest,
+            source: device.large_id(),
+            large: true,
+            op: Op::Read,
+            tid: *tid,
+            hop: *hop,
+            offset: *offset,
+        }),
+        Line::Write16 {
+            prio,
+            dest,
+            hop,
+            tid,
+            offset,
+            value,
+            ..
+        } => write_request(&Request {
+            prio: *prio,
+            dest: *dest,
+            source: device.large_id(),
+            large: true,
+            op: Op::Write { value: *value },
+            tid: *tid,
+            hop: *hop,
+            offset: *offset,
+        }),
+        _ => unreachable!(),
+    }
 }
 
 /// What an event answers that takes no packet in or out.

@@ -153,6 +153,7 @@ impl Plan {
             Line::Route { node, id, p } => self.devices[usize::from(*node)].set_route(*id, *p),
             Line::Default { node, p } => self.devices[usize::from(*node)].set_default(*p),
             Line::Lock { node, id } => self.devices[usize::from(*node)].set_lock(*id),
+            Line::Large { node, id } => self.devices[usize::from(*node)].set_large(*id),
             _ => {}
         }
     }

@@ -167,6 +167,11 @@ costs s links (Lines.Send node prio ftype dest hex) block is = one_at_most s nod
 costs s links (Lines.Read node prio dest hop tid offset) block is = one_at_most s node _ block is
 costs s links (Lines.Write node prio dest hop tid offset value) block is = one_at_most s node _
     block is
+costs s links (Lines.Send16 node prio ftype dest hex) block is = one_at_most s node _ block is
+costs s links (Lines.Read16 node prio dest hop tid offset) block is = one_at_most s node _ block
+    is
+costs s links (Lines.Write16 node prio dest hop tid offset value) block is = one_at_most s node _
+    block is
 costs s links (Lines.Move node) block is = none_at_all _ _ (none_of block _ is.lines (stepped node
     _))
 costs s links (Lines.Collect node) block is = none_at_all _ _ (none_of block _ is.lines

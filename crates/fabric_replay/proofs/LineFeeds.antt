@@ -21,7 +21,7 @@ use Rattle.fabric_script.specs.Scripts.{PassesFrom, Passes}
 use Rattle.fabric_script.specs.Texts.{value_text, port_text, hex_text, digits_text}
 use Rattle.fabric_script.specs.declared.known.Mode.TheVariants as Mode
 use Rattle.fabric_script.specs.declared.lines.Line.{Line}
-use Rattle.fabric_script.specs.declared.lines.Line.TheVariants.{Endpoint, Switch, Link, Buffers, Route, Default, Lock, Send, Read, Write, Pump, Deliver, Alter, Insert, Erase, Timeout, Settle, Move as Moves, Collect, Run}
+use Rattle.fabric_script.specs.declared.lines.Line.TheVariants.{Endpoint, Switch, Link, Buffers, Route, Default, Lock, Large, Send, Read, Write, Pump, Deliver, Alter, Insert, Erase, Timeout, Settle, Move as Moves, Collect, Run, Send16, Read16, Write16}
 use Rattle.fabric_script.specs.declared.lines.Numbered.{Numbered}
 use Rattle.fabric_script.specs.declared.ports.PortRef.{PortRef}
 use Rattle.fabric_script.proofs.Joins.{visible_keyword, visible_lacks}
@@ -157,11 +157,35 @@ values names named (Buffers p n) = (port names p named, (number n, tt))
 values names named (Route node id p) = (named node, (number id, (number p, tt)))
 values names named (Default node p) = (named node, (number p, tt))
 values names named (Lock node id) = (named node, (number id, tt))
+values names named (Large node id) = (named node, (number id, tt))
 values names named (Send node prio ftype dest bytes) =
     (named node, (number prio, (number ftype, (number dest, (data_text bytes, tt)))))
 values names named (Read node prio dest hop tid offset) =
     (named node, (number prio, (number dest, (number hop, (number tid, (in_digits 6 offset, tt))))))
 values names named (Write node prio dest hop tid offset word) = (
+  named node,
+  (
+    number prio,
+    (
+      number dest,
+      (
+        number hop,
+        (
+          number tid,
+          (
+            in_digits 6 offset,
+            (in_digits 8 word, tt),
+          ),
+        ),
+      ),
+    ),
+  ),
+)
+values names named (Send16 node prio ftype dest bytes) =
+    (named node, (number prio, (number ftype, (number dest, (data_text bytes, tt)))))
+values names named (Read16 node prio dest hop tid offset) =
+    (named node, (number prio, (number dest, (number hop, (number tid, (in_digits 6 offset, tt))))))
+values names named (Write16 node prio dest hop tid offset word) = (
   named node,
   (
     number prio,

@@ -8,7 +8,7 @@ use Rattle.link_wires.specs.Deliveries.{undetected}
 use Rattle.link_wires.specs.declared.edits.Edit.{Edit}
 use Rattle.maint_packets.specs.Requests.{request_of}
 use Rattle.fabric_script.specs.declared.lines.Line.{Line}
-use Rattle.fabric_script.specs.declared.lines.Line.TheVariants.{Send, Read, Write, Pump, Deliver, Alter, Insert, Erase, Timeout, Settle, Move, Collect}
+use Rattle.fabric_script.specs.declared.lines.Line.TheVariants.{Send, Read, Write, Pump, Deliver, Alter, Insert, Erase, Timeout, Settle, Move, Collect, Send16, Read16, Write16}
 use Rattle.fabric_script.specs.declared.ports.PortRef.{PortRef}
 use Rattle.fabric_model.specs.Network.{Network, peer_in, switch_at}
 use Rattle.fabric_model.specs.Serving.{device_after}
@@ -126,6 +126,9 @@ there_still : (net next : Network) (line : Line) → IsSameBoard net next → Is
 there_still net next (Send node prio ftype dest hex) same there = kind_still net next node false same there
 there_still net next (Read node prio dest hop tid offset) same there = kind_still net next node false same there
 there_still net next (Write node prio dest hop tid offset value) same there = kind_still net next node false same there
+there_still net next (Send16 node prio ftype dest hex) same there = kind_still net next node false same there
+there_still net next (Read16 node prio dest hop tid offset) same there = kind_still net next node false same there
+there_still net next (Write16 node prio dest hop tid offset value) same there = kind_still net next node false same there
 there_still net next (Move node) same there = kind_still net next node true same there
 there_still net next (Collect node) same there = kind_still net next node false same there
 there_still net next (Pump port n) same there = linked_still net next port same there

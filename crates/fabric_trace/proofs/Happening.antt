@@ -9,7 +9,7 @@ use Rattle.std.specs.List.{slice_get}
 use Rattle.rio_packets.specs.Making.{most_rest}
 use Rattle.fabric_script.specs.declared.ports.PortRef.{PortRef}
 use Rattle.fabric_script.specs.declared.lines.Line.{Line}
-use Rattle.fabric_script.specs.declared.lines.Line.TheVariants.{Endpoint, Switch, Link, Buffers, Route, Default, Lock, Send, Read, Write, Pump, Deliver, Alter, Insert, Erase, Timeout, Settle, Move, Collect, Run}
+use Rattle.fabric_script.specs.declared.lines.Line.TheVariants.{Endpoint, Switch, Link, Buffers, Route, Default, Lock, Large, Send, Read, Write, Pump, Deliver, Alter, Insert, Erase, Timeout, Settle, Move, Collect, Run, Send16, Read16, Write16}
 use Rattle.fabric_script.specs.declared.lines.Numbered.{Numbered}
 use Rattle.fabric_script.specs.declared.reasons.Reason.TheVariants.{PortTaken, BadLength, WrongKind, OutOfPlace, NotLinked}
 use Rattle.fabric_script.specs.Lines.{is_event, new_name}
@@ -108,14 +108,18 @@ may_one known new net (Link a b) s may free =
     (parts.0, ap (λ links. peer_in links a) s.linked ∙ no_peer known.links a ends.0, ap (λ links. peer_in links b) s.linked ∙ no_peer known.links b ends.1)
 may_one known new net (Buffers port n) s may free = may.fit.1.0
 may_one known new net (Route node id p) s may free =
+    let id_in = may.fit.1.0.1 in
     let port_in = may.fit.1.1.0.1 in
-    (switch_is_at known net node s may.fit.0 (free WrongKind), omega arith)
+    (switch_is_at known net node s may.fit.0 (free WrongKind), omega arith, omega arith)
 may_one known new net (Default node p) s may free =
     let port_in = may.fit.1.0.1 in
     (switch_is_at known net node s may.fit.0 (free WrongKind), omega arith)
 may_one known new net (Lock node id) s may free =
     let id_in = may.fit.1.0.1 in
     (device_at known net node s may.fit.0, omega arith)
+may_one known new net (Large node id) s may free =
+    let id_in = may.fit.1.0.1 in
+    (endpoint_at known net node s may.fit.0 (free WrongKind), omega arith)
 may_one known new net _ s may free = tt
 
 may_all : (known : Known) (names : List (List ℕ)) (net : Network) (lines : List Numbered) → Stage known net → PassesFrom known names lines → MaySetUpAll net lines
@@ -156,11 +160,12 @@ stays known names net (line ∷ lines) mode begun passes =
 
 -- ---- an event may happen
 
-data_length : (ftype count : ℕ) → is_bad_length ftype count ≡ false → IsDataLength ftype count
-data_length ftype count e =
+data_length : (large : Bool) (ftype count : ℕ) → is_bad_length large ftype count ≡ false
+    → IsDataLength large ftype count
+data_length large ftype count e =
     let forms : Bool = not (nat_le 6 count && nat_le count 70 && (count % 8 == 6)) in
-    let parts = or_parts (not (count % 2 == 0) || nat_lt most_rest count) ((ftype == 8) && forms) e in
-    let both = or_parts (not (count % 2 == 0)) (nat_lt most_rest count) parts.0 in
+    let parts = or_parts (not (count % 2 == 0) || nat_lt (most_rest large) count) ((ftype == 8) && forms) e in
+    let both = or_parts (not (count % 2 == 0)) (nat_lt (most_rest large) count) parts.0 in
     let long = both.1 in
     record {
       even = eqb-true (count % 2) 0 (not_not (count % 2 == 0) both.0);
@@ -180,11 +185,21 @@ in_range : (known : Known) (new : List ℕ) (line : Line) → MayBe known new li
 in_range known new (Send node prio ftype dest hex) may free =
     let prio_in = may.fit.1.0.1 in
     let ftype_in = may.fit.1.1.0.1 in
-    (omega arith, omega arith, data_length ftype (length hex) (free BadLength))
+    (omega arith, omega arith, data_length false ftype (length hex) (free BadLength))
 in_range known new (Read node prio dest hop tid offset) may free =
     let prio_in = may.fit.1.0.1 in
     (omega arith, may.fit.1.1.1.1.1.0.1)
 in_range known new (Write node prio dest hop tid offset value) may free =
+    let prio_in = may.fit.1.0.1 in
+    (omega arith, may.fit.1.1.1.1.1.0.1, may.fit.1.1.1.1.1.1.0.1)
+in_range known new (Send16 node prio ftype dest hex) may free =
+    let prio_in = may.fit.1.0.1 in
+    let ftype_in = may.fit.1.1.0.1 in
+    (omega arith, omega arith, data_length true ftype (length hex) (free BadLength))
+in_range known new (Read16 node prio dest hop tid offset) may free =
+    let prio_in = may.fit.1.0.1 in
+    (omega arith, may.fit.1.1.1.1.1.0.1)
+in_range known new (Write16 node prio dest hop tid offset value) may free =
     let prio_in = may.fit.1.0.1 in
     (omega arith, may.fit.1.1.1.1.1.0.1, may.fit.1.1.1.1.1.1.0.1)
 in_range known new (Pump port n) may free = may.fit.1.0
@@ -202,6 +217,9 @@ is_there : (known : Known) (new : List ℕ) (net : Network) (line : Line) → St
 is_there known new net (Send node prio ftype dest hex) s may free = endpoint_at known net node s may.fit.0 (free WrongKind)
 is_there known new net (Read node prio dest hop tid offset) s may free = endpoint_at known net node s may.fit.0 (free WrongKind)
 is_there known new net (Write node prio dest hop tid offset value) s may free = endpoint_at known net node s may.fit.0 (free WrongKind)
+is_there known new net (Send16 node prio ftype dest hex) s may free = endpoint_at known net node s may.fit.0 (free WrongKind)
+is_there known new net (Read16 node prio dest hop tid offset) s may free = endpoint_at known net node s may.fit.0 (free WrongKind)
+is_there known new net (Write16 node prio dest hop tid offset value) s may free = endpoint_at known net node s may.fit.0 (free WrongKind)
 is_there known new net (Move node) s may free = switch_is_at known net node s may.fit.0 (free WrongKind)
 is_there known new net (Collect node) s may free = endpoint_at known net node s may.fit.0 (free WrongKind)
 is_there known new net (Pump port n) s may free = link_at known net port s (free NotLinked)

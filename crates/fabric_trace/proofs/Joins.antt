@@ -73,7 +73,7 @@ port_grows : (net : Network) (line : Line) (p : PortRef) → IsPortOf net.regist
     → IsPortOf (set_up net line).registers p
 port_grows net line p is =
     count_has (set_up net line).registers p.node p.port
-    (subst (λ xs. p.port < get_or xs p.node 0) (sym (set_up-map count_ports (λ device linked routes port lock. refl) net line))
+    (subst (λ xs. p.port < get_or xs p.node 0) (sym (set_up-map count_ports (λ device linked routes port lock large. refl) net line))
     (count_more (map count_ports net.registers) (map count_ports (made_by line)) p.node p.port (has_count net.registers p.node p.port is)))
 
 -- a port that is known is one of a node
@@ -106,10 +106,10 @@ links_made known new net line joined may = by_line line may
 joined_after : (known : Known) (new : List ℕ) (net : Network) (line : Line) → Joined known net
     → MayBe known new line → Joined (known_after known new line) (set_up net line)
 joined_after known new net line joined may = record {
-  counted = set_up-map count_ports (λ device linked routes port lock. refl) net line ∙ ap (λ xs. xs ++ map count_ports (made_by line)) joined.counted ∙ counts_made known line;
+  counted = set_up-map count_ports (λ device linked routes port lock large. refl) net line ∙ ap (λ xs. xs ++ map count_ports (made_by line)) joined.counted ∙ counts_made known line;
   own =
       subst (AllByRecursion HasOwn)
-      (sym (set_up-map kind_and_ports (λ device linked routes port lock. refl) net line))
+      (sym (set_up-map kind_and_ports (λ device linked routes port lock large. refl) net line))
       (all-append HasOwn (map kind_and_ports net.registers) (map kind_and_ports (made_by line)) joined.own (own_made line));
   ends =
       subst (AllByRecursion (JoinsPorts (set_up net line).registers)) (sym (set_up-links net line))

@@ -43,3 +43,4 @@ pub mod Ways
 pub mod Joins
 pub mod WorkedPacket
 pub mod Balancing
+pub mod KindLaws

@@ -19,7 +19,7 @@ use Rattle.maint_registers.specs.Devices.{Device, is_switch}
 use Rattle.fabric_script.specs.Lines.{is_event}
 use Rattle.fabric_script.specs.declared.ports.PortRef.{PortRef}
 use Rattle.fabric_script.specs.declared.lines.Line.{Line}
-use Rattle.fabric_script.specs.declared.lines.Line.TheVariants.{Endpoint, Switch, Link, Buffers, Route, Default, Lock, Send, Read, Write, Pump, Deliver, Alter, Insert, Erase, Timeout, Settle, Move, Collect, Run}
+use Rattle.fabric_script.specs.declared.lines.Line.TheVariants.{Endpoint, Switch, Link, Buffers, Route, Default, Lock, Large, Send, Read, Write, Pump, Deliver, Alter, Insert, Erase, Timeout, Settle, Move, Collect, Run, Send16, Read16, Write16}
 use Rattle.fabric_script.specs.declared.lines.Numbered.{Numbered}
 use Rattle.fabric_model.specs.Network.{link_in, room_out, port_of}
 use Rattle.fabric_model.specs.Steps.{Take, AtNode}
@@ -166,9 +166,13 @@ block_within s (Buffers port n) block is = absurd is
 block_within s (Route node id p) block is = absurd is
 block_within s (Default node p) block is = absurd is
 block_within s (Lock node id) block is = absurd is
+block_within s (Large node id) block is = absurd is
 block_within s (Send node prio ftype dest hex) block is = within_by is.lines (takes_within s node is.packet)
 block_within s (Read node prio dest hop tid offset) block is = within_by is.lines (takes_within s node is.packet)
 block_within s (Write node prio dest hop tid offset value) block is = within_by is.lines (takes_within s node is.packet)
+block_within s (Send16 node prio ftype dest hex) block is = within_by is.lines (takes_within s node is.packet)
+block_within s (Read16 node prio dest hop tid offset) block is = within_by is.lines (takes_within s node is.packet)
+block_within s (Write16 node prio dest hop tid offset value) block is = within_by is.lines (takes_within s node is.packet)
 block_within s (Pump port n) block is = peer_within (peer_of s port) (pumps s port n) block (λ q. notes_within port q (pump_notes A n (link_at s port q))) is
 block_within s (Deliver port n) block is = peer_within (peer_of s port) (delivers s port n) block (delivers_within s port n) is
 block_within s (Alter port place ch) block is = within_by is (edits_within s (edit_of (Alter port place ch)))

@@ -25,7 +25,7 @@ use Rattle.switch_core.specs.SwitchSteps.{step_of}
 use Rattle.switch_core.specs.EndpointSteps.{collected}
 use Rattle.fabric_script.specs.declared.ports.PortRef.{PortRef}
 use Rattle.fabric_script.specs.declared.lines.Line.{Line}
-use Rattle.fabric_script.specs.declared.lines.Line.TheVariants.{Endpoint, Switch, Link, Buffers, Route, Default, Lock, Send, Read, Write, Pump, Deliver, Alter, Insert, Erase, Timeout, Settle, Move, Collect, Run}
+use Rattle.fabric_script.specs.declared.lines.Line.TheVariants.{Endpoint, Switch, Link, Buffers, Route, Default, Lock, Large, Send, Read, Write, Pump, Deliver, Alter, Insert, Erase, Timeout, Settle, Move, Collect, Run, Send16, Read16, Write16}
 use Rattle.fabric_script.specs.declared.lines.Numbered.{Numbered}
 use Rattle.fabric_model.specs.Network.{IsEndpoint, link_in, port_of, room_out}
 use Rattle.fabric_model.specs.Steps.{Take, Leave, Move as MoveOn, Drop, Answer, AtNode}
@@ -291,9 +291,13 @@ block_made (Buffers port n) s block good none is = absurd is
 block_made (Route node id p) s block good none is = absurd is
 block_made (Default node p) s block good none is = absurd is
 block_made (Lock node id) s block good none is = absurd is
+block_made (Large node id) s block good none is = absurd is
 block_made (Send node prio ftype dest hex) s block good none is = sends_made s node _ block is
 block_made (Read node prio dest hop tid offset) s block good none is = sends_made s node _ block is
 block_made (Write node prio dest hop tid offset value) s block good none is = sends_made s node _ block is
+block_made (Send16 node prio ftype dest hex) s block good none is = sends_made s node _ block is
+block_made (Read16 node prio dest hop tid offset) s block good none is = sends_made s node _ block is
+block_made (Write16 node prio dest hop tid offset value) s block good none is = sends_made s node _ block is
 block_made (Pump port n) s block good none is =
     peer_made s port (peer_of s port) (pumps s port n) block refl is (λ q peer. one_part (Turns port q n peer none refl))
 block_made (Deliver port n) s block good none is =

@@ -13,10 +13,10 @@ use Rattle.link_rest.proofs.Settled.{settling_rests}
 use Rattle.link_machine.specs.Sound.{IsSoundLink}
 use Rattle.maint_registers.specs.Devices.{Device, new_endpoint, new_switch, with_link}
 use Rattle.maint_registers.specs.Within.{IsWithin}
-use Rattle.maint_registers.proofs.WithinLaws.{new_endpoint_within, new_switch_within, lock_within, route_within, default_within, links_within}
+use Rattle.maint_registers.proofs.WithinLaws.{new_endpoint_within, new_switch_within, lock_within, route_within, default_within, links_within, large_within}
 use Rattle.fabric_script.specs.declared.ports.PortRef.{PortRef}
 use Rattle.fabric_script.specs.declared.lines.Line.{Line}
-use Rattle.fabric_script.specs.declared.lines.Line.TheVariants.{Endpoint, Switch, Link, Buffers, Route, Default, Lock}
+use Rattle.fabric_script.specs.declared.lines.Line.TheVariants.{Endpoint, Switch, Link, Buffers, Route, Default, Lock, Large}
 use Rattle.link_wires.specs.Deliveries.{undetected}
 use Rattle.fabric_script.specs.declared.lines.Numbered.{Numbered}
 use Rattle.fabric_model.specs.Network.{Network, same_port, with_device}
@@ -39,7 +39,7 @@ use Rattle.fabric_trace.specs.Blocks.{lines_of, IsSettle}
 use Rattle.fabric_trace.specs.Runs.{bare, set_up, set_up_all, begins, start, Runs}
 use Rattle.fabric_trace.specs.Links.{IsLink, AreLinks}
 use Rattle.fabric_trace.specs.Parts.{Made}
-use Rattle.fabric_trace.specs.Settings.{routed, defaulted, held_by, with_node, with_change, with_end}
+use Rattle.fabric_trace.specs.Settings.{routed, defaulted, held_by, with_node, with_change, with_end, large_set}
 use Rattle.fabric_trace.specs.SetUps.{IsSetUp, MaySetUp, MaySetUpAll}
 use Rattle.link_model.specs.Places.{start as place_start}
 use Rattle.link_model.proofs.PlacesLaws.{place_after-none}
@@ -92,9 +92,10 @@ linked_one net p within = AreWithin-with net.registers p.node _ (λ device is. l
 set_up_one : (net : Network) (line : Line) → IsSetUp net → MaySetUp net line → IsSetUp (set_up net line)
 set_up_one net (Endpoint name id) is may = with_more net (new_endpoint id false) is (new_endpoint_within id false may)
 set_up_one net (Switch name ports) is may = with_more net (new_switch ports 0) is (new_switch_within ports 0 may.1)
-set_up_one net (Route node id p) is may = changed_one net node (routed id p) is (λ device within. route_within device id p within may.1)
+set_up_one net (Route node id p) is may = changed_one net node (routed id p) is (λ device within. route_within device id p within may.2)
 set_up_one net (Default node p) is may = changed_one net node (defaulted p) is (λ device within. default_within device p within may.1)
 set_up_one net (Lock node id) is may = changed_one net node (held_by id) is (λ device within. lock_within device id within may.1)
+set_up_one net (Large node id) is may = changed_one net node (large_set id) is (λ device within. large_within device id within may.1)
 set_up_one net (Link a b) is may = record {
   empty = record { received = is.empty.received; waiting = is.empty.waiting; lent = is.empty.lent; given = is.empty.given };
   proper = AreProper-append net.links a b is.proper may.0 may.1 may.2;

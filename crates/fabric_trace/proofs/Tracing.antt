@@ -1,12 +1,14 @@
 -- Each script that passes has a trace: each of its events has a block in the state that the blocks before it lead to.
-use Rattle.std.proofs.Common.{◌≡◌, ℕ, ◌+◌, ◌*◌, ◌^◌, ◌<◌, Bool, true, false, List, [], ◌∷◌, ◌++◌, Option, Some, None, MatchBool, option_map, is_some, slice_get, unwrap_or, length, All, arith, refl, ap, ◌∙◌, if◌then◌else◌}
+use Rattle.std.proofs.Common.{◌≡◌, ℕ, ◌+◌, ◌*◌, ◌%◌, ◌^◌, ◌<◌, ◌≤◌, Bool, true, false, List, [], ◌∷◌, ◌++◌, Option, Some, None, MatchBool, option_map, is_some, slice_get, unwrap_or, length, All, arith, refl, ap, ◌∙◌, if◌then◌else◌}
 use Rattle.std.specs.Bool.{⊤}
 use Rattle.std.specs.List.{AllByRecursion}
-use Rattle.std.proofs.lemmas.List.Elements.{All-from_recursion, recursion_from_All, All-cons}
+use Rattle.std.proofs.lemmas.Bool.{true≢false}
+use Rattle.std.proofs.lemmas.List.Elements.{All-from_recursion, recursion_from_All}
 use Rattle.rio_packets.specs.Fields.{prio_of, body_of}
 use Rattle.rio_packets.specs.LinkForm.{IsBody, Passes}
-use Rattle.rio_packets.specs.Making.{made}
+use Rattle.rio_packets.specs.Making.{made, most_rest}
 use Rattle.rio_packets.proofs.FormLaws.{LinkForm-made}
+use Rattle.rio_packets.proofs.MakingLaws.{IsBody-body_of}
 use Rattle.maint_registers.specs.Devices.{Device, is_switch}
 use Rattle.maint_registers.specs.Within.{IsWithin}
 use Rattle.maint_packets.specs.Layout.{behind_ids}
@@ -21,18 +23,18 @@ use Rattle.switch_core.specs.EndpointSteps.{first_held, collected_of, collected_
 use Rattle.switch_core.proofs.OrderLaws.{greatest_first-is}
 use Rattle.fabric_script.specs.declared.ports.PortRef.{PortRef}
 use Rattle.fabric_script.specs.declared.lines.Line.{Line}
-use Rattle.fabric_script.specs.declared.lines.Line.TheVariants.{Endpoint, Switch, Link, Buffers, Route, Default, Lock, Send, Read, Write, Pump, Deliver, Alter, Insert, Erase, Timeout, Settle, Move, Collect, Run}
+use Rattle.fabric_script.specs.declared.lines.Line.TheVariants.{Endpoint, Switch, Link, Buffers, Route, Default, Lock, Large, Send, Read, Write, Pump, Deliver, Alter, Insert, Erase, Timeout, Settle, Move, Collect, Run, Send16, Read16, Write16}
 use Rattle.fabric_script.specs.declared.lines.Numbered.{Numbered}
 use Rattle.fabric_script.specs.Lines.{is_event, new_name}
 use Rattle.fabric_script.specs.Known.{Known, nothing, known_after}
 use Rattle.fabric_script.specs.Reading.{MayBe}
 use Rattle.fabric_script.specs.Scripts.{PassesFrom, Passes as IsPassed}
-use Rattle.fabric_model.specs.Network.{Network, same_port, port_of, peer_in, link_in, base_of, switch_at, IsEndpoint}
+use Rattle.fabric_model.specs.Network.{Network, same_port, port_of, peer_in, link_in, sender_id, id_of, switch_at, IsEndpoint}
 use Rattle.fabric_model.specs.Laws.Forms.{IsFormed}
 use Rattle.fabric_model.proofs.Forms.{device_at}
 use Rattle.fabric_model.proofs.Peers.{link_peers}
 use Rattle.fabric_trace.specs.Blocks.{takes, Sends, pumps, delivers, times_out, edits, IsSettle, WithPeer, WithLink, IsBlock}
-use Rattle.fabric_trace.specs.Events.{IsDataLength, FitsPacket, IsInRange, IsThere, MayHappen}
+use Rattle.fabric_trace.specs.Events.{id_limit, FitsSend, FitsRequest, FitsPacket, IsInRange, IsThere, MayHappen}
 use Rattle.fabric_trace.specs.Fold.{edit_of, seen}
 use Rattle.fabric_trace.specs.Known.{Found, Seen, peer_of}
 use Rattle.fabric_trace.specs.Lines.{TraceLine, Begun, Ended, Undetected, steps_of}
@@ -52,66 +54,70 @@ use Rattle.fabric_trace.proofs.Unique.{runs_one}
 
 -- ---- packets
 
-send_body : (prio ftype dest source : ℕ) (hex : List ℕ) → prio < 4 → ftype < 16 → dest < 256
-    → source < 256 → All (λ b. b < 256) hex → IsDataLength ftype (length hex)
-    → IsBody (body_of prio ftype dest source hex)
-send_body prio ftype dest source hex p f d s bytes long =
-    let even = long.even in
-    let most = long.most in
-    record {
-      even = omega arith;
-      least = omega arith;
-      most = omega arith;
-      range =
-          All-cons (λ b. b < 256) 0 ((64 * prio + ftype) ∷ dest ∷ source ∷ hex) (omega arith)
-          (All-cons (λ b. b < 256) (64 * prio + ftype) (dest ∷ source ∷ hex) (omega arith) (All-cons (λ b. b < 256) dest (source ∷ hex) d (All-cons (λ b. b < 256) source hex s bytes)));
-      origin = omega arith;
-    }
+sized : (large : Bool) (id : ℕ) → id < id_limit large
+    → (id < 0x10000) × (large ≡ false → id < 256)
+sized false id low = (omega (arith, low), λ small. low)
+sized true id low = (low, λ small. absurd (true≢false small))
 
-module _ (prio dest source hop tid offset : ℕ) (p : prio < 4) (d : dest < 256) (s : source < 256) (h : hop < 256) (t : tid < 256) (o : offset < 16 ^ 6) where
-  read_body : IsBody (body_of prio 8 dest source (behind_ids 0 8 tid hop offset None))
-  read_body =
-      let low : offset < 0x1000000 = o in
-      record {
-        even = refl;
-        least = omega arith;
-        most = omega arith;
-        range =
-            All-from_recursion (λ b. b < 256)
-            (body_of prio 8 dest source (behind_ids 0 8 tid hop offset None))
-            (omega arith, (omega arith, (d, (s, (omega arith, (t, (h, (omega arith, (omega arith, (omega arith, tt))))))))));
-        origin = omega arith;
-      }
+body_is : (large : Bool) (prio ftype dest source : ℕ) (rest : List ℕ) → prio < 4 → ftype < 16
+    → dest < id_limit large → source < id_limit large → All (λ b. b < 256) rest
+    → length rest % 2 ≡ 0 → length rest ≤ most_rest large
+    → IsBody (body_of prio ftype large dest source rest)
+body_is large prio ftype dest source rest p f d s range even most =
+    let to = sized large dest d in
+    let from = sized large source s in
+    IsBody-body_of prio ftype large dest source rest p f to.0 from.0 to.1 from.1 range even most
 
-  write_body : (a b : ℕ) → a < 0x100000000 → b < 0x100000000
-      → IsBody (body_of prio 8 dest source (behind_ids 1 8 tid hop offset (Some (a, b))))
-  write_body a b x y =
+send_body : (large : Bool) (prio ftype dest source : ℕ) (hex : List ℕ)
+    → FitsSend large prio ftype dest hex → source < id_limit large
+    → IsBody (body_of prio ftype large dest source hex)
+send_body large prio ftype dest source hex fits s =
+    body_is large prio ftype dest source hex fits.0 fits.1 fits.2 s fits.3 fits.4.even
+    fits.4.most
+
+module _ (hop tid offset : ℕ) (h : hop < 256) (t : tid < 256) (o : offset < 16 ^ 6) where
+  read_rest : All (λ b. b < 256) (behind_ids 0 8 tid hop offset None)
+  read_rest =
       let low : offset < 0x1000000 = o in
-      record {
-        even = refl;
-        least = omega arith;
-        most = omega arith;
-        range = All-from_recursion (λ b. b < 256) (body_of prio 8 dest source (behind_ids 1 8 tid hop offset (Some (a, b)))) (
-          omega arith,
+      All-from_recursion (λ b. b < 256) (behind_ids 0 8 tid hop offset None)
+      (omega arith, (t, (h, (omega arith, (omega arith, (omega arith, tt))))))
+
+  write_rest : (a b : ℕ) → a < 0x100000000 → b < 0x100000000
+      → All (λ b. b < 256) (behind_ids 1 8 tid hop offset (Some (a, b)))
+  write_rest a b x y =
+      let low : offset < 0x1000000 = o in
+      All-from_recursion (λ b. b < 256) (behind_ids 1 8 tid hop offset (Some (a, b))) (
+        omega arith,
+        (
+          t,
           (
-            omega arith,
+            h,
             (
-              d,
+              omega arith,
               (
-                s,
+                omega arith,
                 (
                   omega arith,
                   (
-                    t,
+                    omega arith,
                     (
-                      h,
+                      omega arith,
                       (
                         omega arith,
                         (
                           omega arith,
                           (
                             omega arith,
-                            (omega arith, (omega arith, (omega arith, (omega arith, (omega arith, (omega arith, (omega arith, (omega arith, tt)))))))),
+                            (
+                              omega arith,
+                              (
+                                omega arith,
+                                (
+                                  omega arith,
+                                  tt,
+                                ),
+                              ),
+                            ),
                           ),
                         ),
                       ),
@@ -121,31 +127,60 @@ module _ (prio dest source hop tid offset : ℕ) (p : prio < 4) (d : dest < 256)
               ),
             ),
           ),
-        );
-        origin = omega arith;
-      }
+        ),
+      )
 
-  half_body : (value : ℕ) → value < 16 ^ 8
-      → IsBody
-      (body_of prio 8 dest source (behind_ids 1 8 tid hop offset (Some (in_half offset value))))
+most_least : (large : Bool) (n : ℕ) → n ≤ 14 → n ≤ most_rest large
+most_least false n most = omega arith
+most_least true n most = omega arith
+
+module _ (large : Bool) (prio dest source hop tid offset : ℕ)
+    (fits : FitsRequest large prio dest hop tid offset) (s : source < id_limit large) where
+  ask_body : (rest : List ℕ) → All (λ b. b < 256) rest → length rest % 2 ≡ 0 → length rest ≤ 14
+      → IsBody (body_of prio 8 large dest source rest)
+  ask_body rest range even most =
+      body_is large prio 8 dest source rest fits.0 (omega arith) fits.1 s range even
+      (most_least large (length rest) most)
+
+  read_body : IsBody (body_of prio 8 large dest source (behind_ids 0 8 tid hop offset None))
+  read_body = ask_body (behind_ids 0 8 tid hop offset None)
+      (read_rest hop tid offset fits.2 fits.3 fits.4) refl (omega arith)
+
+  write_body : (a b : ℕ) → a < 0x100000000 → b < 0x100000000
+      → IsBody (body_of prio 8 large dest source (behind_ids 1 8 tid hop offset (Some (a, b))))
+  write_body a b x y = ask_body (behind_ids 1 8 tid hop offset (Some (a, b)))
+      (write_rest hop tid offset fits.2 fits.3 fits.4 a b x y) refl (omega arith)
+
+  half_body : (value : ℕ) → value < 16 ^ 8 → IsBody (body_of prio 8 large dest source
+      (behind_ids 1 8 tid hop offset (Some (in_half offset value))))
   half_body value v =
       let word : value < 0x100000000 = v in
-      elim (names_second offset) as (λ x. IsBody (body_of prio 8 dest source (behind_ids 1 8 tid hop offset (Some (if x then (0, value) else (value, 0)))))) [
+      elim (names_second offset) as (λ x. IsBody (body_of prio 8 large dest source
+      (behind_ids 1 8 tid hop offset (Some (if x then (0, value) else (value, 0)))))) [
         | true ↦ write_body 0 value (omega arith) word
         | false ↦ write_body value 0 word (omega arith)
       ]
 
--- the base device ID of a node is a byte
-base_low : (net : Network) (node : ℕ) → IsFormed net → base_of net node < 256
-base_low net node formed = by_found (slice_get net.registers node) refl
+-- the ID of a node fits its size
+id_low : (net : Network) (node : ℕ) (large : Bool) → IsFormed net
+    → id_of net node large < id_limit large
+id_low net node large formed = by_found (slice_get net.registers node) refl
   where
+    of_size : (device : Device) (large : Bool) → IsWithin device
+        → sender_id device large < id_limit large
+    of_size device false within = within.base_id
+    of_size device true within = within.large_id
+
+    zero_low : (large : Bool) → 0 < id_limit large
+    zero_low false = omega arith
+    zero_low true = omega arith
+
     by_found : (found : Option Device) → slice_get net.registers node ≡ found
-        → unwrap_or (option_map (λ (device : Device). device.base_id) found) 0 < 256
-    by_found None at = omega arith
+        → unwrap_or (option_map (λ (device : Device). sender_id device large) found) 0
+        < id_limit large
+    by_found None at = zero_low large
     by_found (Some device) at =
-        let within : IsWithin device = device_at net.registers node device at formed.registers in
-        let low = within.base_id in
-        omega arith
+        of_size device large (device_at net.registers node device at formed.registers)
 
 sends_exist : (s : Seen) (node : ℕ) (body : List ℕ) → IsEndpoint s.network node → IsBody body
     → (block : List TraceLine) × Sends s node body block
@@ -247,15 +282,31 @@ block_exists (Buffers port n) s ready none event say there = absurd cc
 block_exists (Route node id p) s ready none event say there = absurd cc
 block_exists (Default node p) s ready none event say there = absurd cc
 block_exists (Lock node id) s ready none event say there = absurd cc
+block_exists (Large node id) s ready none event say there = absurd cc
 block_exists (Send node prio ftype dest hex) s ready none event say there =
     sends_exist s node _ there
-    (send_body prio ftype dest (base_of s.network node) hex say.0 say.1 say.2 (base_low s.network node ready.formed) say.3 say.4)
+    (send_body false prio ftype dest (id_of s.network node false) hex say
+    (id_low s.network node false ready.formed))
 block_exists (Read node prio dest hop tid offset) s ready none event say there =
     sends_exist s node _ there
-    (read_body prio dest (base_of s.network node) hop tid offset say.0 say.1 (base_low s.network node ready.formed) say.2 say.3 say.4)
+    (read_body false prio dest (id_of s.network node false) hop tid offset say
+    (id_low s.network node false ready.formed))
 block_exists (Write node prio dest hop tid offset value) s ready none event say there =
     sends_exist s node _ there
-    (half_body prio dest (base_of s.network node) hop tid offset say.0 say.1 (base_low s.network node ready.formed) say.2 say.3 say.4 value say.5)
+    (half_body false prio dest (id_of s.network node false) hop tid offset say.0
+    (id_low s.network node false ready.formed) value say.1)
+block_exists (Send16 node prio ftype dest hex) s ready none event say there =
+    sends_exist s node _ there
+    (send_body true prio ftype dest (id_of s.network node true) hex say
+    (id_low s.network node true ready.formed))
+block_exists (Read16 node prio dest hop tid offset) s ready none event say there =
+    sends_exist s node _ there
+    (read_body true prio dest (id_of s.network node true) hop tid offset say
+    (id_low s.network node true ready.formed))
+block_exists (Write16 node prio dest hop tid offset value) s ready none event say there =
+    sends_exist s node _ there
+    (half_body true prio dest (id_of s.network node true) hop tid offset say.0
+    (id_low s.network node true ready.formed) value say.1)
 block_exists (Pump port n) s ready none event say there =
     peers_block (peer_of s port) (pumps s port n) there
 block_exists (Deliver port n) s ready none event say there =
@@ -282,6 +333,10 @@ there_stays : (net end : Network) (line : Line) → end.links ≡ net.links
 there_stays net end (Send node prio ftype dest hex) links kinds there = kinds node ∙ there
 there_stays net end (Read node prio dest hop tid offset) links kinds there = kinds node ∙ there
 there_stays net end (Write node prio dest hop tid offset value) links kinds there =
+    kinds node ∙ there
+there_stays net end (Send16 node prio ftype dest hex) links kinds there = kinds node ∙ there
+there_stays net end (Read16 node prio dest hop tid offset) links kinds there = kinds node ∙ there
+there_stays net end (Write16 node prio dest hop tid offset value) links kinds there =
     kinds node ∙ there
 there_stays net end (Move node) links kinds there = kinds node ∙ there
 there_stays net end (Collect node) links kinds there = kinds node ∙ there
@@ -356,7 +411,20 @@ sayable known new (Write node prio dest hop tid offset value) may range =
     let dest_in = may.fit.1.1.0.1 in
     let hop_in = may.fit.1.1.1.0.1 in
     let tid_in = may.fit.1.1.1.1.0.1 in
-    (range.0, omega arith, omega arith, omega arith, range.1, range.2)
+    ((range.0, omega arith, omega arith, omega arith, range.1), range.2)
+sayable known new (Send16 node prio ftype dest hex) may range =
+    let dest_in = may.fit.1.1.1.0.1 in
+    (range.0, range.1, omega arith, may.fit.1.1.1.1.0, range.2)
+sayable known new (Read16 node prio dest hop tid offset) may range =
+    let dest_in = may.fit.1.1.0.1 in
+    let hop_in = may.fit.1.1.1.0.1 in
+    let tid_in = may.fit.1.1.1.1.0.1 in
+    (range.0, omega arith, omega arith, omega arith, range.1)
+sayable known new (Write16 node prio dest hop tid offset value) may range =
+    let dest_in = may.fit.1.1.0.1 in
+    let hop_in = may.fit.1.1.1.0.1 in
+    let tid_in = may.fit.1.1.1.1.0.1 in
+    ((range.0, omega arith, omega arith, omega arith, range.1), range.2)
 sayable known new _ may range = tt
 
 cans_from : (known : Known) (names : List (List ℕ)) (net : Network) (script : List Numbered)

@@ -9,7 +9,7 @@ use Rattle.switch_core.specs.EndpointSteps.{collected}
 use Rattle.fabric_script.specs.Lines.{is_event}
 use Rattle.fabric_script.specs.declared.ports.PortRef.{PortRef}
 use Rattle.fabric_script.specs.declared.lines.Line.{Line}
-use Rattle.fabric_script.specs.declared.lines.Line.TheVariants.{Endpoint, Switch, Link, Buffers, Route, Default, Lock, Send, Read, Write, Pump, Deliver, Alter, Insert, Erase, Timeout, Settle, Move, Collect, Run}
+use Rattle.fabric_script.specs.declared.lines.Line.TheVariants.{Endpoint, Switch, Link, Buffers, Route, Default, Lock, Large, Send, Read, Write, Pump, Deliver, Alter, Insert, Erase, Timeout, Settle, Move, Collect, Run, Send16, Read16, Write16}
 use Rattle.fabric_script.specs.declared.lines.Numbered.{Numbered}
 use Rattle.fabric_model.specs.Network.{Network, link_in, port_of}
 use Rattle.fabric_model.specs.Steps.{ByDevice}
@@ -109,9 +109,13 @@ block_one (Buffers port n) s x y f g = absurd f
 block_one (Route node id p) s x y f g = absurd f
 block_one (Default node p) s x y f g = absurd f
 block_one (Lock node id) s x y f g = absurd f
+block_one (Large node id) s x y f g = absurd f
 block_one (Send node prio ftype dest hex) s x y f g = send_one s node _ x y f g
 block_one (Read node prio dest hop tid offset) s x y f g = send_one s node _ x y f g
 block_one (Write node prio dest hop tid offset value) s x y f g = send_one s node _ x y f g
+block_one (Send16 node prio ftype dest hex) s x y f g = send_one s node _ x y f g
+block_one (Read16 node prio dest hop tid offset) s x y f g = send_one s node _ x y f g
+block_one (Write16 node prio dest hop tid offset value) s x y f g = send_one s node _ x y f g
 block_one (Pump port n) s x y f g = peer_one (peer_of s port) (pumps s port n) x y f g
 block_one (Deliver port n) s x y f g = peer_one (peer_of s port) (delivers s port n) x y f g
 block_one (Alter port place ch) s x y f g = f ∙ sym g

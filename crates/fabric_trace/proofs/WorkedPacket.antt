@@ -1,5 +1,5 @@
 -- The run of one packet is a trace of its script.
-use Rattle.std.proofs.Common.{◌<◌, true, [], ◌∷◌, arith, refl}
+use Rattle.std.proofs.Common.{◌<◌, true, [], ◌∷◌, arith, refl, false}
 use Rattle.std.proofs.lemmas.List.Elements.{All-from_recursion}
 use Rattle.crc_division.specs.Bits.{bits, number}
 use Rattle.crc_division.specs.Division.{division_steps, complemented}
@@ -29,20 +29,20 @@ use Rattle.fabric_trace.specs.Lines.{Sent, Got, Stepped, Signed}
 use Rattle.fabric_trace.specs.Runs.{Runs}
 use Rattle.fabric_trace.specs.Examples.{near, far, packet_chars, accepted_chars, packet_script, packet_trace}
 
-body : IsBody (body_of 0 15 2 1 (0xca ∷ 0xfe ∷ 0x00 ∷ 0x01 ∷ []))
+body : IsBody (body_of 0 15 false 2 1 (0xca ∷ 0xfe ∷ 0x00 ∷ 0x01 ∷ []))
 body = record {
   even = refl;
   least = omega arith;
   most = omega arith;
   range =
-      All-from_recursion (λ b. b < 256) (body_of 0 15 2 1 (0xca ∷ 0xfe ∷ 0x00 ∷ 0x01 ∷ []))
+      All-from_recursion (λ b. b < 256) (body_of 0 15 false 2 1 (0xca ∷ 0xfe ∷ 0x00 ∷ 0x01 ∷ []))
       (omega arith, (omega arith, (omega arith, (omega arith, (omega arith, (omega arith, (omega arith, (omega arith, tt))))))));
   origin = omega arith;
 }
 
-form : LinkForm (body_of 0 15 2 1 (0xca ∷ 0xfe ∷ 0x00 ∷ 0x01 ∷ [])) packet
+form : LinkForm (body_of 0 15 false 2 1 (0xca ∷ 0xfe ∷ 0x00 ∷ 0x01 ∷ [])) packet
 unfolding with_crc with_more fed shifted shifted_times
-form = LinkForm-made (body_of 0 15 2 1 (0xca ∷ 0xfe ∷ 0x00 ∷ 0x01 ∷ [])) body
+form = LinkForm-made (body_of 0 15 false 2 1 (0xca ∷ 0xfe ∷ 0x00 ∷ 0x01 ∷ [])) body
 
 pub packet_runs : Runs packet_script packet_trace
 unfolding run place_after kind spelled is_spelling crc5_value crc5_of crc5_message field_bits bits number division_steps complemented packet_event carried fed shifted shifted_times with_crc with_more symbol_bytes symbol_chars_of bytes_with_ack packet_chars_of bursts turned highest_below window come sends replies greatest_first

@@ -1,5 +1,5 @@
 -- Which lines each event makes, from what is known before it.
-use Rattle.std.specs.Prelude.{◌≡◌, ℕ, List, [], ◌∷◌, map, Option, Some, None, if◌then◌else◌}
+use Rattle.std.specs.Prelude.{◌≡◌, ℕ, Bool, true, false, List, [], ◌∷◌, map, Option, Some, None, if◌then◌else◌}
 use Rattle.rio_packets.specs.Fields.{prio_of, body_of}
 use Rattle.rio_packets.specs.LinkForm.{LinkForm}
 use Rattle.maint_packets.specs.Requests.{request_body}
@@ -17,8 +17,8 @@ use Rattle.link_rest.specs.Acts.{Act, At, acts_notes}
 use Rattle.link_rest.specs.Settling.{Settles}
 use Rattle.fabric_script.specs.declared.ports.PortRef.{PortRef}
 use Rattle.fabric_script.specs.declared.lines.Line.{Line}
-use Rattle.fabric_script.specs.declared.lines.Line.TheVariants.{Send, Read, Write, Pump, Deliver, Alter, Erase, Insert, Timeout, Settle, Move, Collect, Run}
-use Rattle.fabric_model.specs.Network.{Network, IsEndpoint, port_of, room_out, base_of, link_in}
+use Rattle.fabric_script.specs.declared.lines.Line.TheVariants.{Send, Read, Write, Pump, Deliver, Alter, Erase, Insert, Timeout, Settle, Move, Collect, Run, Send16, Read16, Write16}
+use Rattle.fabric_model.specs.Network.{Network, IsEndpoint, port_of, room_out, id_of, link_in}
 use Rattle.fabric_model.specs.Steps.{Hold, Free, Take, Linked, AtNode}
 use Rattle.fabric_trace.specs.Lines.{Full, Short, Early, Sent, Got, Fired, TraceLine, Stepped, Signed, Lacked}
 use Rattle.fabric_trace.specs.Known.{Seen, peer_of, link_at}
@@ -42,17 +42,18 @@ pub record Sends (s : Seen) (node : ℕ) (body : List ℕ) (block : List TraceLi
   pub form : LinkForm body packet
   pub lines : block ≡ takes s node packet
 
--- a packet with the bytes that the line spells, and the endpoint's base device ID as source
-abbrev pub IsSend : Seen → ℕ → ℕ → ℕ → ℕ → List ℕ → List TraceLine → Type 0
-IsSend s node prio ftype dest rest block =
-    Sends s node (body_of prio ftype dest (base_of s.network node) rest) block
+-- a packet with the bytes that the line spells, and the endpoint's ID of its size as source
+abbrev pub IsSend : Seen → ℕ → ℕ → ℕ → Bool → ℕ → List ℕ → List TraceLine → Type 0
+IsSend s node prio ftype large dest rest block =
+    Sends s node (body_of prio ftype large dest (id_of s.network node large) rest) block
 
--- the request of a line, with the endpoint's base device ID as source
-abbrev pub request_from : Network → ℕ → ℕ → ℕ → ℕ → ℕ → ℕ → Op → Request
-request_from net node prio dest hop tid offset op = record {
+-- the request of a line, with the endpoint's ID of its size as source
+abbrev pub request_from : Network → ℕ → ℕ → Bool → ℕ → ℕ → ℕ → ℕ → Op → Request
+request_from net node prio large dest hop tid offset op = record {
   prio = prio;
   dest = dest;
-  source = base_of net node;
+  source = id_of net node large;
+  large = large;
   op = op;
   tid = tid;
   hop = hop;
@@ -124,11 +125,16 @@ WithLink (Some link) Block block = Block link.0 link.1 block
 -- These are the lines of the event, behind the line with which it begins. Lines of set-up have
 -- none.
 abbrev pub IsBlock : Seen → Line → List TraceLine → Type 0
-IsBlock s (Send node prio ftype dest hex) block = IsSend s node prio ftype dest hex block
+IsBlock s (Send node prio ftype dest hex) block = IsSend s node prio ftype false dest hex block
 IsBlock s (Read node prio dest hop tid offset) block =
-    Asks s node (request_from s.network node prio dest hop tid offset Ops.Read) block
+    Asks s node (request_from s.network node prio false dest hop tid offset Ops.Read) block
 IsBlock s (Write node prio dest hop tid offset value) block =
-    Asks s node (request_from s.network node prio dest hop tid offset (Ops.Write value)) block
+    Asks s node (request_from s.network node prio false dest hop tid offset (Ops.Write value)) block
+IsBlock s (Send16 node prio ftype dest hex) block = IsSend s node prio ftype true dest hex block
+IsBlock s (Read16 node prio dest hop tid offset) block =
+    Asks s node (request_from s.network node prio true dest hop tid offset Ops.Read) block
+IsBlock s (Write16 node prio dest hop tid offset value) block =
+    Asks s node (request_from s.network node prio true dest hop tid offset (Ops.Write value)) block
 IsBlock s (Move node) block = IsMove s.network node block
 IsBlock s (Collect node) block = IsCollect s.network node block
 IsBlock s (Pump port n) block = WithPeer (peer_of s port) (pumps s port n) block

@@ -115,9 +115,9 @@ switch_script =
 abbrev pub switch_trace : List TraceLine
 switch_trace = Begun (Move 0) ∷ Lacked NoStep ∷ Ended ∷ []
 
--- a packet of this priority with IDs of 16 bits, which a switch drops
-abbrev pub wide : ℕ → List ℕ
-wide r = 0 ∷ (r * 64 + 0x12) ∷ 0 ∷ 0 ∷ 0 ∷ 1 ∷ []
+-- a packet of this priority with transport type 2, which a switch drops
+abbrev pub unrouted : ℕ → List ℕ
+unrouted r = 0 ∷ (r * 64 + 0x22) ∷ 0 ∷ 0 ∷ 0 ∷ 1 ∷ []
 
 -- a switch has received a packet of priority 0 at port 0, and one of this priority at port 1
 abbrev pub two_held : ℕ → Network
@@ -131,11 +131,11 @@ two_held r = record bare {
 
     held : ℕ → ℕ → List Item
     held port prio =
-        record { number = port; port = at port; taken = wide prio; now = wide prio } ∷ []
+        record { number = port; port = at port; taken = unrouted prio; now = unrouted prio } ∷ []
 
 -- the switch drops the packet of this port and this priority
 abbrev pub dropped_at : ℕ → ℕ → List TraceLine
-dropped_at port r = Stepped (ByDevice (Drop record { node = 0; port = port } (wide r))) ∷ []
+dropped_at port r = Stepped (ByDevice (Drop record { node = 0; port = port } (unrouted r))) ∷ []
 
 -- a switch moves a packet that came to one of its ports to another
 abbrev pub moved_to : ℕ → ℕ → ℕ → List ℕ → List TraceLine

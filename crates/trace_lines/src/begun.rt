@@ -3,12 +3,12 @@ ghost use Rattle.std.specs.Prelude.{◌≡◌, ◌<◌, ◌++◌, ◌∷◌, [],
 ghost use Rattle.std.specs.Fmt.{decimal};
 ghost use Rattle.rio_chars.specs.Written.{Writes};
 ghost use Rattle.fabric_script.specs.Forms.{keyword_of};
-ghost use Rattle.fabric_script.specs.Texts.{value_text, digits_text};
+ghost use Rattle.fabric_script.specs.Texts.{value_text, digits_text, hex_text};
 ghost use Rattle.fabric_script.specs.Lines.{form_of, values_of, new_name, line_text};
-ghost use Rattle.fabric_script.specs.LineTexts.{AreNamed, gives_packet};
+ghost use Rattle.fabric_script.specs.LineTexts.{AreNamed};
 ghost use Rattle.fabric_trace.specs.Lines.{Begun};
 ghost use Rattle.fabric_trace.specs.Text.{trace_line_text};
-ghost use Rattle.trace_lines.specs.Words.{spaced_words};
+ghost use Rattle.trace_lines.specs.Words.{spaced_words, gives_small, gives_large};
 
 use crate::words::{
     put_bytes, put_char, put_digits, put_node, put_node_number, put_number, put_numbers, put_port,
@@ -50,9 +50,13 @@ fn keyword(line: &Line) -> &'static [u8]
         Line::Route { .. } => b"route",
         Line::Default { .. } => b"default",
         Line::Lock { .. } => b"lock",
+        Line::Large { .. } => b"large",
         Line::Send { .. } => b"send",
         Line::Read { .. } => b"read",
         Line::Write { .. } => b"write",
+        Line::Send16 { .. } => b"send16",
+        Line::Read16 { .. } => b"read16",
+        Line::Write16 { .. } => b"write16",
         Line::Pump { .. } => b"pump",
         Line::Deliver { .. } => b"deliver",
         Line::Alter { .. } => b"alter",
@@ -85,9 +89,14 @@ fn put_words<K: Sink>(outbox: &mut Outbox<K>, names: &[Name], line: &Line)
             put_numbers(outbox, u32::from(*id), u32::from(*p));
         }
         Line::Default { node, p } => put_node_number(outbox, names, *node, u32::from(*p)),
-        Line::Lock { node, id } => put_node_number(outbox, names, *node, u32::from(*id)),
+        Line::Lock { node, id } | Line::Large { node, id } => {
+            put_node_number(outbox, names, *node, u32::from(*id));
+        }
         Line::Send { .. } | Line::Read { .. } | Line::Write { .. } => {
             put_packet(outbox, names, line);
+        }
+        Line::Send16 { .. } | Line::Read16 { .. } | Line::Write16 { .. } => {
+            put_large_packet(outbox, names, line);
         }
         Line::Pump { port, n } | Line::Deliver { port, n } => {
             put_port_number(outbox, names, *port, *n);
@@ -106,10 +115,10 @@ fn put_words<K: Sink>(outbox: &mut Outbox<K>, names: &[Name], line: &Line)
     }
 }
 
-/// The words of a packet that is given to an endpoint.
+/// The words of a packet with 8-bit IDs that is given to an endpoint.
 fn put_packet<K: Sink>(outbox: &mut Outbox<K>, names: &[Name], line: &Line)
     requires named { AreNamed names.now line.now }
-    requires packet { gives_packet line.now ≡ true }
+    requires packet { gives_small line.now ≡ true }
     ensures { Writes K.written K.faults outbox.old outbox.new (spaced_words
         (map (value_text names.now) (values_of (new_name names.now line.now) line.now))) }
 {
@@ -122,8 +131,7 @@ fn put_packet<K: Sink>(outbox: &mut Outbox<K>, names: &[Name], line: &Line)
             hex,
         } => {
             put_node_number(outbox, names, *node, u32::from(*prio));
-            put_numbers(outbox, u32::from(*ftype), u32::from(*dest));
-            put_bytes(outbox, hex.as_slice());
+            put_data(outbox, *ftype, u16::from(*dest), hex.as_slice());
         }
         Line::Read {
             node,
@@ -134,9 +142,55 @@ fn put_packet<K: Sink>(outbox: &mut Outbox<K>, names: &[Name], line: &Line)
             offset,
         } => {
             put_node_number(outbox, names, *node, u32::from(*prio));
-            put_access(outbox, *dest, *hop, *tid, *offset);
+            put_access(outbox, u16::from(*dest), *hop, *tid, *offset);
         }
         Line::Write {
+            node,
+            prio,
+            dest,
+            hop,
+            tid,
+            offset,
+            value,
+        } => {
+            put_node_number(outbox, names, *node, u32::from(*prio));
+            put_access(outbox, u16::from(*dest), *hop, *tid, *offset);
+            put_digits(outbox, 8, *value);
+        }
+        _ => {}
+    }
+}
+
+/// The words of a packet with 16-bit IDs that is given to an endpoint.
+fn put_large_packet<K: Sink>(outbox: &mut Outbox<K>, names: &[Name], line: &Line)
+    requires named { AreNamed names.now line.now }
+    requires packet { gives_large line.now ≡ true }
+    ensures { Writes K.written K.faults outbox.old outbox.new (spaced_words
+        (map (value_text names.now) (values_of (new_name names.now line.now) line.now))) }
+{
+    match line {
+        Line::Send16 {
+            node,
+            prio,
+            ftype,
+            dest,
+            hex,
+        } => {
+            put_node_number(outbox, names, *node, u32::from(*prio));
+            put_data(outbox, *ftype, *dest, hex.as_slice());
+        }
+        Line::Read16 {
+            node,
+            prio,
+            dest,
+            hop,
+            tid,
+            offset,
+        } => {
+            put_node_number(outbox, names, *node, u32::from(*prio));
+            put_access(outbox, *dest, *hop, *tid, *offset);
+        }
+        Line::Write16 {
             node,
             prio,
             dest,
@@ -153,8 +207,17 @@ fn put_packet<K: Sink>(outbox: &mut Outbox<K>, names: &[Name], line: &Line)
     }
 }
 
+/// The format type of a packet, where it goes, and its data.
+fn put_data<K: Sink>(outbox: &mut Outbox<K>, ftype: u8, dest: u16, hex: &[u8])
+    ensures { Writes K.written K.faults outbox.old outbox.new (spaced_words
+        (decimal ftype ∷ decimal dest ∷ hex_text hex.now ∷ [])) }
+{
+    put_numbers(outbox, u32::from(ftype), u32::from(dest));
+    put_bytes(outbox, hex);
+}
+
 /// Where a maintenance request goes, its number, and the register that it asks for.
-fn put_access<K: Sink>(outbox: &mut Outbox<K>, dest: u8, hop: u8, tid: u8, offset: u32)
+fn put_access<K: Sink>(outbox: &mut Outbox<K>, dest: u16, hop: u8, tid: u8, offset: u32)
     ensures { Writes K.written K.faults outbox.old outbox.new (spaced_words
         (decimal dest ∷ decimal hop ∷ decimal tid ∷ digits_text 6 offset ∷ [])) }
 {

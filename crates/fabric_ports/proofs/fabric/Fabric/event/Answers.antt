@@ -14,7 +14,7 @@ use Rattle.fabric_ports.proofs.RoundLaws.{run_done, run_ended}
 use Rattle.fabric_ports.specs.declared.answers.Happened.TheVariants.{Other}
 use Rattle.fabric_trace.proofs.Existing.{ready_on}
 use Rattle.fabric_trace.proofs.Starting.{good_start}
-use Rattle.fabric_ports.proofs.EventLaws.{end_of, base_is, IsTaken, is_send, is_read, is_write, sent_block, evented, linked_done, linked_ended, at_link_is, other_happened}
+use Rattle.fabric_ports.proofs.EventLaws.{end_of, ids_are, is_taken, sent_block, evented, linked_done, linked_ended, none_of, at_link_is, other_happened}
 use Rattle.fabric_ports.proofs.fabric.Fabric.event.Goals as goal
 
 pub returns-in-Move-clause-done : goal.returns-in-Move-clause-done
@@ -47,19 +47,19 @@ returns-in-Collect-clause-done g c = λ from lines stands.
     c.collect.new.self c.collect.result _ refl stands begun
     (c.collect.ensures s stands.shows stands.sent by) (λ block is. is))
 
-pub returns-in_default : goal.returns-in_default
-returns-in_default g c =
+pub returns-in_default-line : goal.returns-in_default-line
+returns-in_default-line g c =
     let link = at_link_is c.args.line.now c.requires.may.event
-    c.in_default.not-Send c.in_default.not-Read c.in_default.not-Write c.in_default.not-Move
-    c.in_default.not-Collect c.in_default.not-Run in
+    (sym c.taker.ensures ∙ none_of c.taker.result c.in_default.not-Some) c.in_default-line.not-Move c.in_default-line.not-Collect
+    c.in_default-line.not-Run in
     record {
       done = linked_done c.args.line.now c.args.names.now _ _ _ _ _ c.args.self.now
           c.at_link.new.self
-          c.at_link.result c.other-in_default.result (other_happened c.args.line.now link)
-          c.write_begun.ensures c.at_link.ensures.done c.other-in_default.ensures;
+          c.at_link.result c.other-in_default-line.result (other_happened c.args.line.now link)
+          c.write_begun.ensures c.at_link.ensures.done c.other-in_default-line.ensures;
       ended = linked_ended c.args.line.now c.args.names.now _ _ _ _ _ c.args.self.now
-          c.at_link.result c.other-in_default.result c.write_begun.ensures c.at_link.ensures.ended
-          c.other-in_default.ensures;
+          c.at_link.result c.other-in_default-line.result c.write_begun.ensures c.at_link.ensures.ended
+          c.other-in_default-line.ensures;
     }
 
 pub returns-in-Run : goal.returns-in-Run
@@ -89,28 +89,18 @@ returns-in-Run g c =
           c.other.result begun ended c.other.ensures);
     }
 
-pub returns-in-Send-clause-done : goal.returns-in-Send-clause-done
-returns-in-Send-clause-done g c = λ from lines stands.
+pub returns-in-Some-clause-done : goal.returns-in-Some-clause-done
+returns-in-Some-clause-done g c = λ from lines stands.
     let may = c.requires.may in
     let s = seen from lines in
-    let takes_it : IsTaken c.args.line.now c.in-Send.node = elim c.in-Send.is [
-      | inl sends ↦ subst (λ (l : Line). IsTaken l c.in-Send.node) (sym sends.4)
-          (is_send c.in-Send.node sends.0 sends.1 sends.2 sends.3)
-      | inr asks ↦ elim asks [
-        | inl reads ↦ subst (λ (l : Line). IsTaken l c.in-Send.node) (sym reads.5)
-            (is_read c.in-Send.node reads.0 reads.1 reads.2 reads.3 reads.4)
-        | inr writes ↦ subst (λ (l : Line). IsTaken l c.in-Send.node) (sym writes.6)
-            (is_write c.in-Send.node writes.0 writes.1 writes.2 writes.3 writes.4 writes.5)
-      ]
-    ] in
-    let end = end_of c.args.self.now (seen may.from may.lines) c.in-Send.node
+    let takes_it = is_taken c.args.line.now c.in-Some.node (sym c.taker.ensures ∙ c.in-Some.is) in
+    let end = end_of c.args.self.now (seen may.from may.lines) c.in-Some.node
     may.stands.shows
     (takes_it.there (seen may.from may.lines).network may.happens.there) in
-    let base = c.base_id.ensures.value
-    ∙ base_is c.args.self.now s c.in-Send.node c.from.result c.index.result.now stands.shows
+    let ids = ids_are c.args.self.now s c.in-Some.node c.from.result c.index.result.now stands.shows
     end.device c.from.ensures c.index.ensures in
     evented c.args.line.now c.args.names.now _ _ _ _ _ from lines c.args.self.now c.send.new.self
     c.send.result _ (ap (edited_by s) takes_it.edits) stands c.write_begun.ensures
     (c.send.ensures s stands.shows stands.sent)
-    (sent_block s c.args.line.now c.in-Send.node _ c.packet_of-packet.result c.send.result takes_it
-    (end.known s stands.shows) base c.packet_of-packet.ensures)
+    (sent_block s c.args.line.now c.in-Some.node _ c.packet_of-packet.result c.send.result takes_it
+    (end.known s stands.shows) ids c.packet_of-packet.ensures)

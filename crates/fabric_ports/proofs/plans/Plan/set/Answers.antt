@@ -1,14 +1,14 @@
-use Rattle.std.proofs.Common.{◌≡◌, ℕ, ◌<◌, List, length, get_or, refl, sym, ap, ◌∙◌, subst, arith}
+use Rattle.std.proofs.Common.{◌≡◌, ℕ, true, false, ◌<◌, List, length, get_or, refl, sym, ap, ◌∙◌, subst, arith}
 use Rattle.std.specs.Vec.{with_item}
 use Rattle.maint_registers.specs.Devices.{Device}
 use Rattle.fabric_model.specs.Network.{Network}
 use Rattle.fabric_trace.specs.Events.{ArePorts}
 use Rattle.fabric_trace.specs.Runs.{set_up}
 use Rattle.fabric_trace.specs.SetUps.{MaySetUp}
-use Rattle.fabric_trace.specs.Settings.{with_change, routed, defaulted, held_by}
+use Rattle.fabric_trace.specs.Settings.{with_change, routed, defaulted, held_by, large_set}
 use Rattle.fabric_ports.specs.Plans.{PlansFor, counts_of}
 use Rattle.fabric_ports.specs.declared.plans.Plan.{Plan}
-use Rattle.fabric_ports.proofs.Changes.{KeepsPorts, counts-change, changed_at, switch_of}
+use Rattle.fabric_ports.proofs.Changes.{KeepsPorts, counts-change, changed_at, kind_of}
 use Rattle.fabric_ports.proofs.PlanLaws.{plan-buffers, plan-change, port_by_count}
 use Rattle.fabric_ports.proofs.plans.Plan.set.Goals as goal
 
@@ -54,23 +54,28 @@ returns-in-Buffers-clause-plans c net is may =
 pub index_mut-requires : goal.index_mut-requires
 index_mut-requires c =
     let may = c.requires.may in
-    let there = (switch_of may.net c.args.self.now.devices.items c.in-Route.node may.plans.registers
+    let there = (kind_of true may.net c.args.self.now.devices.items c.in-Route.node may.plans.registers
     (subst (MaySetUp may.net) c.in-Route.is may.may).0).within in
     grind (arith, there)
 
-pub set_route-requires : goal.set_route-requires
-set_route-requires c =
+pub set_route-requires-clause-destination : goal.set_route-requires-clause-destination
+set_route-requires-clause-destination c =
+    let may = c.requires.may in
+    (subst (MaySetUp may.net) c.in-Route.is may.may).1
+
+pub set_route-requires-clause-switch : goal.set_route-requires-clause-switch
+set_route-requires-clause-switch c =
     let may = c.requires.may in
     let devices = c.args.self.now.devices.items in
     let read = c.index_mut.result.now in
-    (switch_of may.net devices c.in-Route.node may.plans.registers
+    (kind_of true may.net devices c.in-Route.node may.plans.registers
     (subst (MaySetUp may.net) c.in-Route.is may.may).0).kind read
     (c.index_mut.ensures.value ∙ ap (λ n. get_or devices n read) c.from.ensures)
 
 pub index_mut-requires-in-Default : goal.index_mut-requires-in-Default
 index_mut-requires-in-Default c =
     let may = c.requires.may in
-    let there = (switch_of may.net c.args.self.now.devices.items c.in-Default.node may.plans.registers
+    let there = (kind_of true may.net c.args.self.now.devices.items c.in-Default.node may.plans.registers
     (subst (MaySetUp may.net) c.in-Default.is may.may).0).within in
     grind (arith, there)
 
@@ -79,7 +84,7 @@ set_default-requires c =
     let may = c.requires.may in
     let devices = c.args.self.now.devices.items in
     let read = c.index_mut-in-Default.result.now in
-    (switch_of may.net devices c.in-Default.node may.plans.registers
+    (kind_of true may.net devices c.in-Default.node may.plans.registers
     (subst (MaySetUp may.net) c.in-Default.is may.may).0).kind read
     (c.index_mut-in-Default.ensures.value ∙ ap (λ n. get_or devices n read) c.from-in-Default.ensures)
 
@@ -87,7 +92,7 @@ pub returns-in-Route-clause-plans : goal.returns-in-Route-clause-plans
 returns-in-Route-clause-plans c = λ net plans line_may.
     let old = c.args.self.now in
     let may = c.requires.may in
-    let there = (switch_of may.net old.devices.items c.in-Route.node may.plans.registers
+    let there = (kind_of true may.net old.devices.items c.in-Route.node may.plans.registers
     (subst (MaySetUp may.net) c.in-Route.is may.may).0).within in
     let at = c.from.ensures in
     let within : c.from.result < length old.devices.items = grind (arith, there, at) in
@@ -101,7 +106,7 @@ pub returns-in-Route-clause-counts : goal.returns-in-Route-clause-counts
 returns-in-Route-clause-counts c =
     let old = c.args.self.now in
     let may = c.requires.may in
-    let there = (switch_of may.net old.devices.items c.in-Route.node may.plans.registers
+    let there = (kind_of true may.net old.devices.items c.in-Route.node may.plans.registers
     (subst (MaySetUp may.net) c.in-Route.is may.may).0).within in
     let at = c.from.ensures in
     let within : c.from.result < length old.devices.items = grind (arith, there, at) in
@@ -113,7 +118,7 @@ pub returns-in-Default-clause-plans : goal.returns-in-Default-clause-plans
 returns-in-Default-clause-plans c = λ net plans line_may.
     let old = c.args.self.now in
     let may = c.requires.may in
-    let there = (switch_of may.net old.devices.items c.in-Default.node may.plans.registers
+    let there = (kind_of true may.net old.devices.items c.in-Default.node may.plans.registers
     (subst (MaySetUp may.net) c.in-Default.is may.may).0).within in
     let at = c.from-in-Default.ensures in
     let within : c.from-in-Default.result < length old.devices.items = grind (arith, there, at) in
@@ -127,7 +132,7 @@ pub returns-in-Default-clause-counts : goal.returns-in-Default-clause-counts
 returns-in-Default-clause-counts c =
     let old = c.args.self.now in
     let may = c.requires.may in
-    let there = (switch_of may.net old.devices.items c.in-Default.node may.plans.registers
+    let there = (kind_of true may.net old.devices.items c.in-Default.node may.plans.registers
     (subst (MaySetUp may.net) c.in-Default.is may.may).0).within in
     let at = c.from-in-Default.ensures in
     let within : c.from-in-Default.result < length old.devices.items = grind (arith, there, at) in
@@ -160,3 +165,45 @@ returns-in-Lock-clause-counts c =
     written_counts old c.in-Lock.node c.from-in-Lock.result c.index_mut-in-Lock.result.now
     c.set_lock.new.self (held_by c.in-Lock.id) (λ device. refl) at within
     c.index_mut-in-Lock.ensures.value c.set_lock.ensures
+
+pub index_mut-requires-in-Large : goal.index_mut-requires-in-Large
+index_mut-requires-in-Large c =
+    let may = c.requires.may in
+    let there = (kind_of false may.net c.args.self.now.devices.items c.in-Large.node may.plans.registers
+    (subst (MaySetUp may.net) c.in-Large.is may.may).0).within in
+    grind (arith, there)
+
+pub set_large-requires : goal.set_large-requires
+set_large-requires c =
+    let may = c.requires.may in
+    let devices = c.args.self.now.devices.items in
+    let read = c.index_mut-in-Large.result.now in
+    (kind_of false may.net devices c.in-Large.node may.plans.registers
+    (subst (MaySetUp may.net) c.in-Large.is may.may).0).kind read
+    (c.index_mut-in-Large.ensures.value ∙ ap (λ n. get_or devices n read) c.from-in-Large.ensures)
+
+pub returns-in-Large-clause-plans : goal.returns-in-Large-clause-plans
+returns-in-Large-clause-plans c = λ net plans line_may.
+    let old = c.args.self.now in
+    let may = c.requires.may in
+    let there = (kind_of false may.net old.devices.items c.in-Large.node may.plans.registers
+    (subst (MaySetUp may.net) c.in-Large.is may.may).0).within in
+    let at = c.from-in-Large.ensures in
+    let within : c.from-in-Large.result < length old.devices.items = grind (arith, there, at) in
+    subst (λ line. PlansFor (with_written old c.from-in-Large.result c.set_large.new.self)
+    (set_up net line)) (sym c.in-Large.is)
+    (written_plans old net c.in-Large.node c.from-in-Large.result c.index_mut-in-Large.result.now
+    c.set_large.new.self (large_set c.in-Large.id) (λ device. refl) at within
+    c.index_mut-in-Large.ensures.value c.set_large.ensures plans)
+
+pub returns-in-Large-clause-counts : goal.returns-in-Large-clause-counts
+returns-in-Large-clause-counts c =
+    let old = c.args.self.now in
+    let may = c.requires.may in
+    let there = (kind_of false may.net old.devices.items c.in-Large.node may.plans.registers
+    (subst (MaySetUp may.net) c.in-Large.is may.may).0).within in
+    let at = c.from-in-Large.ensures in
+    let within : c.from-in-Large.result < length old.devices.items = grind (arith, there, at) in
+    written_counts old c.in-Large.node c.from-in-Large.result c.index_mut-in-Large.result.now
+    c.set_large.new.self (large_set c.in-Large.id) (λ device. refl) at within
+    c.index_mut-in-Large.ensures.value c.set_large.ensures
