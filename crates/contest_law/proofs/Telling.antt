@@ -47,7 +47,7 @@ status-none device n port past =
 -- what the features tell
 pub features_told : (device : Device) (port : ℕ)
     → (answered device port (Read 0x10)).answer.value
-    ≡ (if is_switch device then 0x10000108 else 0x8)
+    ≡ (if is_switch device then 0x10000118 else 0x18)
 features_told device port =
     ap (λ o. (after_read device o).answer.value) (features-read device port)
 
@@ -58,14 +58,14 @@ switch_told device port bit =
     go (is_switch device) refl (sym (features_told device port))
   where
     go : (b : Bool) → is_switch device ≡ b
-        → (if is_switch device then 0x10000108 else 0x8)
+        → (if is_switch device then 0x10000118 else 0x18)
         ≡ (answered device port (Read 0x10)).answer.value
         → is_switch device ≡ true
     go true is told = is
     go false is told =
-        let eight : (answered device port (Read 0x10)).answer.value ≡ 8 =
-        sym told ∙ ap (λ b. if b then 0x10000108 else 0x8) is in
-        absurd (omega (arith, bit, eight))
+        let features : (answered device port (Read 0x10)).answer.value ≡ 0x18 =
+        sym told ∙ ap (λ b. if b then 0x10000118 else 0x18) is in
+        absurd (omega (arith, bit, features))
 
 -- ---- of the fabric as it was, and as it is
 

@@ -43,7 +43,7 @@ module _ (dest : ℕ) (far : 62 < dest) (not_all : dest ≢ 255) where
       gone_by (λ a. IsCareful a now) w tried (λ t some. orderly_is w now orderly)
       (orderly_is w now orderly)
 
-  all_other : dest ≢ 255 % 0x100
+  all_other : dest ≢ 255 % 0x400
   all_other e = not_all e
 
   freeing_careful : (w : Walker) (now : Registers) (devices : List Device)
@@ -82,7 +82,7 @@ module _ (dest : ℕ) (far : 62 < dest) (not_all : dest ≢ 255) where
     abbrev between : Stage → Walker
     between stage = record w { todo = []; stage = stage }
 
-    own_other : dest ≢ w.id % 0x100
+    own_other : dest ≢ w.id % 0x400
     own_other e = own (omega (arith, e, fits))
 
     read_keeping : (after : Walker) (at : PortRef) (offset : ℕ) → IsCareful after old
@@ -249,7 +249,7 @@ module _ (dest : ℕ) (far : 62 < dest) (not_all : dest ≢ 255) where
           sym (same_kind (old at.node) _ (access_is (old at.node) at.port
           (Write p.offset p.value))) ∙ switch in
           let now : (answered (old at.node) at.port (Write p.offset p.value)).device.select
-          ≡ p.value % 0x100 =
+          ≡ p.value % 0x400 =
           ap (λ n. (answered (old at.node) at.port (Write n p.value)).device.select) at_select
           ∙ ap (λ o. (after_write (old at.node) o).device.select)
           (select-written (old at.node) p.value was) in

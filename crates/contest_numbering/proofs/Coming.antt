@@ -64,8 +64,8 @@ endpoint_told device port bit = go (is_switch device) refl
     go : (b : Bool) → is_switch device ≡ b → is_switch device ≡ false
     go false is = is
     go true is =
-        let value : (answered device port (Read 0x10)).answer.value ≡ 0x10000108 =
-        features_told device port ∙ ap (λ b. if b then 0x10000108 else 0x8) is in
+        let value : (answered device port (Read 0x10)).answer.value ≡ 0x10000118 =
+        features_told device port ∙ ap (λ b. if b then 0x10000118 else 0x18) is in
         absurd (eqb-false ((answered device port (Read 0x10)).answer.value / 0x10000000 % 2) 1 bit
         (ap (λ n. n / 0x10000000 % 2) value))
 

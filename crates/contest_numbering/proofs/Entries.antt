@@ -91,7 +91,7 @@ module _ (dest : ℕ) (device : Device) (offset value : ℕ)
                 (
                   λ e. one_left (record device { tag = value }) refl,
                   (
-                    λ e. one_left (record device { select = value % 0x100 }) refl,
+                    λ e. one_left (record device { select = value % 0x400 }) refl,
                     (
                       λ e. one_left (record device {
                         routes = slice_set device.routes device.select (value % 0x100);

@@ -84,6 +84,7 @@ more_left before middle after one two node = record {
   kind = (two node).kind ∙ (one node).kind;
   ports = (two node).ports ∙ (one node).ports;
   linked = (two node).linked ∙ (one node).linked;
+  large_id = (two node).large_id ∙ (one node).large_id;
 }
 
 turn_left : (both after : Both) (side : Side) → AreLeft both after

@@ -25,7 +25,7 @@ Follows p (q ∷ rest) = q.offset ≡ 0x74 → (p.offset ≡ 0x70) × (p.path �
 abbrev pub AreLinked : ℕ → List Pending → Type 0
 AreLinked dest [] = Unit {0}
 AreLinked dest (p ∷ rest) =
-    (p.offset ≡ 0x70 → dest ≢ p.value % 0x100) × Follows p rest × AreLinked dest rest
+    (p.offset ≡ 0x70 → dest ≢ p.value % 0x400) × Follows p rest × AreLinked dest rest
 
 -- the entry that is written first is another
 abbrev pub HeadOk : ℕ → Topology → Registers → List Pending → Type 0
@@ -65,7 +65,7 @@ orderly_append dest first second one two = (
   starts_append first second one.1 two.1,
 )
 
-pub entry_orderly : (dest : ℕ) (path : List ℕ) (id port : ℕ) → dest ≢ id % 0x100
+pub entry_orderly : (dest : ℕ) (path : List ℕ) (id port : ℕ) → dest ≢ id % 0x400
     → IsOrderly dest (entry_set path id port)
 entry_orderly dest path id port other = (
   (λ e. other, λ e. (refl, refl), (λ e. absurd (omega (arith, e)), tt, tt)),
@@ -77,14 +77,14 @@ pub one_orderly : (dest : ℕ) (path : List ℕ) (offset value : ℕ) → offset
 one_orderly dest path offset value select entry = ((λ e. absurd (select e), tt, tt), entry)
 
 route_orderly : (dest : ℕ) (at : List ℕ) (id : ℕ) (kind : Kind) (port : Option ℕ)
-    → dest ≢ id % 0x100 → IsOrderly dest (route_of at id kind port)
+    → dest ≢ id % 0x400 → IsOrderly dest (route_of at id kind port)
 route_orderly dest at id (Endpoint given) port other = (tt, tt)
 route_orderly dest at id (Switch ports entry) None other = (tt, tt)
 route_orderly dest at id (Switch ports entry) (Some port) other =
     entry_orderly dest at id port other
 
 pub routes_orderly : (dest : ℕ) (devices : List Device) (path : List ℕ) (id : ℕ)
-    → dest ≢ id % 0x100 → IsOrderly dest (routes_to devices path id)
+    → dest ≢ id % 0x400 → IsOrderly dest (routes_to devices path id)
 routes_orderly dest [] path id other = (tt, tt)
 routes_orderly dest (device ∷ rest) path id other =
     orderly_append dest (route_at path id device) (routes_to rest path id)
@@ -104,7 +104,7 @@ cleared_orderly dest path host_id (suc n) most far =
     go false = entry_orderly dest path n 255 (λ e. omega (arith, e, most, far))
 
 pub home_orderly : (dest : ℕ) (path : List ℕ) (host_id entry : ℕ) → 62 < dest
-    → dest ≢ host_id % 0x100 → IsOrderly dest (home_set path host_id entry)
+    → dest ≢ host_id % 0x400 → IsOrderly dest (home_set path host_id entry)
 home_orderly dest path host_id entry far other =
     orderly_append dest (write path 0x78 entry ∷ [])
     (cleared_below path host_id 63 ++ entry_set path host_id entry)

@@ -83,7 +83,7 @@ after-entry device port path id value is few small =
         ∙ ap (λ n. record device { select = n }) (omega (arith, few))
 
 module _ (device : Device) (port : ℕ) (path : List ℕ) (host_id : ℕ)
-    (is : is_switch device ≡ true) (destinations : length device.routes ≡ 256) where
+    (is : is_switch device ≡ true) (destinations : length device.routes ≡ 1024) where
   abbrev cleared_to : ℕ → Device
   cleared_to n = device_after device port (cleared_below path host_id n)
 
@@ -113,7 +113,7 @@ module _ (device : Device) (port : ℕ) (path : List ℕ) (host_id : ℕ)
 
 -- a switch is set up
 pub after-home : (device : Device) (port : ℕ) (path : List ℕ) (host_id entry : ℕ)
-    → is_switch device ≡ true → length device.routes ≡ 256 → host_id < 255 → entry < 256
+    → is_switch device ≡ true → length device.routes ≡ 1024 → host_id < 255 → entry < 256
     → IsSetUp host_id entry device (device_after device port (home_set path host_id entry))
 after-home device port path host_id entry is destinations fits small =
     subst (λ d. IsSetUp host_id entry device d) (sym whole) (record {

@@ -48,11 +48,12 @@ module _ (device : Device) (value : ℕ) where
   -- a device whose kind, ports and links stay, with these numbers
   lock_stays : Keeps device (record device { lock = locked device.lock (value % 0x10000) })
   lock_stays = record {
-    same = record { kind = refl; ports = refl; linked = refl };
+    same = record { kind = refl; ports = refl; linked = refl; large_id = refl };
     device = λ is. record {
       most_ports = is.most_ports;
       endpoint_ports = is.endpoint_ports;
       switch_id = is.switch_id;
+      switch_large = is.switch_large;
       destinations = is.destinations;
       selected = is.selected;
     };
@@ -62,11 +63,12 @@ module _ (device : Device) (value : ℕ) where
 
   tag_stays : Keeps device (record device { tag = value })
   tag_stays = record {
-    same = record { kind = refl; ports = refl; linked = refl };
+    same = record { kind = refl; ports = refl; linked = refl; large_id = refl };
     device = λ is. record {
       most_ports = is.most_ports;
       endpoint_ports = is.endpoint_ports;
       switch_id = is.switch_id;
+      switch_large = is.switch_large;
       destinations = is.destinations;
       selected = is.selected;
     };
@@ -74,13 +76,14 @@ module _ (device : Device) (value : ℕ) where
     lock = λ small. small;
   }
 
-  select_stays : Keeps device (record device { select = value % 0x100 })
+  select_stays : Keeps device (record device { select = value % 0x400 })
   select_stays = record {
-    same = record { kind = refl; ports = refl; linked = refl };
+    same = record { kind = refl; ports = refl; linked = refl; large_id = refl };
     device = λ is. record {
       most_ports = is.most_ports;
       endpoint_ports = is.endpoint_ports;
       switch_id = is.switch_id;
+      switch_large = is.switch_large;
       destinations = is.destinations;
       selected = omega arith;
     };
@@ -92,11 +95,12 @@ module _ (device : Device) (value : ℕ) where
     routes = slice_set device.routes device.select (value % 0x100);
   })
   entry_stays = record {
-    same = record { kind = refl; ports = refl; linked = refl };
+    same = record { kind = refl; ports = refl; linked = refl; large_id = refl };
     device = λ is. record {
       most_ports = is.most_ports;
       endpoint_ports = is.endpoint_ports;
       switch_id = is.switch_id;
+      switch_large = is.switch_large;
       destinations = length-set device.routes device.select (value % 0x100) ∙ is.destinations;
       selected = is.selected;
     };
@@ -106,11 +110,12 @@ module _ (device : Device) (value : ℕ) where
 
   default_stays : Keeps device (record device { default_port = value % 0x100 })
   default_stays = record {
-    same = record { kind = refl; ports = refl; linked = refl };
+    same = record { kind = refl; ports = refl; linked = refl; large_id = refl };
     device = λ is. record {
       most_ports = is.most_ports;
       endpoint_ports = is.endpoint_ports;
       switch_id = is.switch_id;
+      switch_large = is.switch_large;
       destinations = is.destinations;
       selected = is.selected;
     };
@@ -122,11 +127,13 @@ module _ (device : Device) (value : ℕ) where
   id_stays : device.kind ≡ kinds.Endpoint
       → Keeps device (record device { base_id = value / 0x10000 % 0x100 })
   id_stays endpoint = record {
-    same = record { kind = refl; ports = refl; linked = refl };
+    same = record { kind = refl; ports = refl; linked = refl; large_id = refl };
     device = λ is. record {
       most_ports = is.most_ports;
       endpoint_ports = is.endpoint_ports;
       switch_id = λ switch. absurd (clash (sym (ap (λ k. is_switch (record device { kind = k }))
+          endpoint) ∙ switch));
+      switch_large = λ switch. absurd (clash (sym (ap (λ k. is_switch (record device { kind = k }))
           endpoint) ∙ switch));
       destinations = is.destinations;
       selected = is.selected;
@@ -202,7 +209,7 @@ module _ (device : Device) (value : ℕ) where
                 (
                   one_stays (record device { tag = value }) tag_stays,
                   (
-                    one_stays (record device { select = value % 0x100 }) select_stays,
+                    one_stays (record device { select = value % 0x400 }) select_stays,
                     (
                       one_stays (record device {
                         routes = slice_set device.routes device.select (value % 0x100);

@@ -64,6 +64,7 @@ module _ (w : Walker) (now : Registers) (first : ℕ) (rest : List ℕ) (at : Po
         most_ports = it.most_ports;
         endpoint_ports = it.endpoint_ports;
         switch_id = it.switch_id;
+        switch_large = it.switch_large;
         destinations = it.destinations;
         selected = it.selected;
       }
@@ -101,11 +102,14 @@ module _ (w : Walker) (now : Registers) (first : ℕ) (rest : List ℕ) (at : Po
       most_ports = device.most_ports;
       endpoint_ports = device.endpoint_ports;
       switch_id = device.switch_id;
+      switch_large = device.switch_large;
       destinations = device.destinations;
       selected = device.selected;
     }) node (fits.devices node inside);
     ids = λ node inside. either (λ d. d.base_id < 256) (λ d lock tag small. small) node
         (fits.ids node inside);
+    large_ids = λ node inside. either (λ d. d.large_id < 65536) (λ d lock tag small. small) node
+        (fits.large_ids node inside);
     locks = λ node inside. lock_of node (cases_eq node at.node) inside;
     endpoints = λ node inside none. either (λ d. is_switch d ≡ false) (λ d lock tag same. same)
         node (fits.endpoints node inside none);

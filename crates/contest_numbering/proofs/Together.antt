@@ -181,7 +181,13 @@ rest_only : (old new : registers.Device) → IsSameDevice old new → new ≡ re
 rest_only old new same =
     ap (λ k. record new { kind = k }) same.kind
     ∙ (ap (λ n. record new { kind = old.kind; ports = n }) same.ports
-    ∙ ap (λ l. record new { kind = old.kind; ports = old.ports; linked = l }) same.linked)
+    ∙ (ap (λ l. record new { kind = old.kind; ports = old.ports; linked = l }) same.linked
+    ∙ ap (λ n. record new {
+      kind = old.kind;
+      ports = old.ports;
+      linked = old.linked;
+      large_id = n;
+    }) same.large_id))
 
 pub turns_leave_others : TurnsLeaveOthers
 turns_leave_others both turns begun untagged =

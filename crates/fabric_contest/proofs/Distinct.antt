@@ -4,12 +4,12 @@ use Rattle.std.proofs.lemmas.Bool.{or_parts, eqb-true, eqb-false}
 use Rattle.std.proofs.lemmas.List.{map-append, length-map}
 use Rattle.std.proofs.lemmas.Option.{same_Some, slice_get-map, slice_get-get_or}
 use Rattle.maint_registers.specs.Devices.{Device, is_switch, new_endpoint}
-use Rattle.maint_registers.specs.Changes.{linked_at, routed, defaulted, held_by}
+use Rattle.maint_registers.specs.Changes.{linked_at, routed, defaulted, held_by, large_set}
 use Rattle.maint_registers.proofs.ChangeLaws.{map-with_device}
 use Rattle.fabric_script.specs.declared.known.Node.{Node}
 use Rattle.fabric_script.specs.declared.known.Node.TheVariants.{Endpoint as AnEndpoint, Switch as ASwitch}
 use Rattle.fabric_script.specs.declared.lines.Line.{Line}
-use Rattle.fabric_script.specs.declared.lines.Line.TheVariants.{Endpoint, Switch, Link, Route, Default, Lock}
+use Rattle.fabric_script.specs.declared.lines.Line.TheVariants.{Endpoint, Switch, Link, Route, Default, Lock, Large}
 use Rattle.fabric_script.specs.declared.lines.Numbered.{Numbered}
 use Rattle.fabric_script.specs.declared.reasons.Reason.TheVariants.{IdTaken}
 use Rattle.fabric_script.specs.Lines.{new_name}
@@ -94,6 +94,8 @@ ids_after known devices (Default node p) same =
     map-with_device id_in devices node (defaulted p) (λ d. refl) ∙ same
 ids_after known devices (Lock node id) same =
     map-with_device id_in devices node (held_by id) (λ d. refl) ∙ same
+ids_after known devices (Large node id) same =
+    map-with_device id_in devices node (large_set id) (λ d. refl) ∙ same
 ids_after known devices _ same = same
 
 untaken : (id : ℕ) (taken : Bool) → id ≢ 255 → (not (id == 255) && taken) ≡ false

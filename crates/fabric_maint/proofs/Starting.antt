@@ -4,7 +4,7 @@ use Rattle.std.proofs.lemmas.Option.{slice_get-get_or}
 use Rattle.maint_registers.specs.Devices.{Device, is_switch, new_endpoint}
 use Rattle.fabric_script.specs.declared.ports.PortRef.{PortRef}
 use Rattle.fabric_script.specs.declared.lines.Line.{Line}
-use Rattle.fabric_script.specs.declared.lines.Line.TheVariants.{Endpoint, Switch, Link, Buffers, Route, Default, Lock}
+use Rattle.fabric_script.specs.declared.lines.Line.TheVariants.{Endpoint, Switch, Link, Buffers, Route, Default, Lock, Large}
 use Rattle.fabric_script.specs.declared.lines.Numbered.{Numbered}
 use Rattle.fabric_script.specs.Known.{links_after}
 use Rattle.fabric_script.specs.Peers.{peer_in}
@@ -37,6 +37,7 @@ devices_same net (Buffers port n) = refl
 devices_same net (Route node id p) = refl
 devices_same net (Default node p) = refl
 devices_same net (Lock node id) = refl
+devices_same net (Large node id) = refl
 devices_same net _ = refl
 
 links_same : (net : Network) (line : Line) → (set_up net line).links ≡ links_after net.links line
@@ -47,6 +48,7 @@ links_same net (Buffers port n) = refl
 links_same net (Route node id p) = refl
 links_same net (Default node p) = refl
 links_same net (Lock node id) = refl
+links_same net (Large node id) = refl
 links_same net _ = refl
 
 all_devices_same : (net : Network) (lines : List Numbered)

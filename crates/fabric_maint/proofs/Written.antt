@@ -118,6 +118,9 @@ keeps device port access within = record {
     switch_id = λ kind.
         let was : is_switch device ≡ true = sym (same_kind device (after access) (same access))
         ∙ kind in id access was ∙ is.switch_id was;
+    switch_large = λ kind.
+        let was : is_switch device ≡ true = sym (same_kind device (after access) (same access))
+        ∙ kind in (same access).large_id ∙ is.switch_large was;
     destinations = within.destinations;
     selected = within.select;
   };

@@ -1,5 +1,5 @@
 -- The request that carries an access of a host, and the answer that its response brings.
-use Rattle.std.specs.Prelude.{ℕ, Option, Some, None, if◌then◌else◌}
+use Rattle.std.specs.Prelude.{ℕ, false, Option, Some, None, if◌then◌else◌}
 use Rattle.maint_packets.specs.declared.request.Op.{Op}
 use Rattle.maint_packets.specs.declared.request.Op.TheVariants as Ops
 use Rattle.maint_packets.specs.declared.request.Request.{Request}
@@ -14,12 +14,14 @@ abbrev pub op_of : Access → Op
 op_of (Read offset) = Ops.Read
 op_of (Write offset value) = Ops.Write value
 
--- from an ID, with a transaction number, to a destination behind so many hops; its priority is 0
+-- from an ID, with a transaction number, to a destination behind so many hops; its priority is 0, and its IDs
+-- have eight bits
 abbrev pub request_for : ℕ → ℕ → ℕ → ℕ → Access → Request
 request_for source tid dest hops access = record {
   prio = 0;
   dest = dest;
   source = source;
+  large = false;
   op = op_of access;
   tid = tid;
   hop = hops;

@@ -7,11 +7,13 @@ ghost use Rattle.fabric_maint.specs.Requests.{request_for, word_named, answer_in
 use host_enumerate::{Access, Answer};
 use maint_packets::{Op, Request, Response};
 
-/// The request for an access, with priority 0.
+/// The request for an access, with priority 0 and IDs of eight bits.
 pub(crate) fn request_for(source: u8, tid: u8, dest: u8, hops: u8, access: Access) -> Request
     requires { offset_of access < 2 ^ 24 }
     ensures value { result ≡ request_for source tid dest hops access }
     ensures good { IsGood result.op }
+    ensures dest { result.dest < 256 }
+    ensures source { result.source < 256 }
 {
     let (op, offset) = match access {
         Access::Read(offset) => (Op::Read, offset),
@@ -19,8 +21,9 @@ pub(crate) fn request_for(source: u8, tid: u8, dest: u8, hops: u8, access: Acces
     };
     Request {
         prio: 0,
-        dest,
-        source,
+        dest: u16::from(dest),
+        source: u16::from(source),
+        large: false,
         op,
         tid,
         hop: hops,

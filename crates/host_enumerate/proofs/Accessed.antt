@@ -22,7 +22,7 @@ pub record Keeps (before after : Device) : Type 0 where
 
 keeps_itself : (device : Device) → Keeps device device
 keeps_itself device = record {
-  same = record { kind = refl; ports = refl; linked = refl };
+  same = record { kind = refl; ports = refl; linked = refl; large_id = refl };
   device = λ is. is;
   id = λ is. is;
   lock = λ is. is;
@@ -49,6 +49,8 @@ pub fits-with : (topology : Topology) (registers : Registers) (node : ℕ) (devi
 fits-with topology registers node device fits keeps = record {
   devices = λ other inside. (kept other).device (fits.devices other inside);
   ids = λ other inside. (kept other).id (fits.ids other inside);
+  large_ids = λ other inside. subst (λ n. n < 65536) (sym (kept other).same.large_id)
+      (fits.large_ids other inside);
   locks = λ other inside. (kept other).lock (fits.locks other inside);
   endpoints = λ other inside is. is_switch-same (registers other) (after other) (kept other).same
       ∙ fits.endpoints other inside is;

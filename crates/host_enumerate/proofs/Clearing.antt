@@ -33,7 +33,7 @@ cleared-none host_id device = record {
   kept = λ id most. refl;
 }
 
-pub cleared-next : (host_id below : ℕ) (old new : Device) → length old.routes ≡ 256 → below < 63
+pub cleared-next : (host_id below : ℕ) (old new : Device) → length old.routes ≡ 1024 → below < 63
     → IsCleared host_id below old new
     → IsCleared host_id (below + 1) old (with_entry new below 255)
 cleared-next host_id below old new destinations less cleared = record {
@@ -82,10 +82,10 @@ cleared-past host_id below old new is cleared = record {
 pub is_switch-kind : (one other : Device) → one.kind ≡ other.kind → is_switch one ≡ is_switch other
 is_switch-kind one other same = ap (λ k. is_switch (record one { kind = k })) same
 
--- every device has 256 destinations
+-- every device has 1,024 destinations
 pub destinations_of : (topology : Topology) (registers : Registers) (path : List ℕ)
     (at : PortRef) → IsTopology topology → Fits topology registers
-    → entered topology path ≡ Some at → length (registers at.node).routes ≡ 256
+    → entered topology path ≡ Some at → length (registers at.node).routes ≡ 1024
 destinations_of topology registers path at proper fits enters =
     (fits.devices at.node (entered-inside topology path at proper enters)).destinations
 

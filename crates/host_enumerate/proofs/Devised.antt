@@ -1,20 +1,20 @@
 -- What set-up lines of a script that passes make, line by line.
-use Rattle.std.proofs.Common.{◌≡◌, ◌≢◌, ℕ, zero, suc, ◌+◌, ◌<◌, ◌≤◌, ◌||◌, nat_le, nat_lt, Bool, true, false, List, [], ◌∷◌, ◌++◌, map, length, length-append, Option, Some, None, is_some, append-nil, ◌&&◌, if◌then◌else◌, arith, refl, sym, ap, subst, ◌∙◌}
+use Rattle.std.proofs.Common.{◌≡◌, ◌≢◌, ℕ, zero, suc, ◌+◌, ◌<◌, ◌≤◌, ◌||◌, nat_le, nat_lt, Bool, true, false, List, [], ◌∷◌, ◌++◌, map, length, length-append, slice_get, Option, Some, None, is_some, append-nil, ◌&&◌, if◌then◌else◌, arith, refl, sym, ap, subst, ◌∙◌}
 use Rattle.std.proofs.lemmas.Bool.{or_parts, false≢true}
 use Rattle.std.proofs.lemmas.Bool.Decides.{nat_tests}
 use Rattle.std.proofs.lemmas.List.{map-append, length-map}
 use Rattle.std.proofs.lemmas.List.Folds.{list_any-append}
 use Rattle.std.proofs.lemmas.Option.{same_Some}
 use Rattle.maint_registers.specs.Devices.{Device, is_switch, new_endpoint, new_switch, with_link}
-use Rattle.maint_registers.specs.Changes.{with_device, linked_at, routed, defaulted, held_by}
+use Rattle.maint_registers.specs.Changes.{with_device, linked_at, routed, defaulted, held_by, large_set}
 use Rattle.maint_registers.proofs.ChangeLaws.{map-with_device}
 use Rattle.fabric_script.specs.declared.ports.PortRef.{PortRef}
 use Rattle.fabric_script.specs.declared.known.Node.{Node}
 use Rattle.fabric_script.specs.declared.known.Node.TheVariants.{Endpoint as AnEndpoint, Switch as ASwitch}
 use Rattle.fabric_script.specs.declared.lines.Line.{Line}
-use Rattle.fabric_script.specs.declared.lines.Line.TheVariants.{Endpoint, Switch, Link, Route, Default, Lock}
+use Rattle.fabric_script.specs.declared.lines.Line.TheVariants.{Endpoint, Switch, Link, Route, Default, Lock, Large}
 use Rattle.fabric_script.specs.declared.lines.Numbered.{Numbered}
-use Rattle.fabric_script.specs.declared.reasons.Reason.TheVariants.{PortTaken, TooMuchWork}
+use Rattle.fabric_script.specs.declared.reasons.Reason.TheVariants.{PortTaken, WrongKind, TooMuchWork}
 use Rattle.fabric_script.specs.Lines.{new_name}
 use Rattle.fabric_script.specs.Refusals.{makes_node, counts_work}
 use Rattle.fabric_script.specs.Known.{Known, of_script, nothing, known_after, names_after, nodes_after, cost_of, node_ports, ports_of, node_is_switch, same_port, is_linked}
@@ -24,7 +24,7 @@ use Rattle.fabric_script.specs.Scripts.{PassesFrom}
 use Rattle.fabric_script.proofs.PeerLaws.{port_is, same_port-refl, peer-linked, peer-before, peer-behind}
 use Rattle.fabric_map.specs.Topology.{port_at}
 use Rattle.host_enumerate.specs.Devised.{with_linked_end, devices_after, devices_after_all, links_after_all}
-use Rattle.host_enumerate.proofs.NewDevices.{IsNew, AreNew, new_endpoint_is, new_switch_is, routed_is, defaulted_is, held_by_is, also, are_changed, are_linked, are_longer, are_as}
+use Rattle.host_enumerate.proofs.NewDevices.{IsNew, AreNew, new_endpoint_is, new_switch_is, routed_is, defaulted_is, held_by_is, large_set_is, kind_known, also, are_changed, are_linked, are_longer, are_as}
 
 -- ---- what is known of earlier lines, and what they make
 
@@ -58,29 +58,39 @@ made_by _ = []
 
 -- kind and ports stay of all, and a new device stands behind them
 viewed : {A : Type 0} (view : Device → A)
-    → ((device : Device) (linked : ℕ) (routes : List ℕ) (port lock : ℕ)
-    → view (record device { linked = linked; routes = routes; default_port = port; lock = lock })
-    ≡ view device)
+    → ((device : Device) (linked large : ℕ) (routes : List ℕ) (port lock : ℕ)
+    → view (record device {
+      linked = linked;
+      large_id = large;
+      routes = routes;
+      default_port = port;
+      lock = lock;
+    }) ≡ view device)
     → (devices : List Device) (line : Line)
     → map view (devices_after devices line) ≡ map view devices ++ map view (made_by line)
 viewed view same devices (Endpoint name id) = map-append view devices _
 viewed view same devices (Switch name ports) = map-append view devices _
 viewed view same devices (Link a b) =
     map-with_device view (with_linked_end devices a) b.node (linked_at b.port)
-    (λ d. same d (with_link d.linked b.port) d.routes d.default_port d.lock)
+    (λ d. same d (with_link d.linked b.port) d.large_id d.routes d.default_port d.lock)
     ∙ map-with_device view devices a.node (linked_at a.port)
-    (λ d. same d (with_link d.linked a.port) d.routes d.default_port d.lock)
+    (λ d. same d (with_link d.linked a.port) d.large_id d.routes d.default_port d.lock)
     ∙ sym (append-nil (map view devices))
 viewed view same devices (Route node id p) =
     map-with_device view devices node (routed id p)
-    (λ d. same d d.linked (routed id p d).routes d.default_port d.lock)
+    (λ d. same d d.linked d.large_id (routed id p d).routes d.default_port d.lock)
     ∙ sym (append-nil (map view devices))
 viewed view same devices (Default node p) =
-    map-with_device view devices node (defaulted p) (λ d. same d d.linked d.routes p d.lock)
+    map-with_device view devices node (defaulted p)
+    (λ d. same d d.linked d.large_id d.routes p d.lock)
     ∙ sym (append-nil (map view devices))
 viewed view same devices (Lock node id) =
     map-with_device view devices node (held_by id)
-    (λ d. same d d.linked d.routes d.default_port id)
+    (λ d. same d d.linked d.large_id d.routes d.default_port id)
+    ∙ sym (append-nil (map view devices))
+viewed view same devices (Large node id) =
+    map-with_device view devices node (large_set id)
+    (λ d. same d d.linked id d.routes d.default_port d.lock)
     ∙ sym (append-nil (map view devices))
 viewed view same devices _ = sym (append-nil (map view devices))
 
@@ -168,10 +178,10 @@ module _ (known : Known) (new : List ℕ) (devices : List Device) (stage : Stage
     mode = stage.mode;
     count = count-made known new line stage.count;
     few = few;
-    kinds = viewed is_switch (λ device linked routes port lock. refl) devices line
+    kinds = viewed is_switch (λ device linked large routes port lock. refl) devices line
         ∙ (ap (λ kinds. kinds ++ map is_switch (made_by line)) stage.kinds
         ∙ kinds-made known line);
-    ports = viewed count_ports (λ device linked routes port lock. refl) devices line
+    ports = viewed count_ports (λ device linked large routes port lock. refl) devices line
         ∙ (ap (λ ports. ports ++ map count_ports (made_by line)) stage.ports
         ∙ ports-made known line);
     are = are;
@@ -298,12 +308,13 @@ module _ (known : Known) (new : List ℕ) (devices : List Device) (stage : Stage
 
   -- one device is changed
   are_with : (n : ℕ) (change : Device → Device)
-      → ((held : Device) → IsNew (λ p. is_linked known.links p) n held
+      → ((held : Device) → slice_get devices n ≡ Some held
+      → IsNew (λ p. is_linked known.links p) n held
       → IsNew (λ p. is_linked known.links p) n (change held))
       → AreNew (λ p. is_linked known.links p) (with_device devices n change)
   are_with n change here =
       are_changed (λ p. is_linked known.links p) (λ p. is_linked known.links p) devices n change
-      (λ held stands is. here held is) (λ node held apart is. is) stage.are
+      here (λ node held apart is. is) stage.are
 
   -- what one more line makes
   pub stage_after : (line : Line) → MayBe known new line → IsFree known line
@@ -334,14 +345,21 @@ module _ (known : Known) (new : List ℕ) (devices : List Device) (stage : Stage
       (end_is b may.fit.1.0.0 may.fit.1.0.2) parts.0 (no_peer a taken.0) (no_peer b taken.1))
   stage_after (Route node id p) may free =
       same_known (Route node id p) refl refl refl (are_with node (routed id p)
-      (λ held is. routed_is (λ q. is_linked known.links q) node held is id p))
+      (λ held stands is. routed_is (λ q. is_linked known.links q) node held is id p))
   stage_after (Default node p) may free =
       same_known (Default node p) refl refl refl (are_with node (defaulted p)
-      (λ held is. defaulted_is (λ q. is_linked known.links q) node held is p))
+      (λ held stands is. defaulted_is (λ q. is_linked known.links q) node held is p))
   stage_after (Lock node id) may free =
       let most = may.fit.1.0.1 in
       same_known (Lock node id) refl refl refl (are_with node (held_by id)
-      (λ held is. held_by_is (λ q. is_linked known.links q) node held is id (omega (arith, most))))
+      (λ held stands is. held_by_is (λ q. is_linked known.links q) node held is id
+      (omega (arith, most))))
+  stage_after (Large node id) may free =
+      let most = may.fit.1.0.1 in
+      same_known (Large node id) refl refl refl (are_with node (large_set id)
+      (λ held stands is. large_set_is (λ q. is_linked known.links q) node held id
+      (omega (arith, most))
+      (kind_known devices known.nodes node held stage.kinds stands ∙ free WrongKind) is))
   stage_after line may free = same_known line refl refl refl stage.are
 
 -- what all lines make

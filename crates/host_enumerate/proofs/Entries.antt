@@ -57,7 +57,7 @@ askable-written topology old new host_id path at held askable becomes apart keep
 pub selectable : (topology : Topology) (registers : Registers) (path : List ℕ) (at : PortRef)
     (value : ℕ) → is_switch (registers at.node) ≡ true → IsApart topology path at.node
     → IsWritable topology registers path at 0x70 value
-    (record (registers at.node) { select = value % 0x100 })
+    (record (registers at.node) { select = value % 0x400 })
 selectable topology registers path at value is apart = record {
   written = select-written (registers at.node) value is;
   apart = apart;
@@ -77,13 +77,13 @@ settable topology registers path at value is apart = record {
 
 pub entry-set : (old mid new : Registers) (node id port id_value port_value : ℕ)
     → id_value ≡ id → port_value ≡ port → id < 256 → port < 256
-    → Becomes old mid node (record (old node) { select = id_value % 0x100 })
+    → Becomes old mid node (record (old node) { select = id_value % 0x400 })
     → Becomes mid new node (record (mid node) {
       routes = slice_set (mid node).routes (mid node).select (port_value % 0x100);
     })
     → Becomes old new node (with_entry (old node) id port)
 entry-set old mid new node id port id_value port_value is_id is_port id_fits port_fits one two =
-    becomes-twice old mid new node (record (old node) { select = id_value % 0x100 })
+    becomes-twice old mid new node (record (old node) { select = id_value % 0x400 })
     (with_entry (old node) id port) one
     (subst (λ d. Becomes mid new node d) same two)
   where
@@ -93,15 +93,15 @@ entry-set old mid new node id port id_value port_value is_id is_port id_fits por
     same =
         ap (λ (d : Device). record d {
           routes = slice_set d.routes d.select (port_value % 0x100);
-        }) (became old mid node (record (old node) { select = id_value % 0x100 }) one)
+        }) (became old mid node (record (old node) { select = id_value % 0x400 }) one)
         ∙ (ap (λ n. record (old node) {
           select = n;
           routes = slice_set (old node).routes n (port_value % 0x100);
         }) selected
         ∙ ap (λ n. with_entry (old node) id n) sent)
       where
-        selected : id_value % 0x100 ≡ id
-        selected = ap (λ n. n % 0x100) is_id ∙ omega (arith, id_fits)
+        selected : id_value % 0x400 ≡ id
+        selected = ap (λ n. n % 0x400) is_id ∙ omega (arith, id_fits)
 
         sent : port_value % 0x100 ≡ port
         sent = ap (λ n. n % 0x100) is_port ∙ omega (arith, port_fits)
@@ -115,16 +115,16 @@ Leaves topology old new path offset value = (at : PortRef) (held : Device)
 pub selected : (topology : Topology) (old new : Registers) (path : List ℕ) (at : PortRef)
     (value : ℕ) → Leaves topology old new path 0x70 value → entered topology path ≡ Some at
     → is_switch (old at.node) ≡ true
-    → Becomes old new at.node (record (old at.node) { select = value % 0x100 })
+    → Becomes old new at.node (record (old at.node) { select = value % 0x400 })
 selected topology old new path at value leaves leads is =
-    leaves at (record (old at.node) { select = value % 0x100 }) leads
+    leaves at (record (old at.node) { select = value % 0x400 }) leads
     (select-written (old at.node) value is)
 
 pub still_switch : (old new : Registers) (node value : ℕ) → is_switch (old node) ≡ true
-    → Becomes old new node (record (old node) { select = value % 0x100 })
+    → Becomes old new node (record (old node) { select = value % 0x400 })
     → is_switch (new node) ≡ true
 still_switch old new node value is becomes =
-    ap is_switch (became old new node (record (old node) { select = value % 0x100 }) becomes) ∙ is
+    ap is_switch (became old new node (record (old node) { select = value % 0x400 }) becomes) ∙ is
 
 -- the two writes that set an entry
 pub entry-left : (topology : Topology) (old mid new : Registers) (path : List ℕ) (at : PortRef)

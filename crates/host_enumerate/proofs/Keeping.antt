@@ -22,7 +22,7 @@ use Rattle.fabric_map.proofs.Few.{entered-port}
 
 -- the next ports of a switch
 module _ (device : registers.Device) (is_switch : registers.is_switch device ≡ true)
-    (few : device.ports ≤ 16) (all : length device.routes ≡ 256) where
+    (few : device.ports ≤ 16) (all : length device.routes ≡ 1024) where
   -- an entry for 255 is where the host's requests go
   pub next-with_entry : (dest port : ℕ) → dest < 256 → port < device.ports
       → next_port (with_entry device dest port) dest ≡ Some port

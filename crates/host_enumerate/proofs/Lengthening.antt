@@ -126,7 +126,7 @@ module _ (host_id : ℕ) (devices : List Device) (device member : Device)
   -- on the way to a new endpoint
   pub held-passed : (given port : ℕ) → device.kind ≡ Endpoint given
       → is_given devices given ≡ false → toward member.path device.path ≡ Some port
-      → given < 63 → given ≢ host_id → length now.routes ≡ 256
+      → given < 63 → given ≢ host_id → length now.routes ≡ 1024
       → IsHeld host_id (devices ++ device ∷ []) member before (with_entry now given port)
   held-passed given port is free leads few other all = record {
     marked = record {

@@ -1,15 +1,14 @@
 -- What is left of the lines of a script while they are taken in one by one.
-use Rattle.std.proofs.Common.{◌≡◌, ℕ, zero, suc, ◌+◌, ◌<◌, ◌≤◌, Bool, true, false, not, List, [], ◌∷◌, map, length, get_or, drop, slice_get, Some, option_map, arith, refl, sym, ap, subst, ◌∙◌}
+use Rattle.std.proofs.Common.{◌≡◌, ℕ, suc, ◌+◌, ◌<◌, ◌≤◌, Bool, true, false, not, List, [], ◌∷◌, length, get_or, drop, Some, arith, refl, sym, ap, subst, ◌∙◌}
 use Rattle.std.proofs.Math.Seq.{drop-cons}
 use Rattle.std.proofs.lemmas.Bool.{true≢false}
 use Rattle.std.proofs.lemmas.List.{length-map}
 use Rattle.std.proofs.Math.ListN.{drop_of_length-le}
-use Rattle.std.proofs.lemmas.Option.{same_Some, slice_get-map, slice_get-get_or}
+use Rattle.std.proofs.lemmas.Option.{slice_get-get_or}
 use Rattle.maint_registers.specs.Devices.{Device, is_switch, new_endpoint}
 use Rattle.fabric_script.specs.declared.ports.PortRef.{PortRef}
-use Rattle.fabric_script.specs.declared.known.Node.{Node}
 use Rattle.fabric_script.specs.declared.lines.Line.{Line}
-use Rattle.fabric_script.specs.declared.lines.Line.TheVariants.{Switch, Link, Route, Default, Lock}
+use Rattle.fabric_script.specs.declared.lines.Line.TheVariants.{Switch, Link, Route, Default, Lock, Large}
 use Rattle.fabric_script.specs.declared.lines.Numbered.{Numbered}
 use Rattle.fabric_script.specs.declared.reasons.Reason.TheVariants.{WrongKind}
 use Rattle.fabric_script.specs.Lines.{new_name}
@@ -18,6 +17,7 @@ use Rattle.fabric_script.specs.Reading.{MayBe, IsFree}
 use Rattle.fabric_script.specs.Scripts.{PassesFrom, Passes}
 use Rattle.fabric_map.specs.Plain.{registers_of}
 use Rattle.host_enumerate.specs.Devised.{MayDevise, devices_after, devices_after_all, links_after_all, devices_of, links_of}
+use Rattle.host_enumerate.proofs.NewDevices.{kind_known}
 use Rattle.host_enumerate.proofs.Devised.{Stage, stage_after, first_stage}
 
 not_not : (t : Bool) → not t ≡ false → t ≡ true
@@ -33,25 +33,16 @@ module _ (known : Known) (new : List ℕ) (devices : List Device) (stage : Stage
       ∙ length-map known.nodes (λ node. node_is_switch (Some node))) in
       omega (arith, inside, count, kinds)
 
+  kind_there : (n : ℕ) → n < length known.names
+      → is_switch (registers_of devices n) ≡ is_known_switch known.nodes n
+  kind_there n inside =
+      kind_known devices known.nodes n (registers_of devices n) stage.kinds
+      (slice_get-get_or devices n (new_endpoint 0 false) (node_there n inside))
+
   switch_there : (n : ℕ) → n < length known.names → not (is_known_switch known.nodes n) ≡ false
       → is_switch (registers_of devices n) ≡ true
   switch_there n inside own =
-      same_Some (is_switch (registers_of devices n)) (is_known_switch known.nodes n)
-      (sym (ap (option_map is_switch)
-      (slice_get-get_or devices n (new_endpoint 0 false) (node_there n inside)))
-      ∙ (sym (slice_get-map is_switch devices n)
-      ∙ (ap (λ kinds. slice_get kinds n) stage.kinds ∙ at known.nodes n known_inside)))
-      ∙ not_not (is_known_switch known.nodes n) own
-    where
-      known_inside : n < length known.nodes
-      known_inside = let count = stage.count in omega (arith, inside, count)
-
-      at : (nodes : List Node) (n : ℕ) → n < length nodes
-          → slice_get (map (λ node. node_is_switch (Some node)) nodes) n
-          ≡ Some (is_known_switch nodes n)
-      at [] n less = absurd (omega (arith, less))
-      at (node ∷ nodes) zero less = refl
-      at (node ∷ nodes) (suc n) less = at nodes n (omega (arith, less))
+      kind_there n inside ∙ not_not (is_known_switch known.nodes n) own
 
   may_devise : (line : Line) → MayBe known new line → IsFree known line → MayDevise devices line
   may_devise (Switch name ports) may free = may.fit.1.0
@@ -62,10 +53,16 @@ module _ (known : Known) (new : List ℕ) (devices : List Device) (stage : Stage
     may.fit.1.0.1,
   )
   may_devise (Route node id p) may free =
-      (node_there node may.fit.0, switch_there node may.fit.0 (free WrongKind))
+      let most = may.fit.1.0.1 in (
+        node_there node may.fit.0,
+        switch_there node may.fit.0 (free WrongKind),
+        omega (arith, most),
+      )
   may_devise (Default node p) may free =
       (node_there node may.fit.0, switch_there node may.fit.0 (free WrongKind))
   may_devise (Lock node id) may free = node_there node may.fit.0
+  may_devise (Large node id) may free =
+      (node_there node may.fit.0, kind_there node may.fit.0 ∙ free WrongKind)
   may_devise _ may free = tt
 
 -- Some lines are taken in. What they made, with the lines that are left, makes what all make.

@@ -1,15 +1,16 @@
 -- Devices of a fabric that is set up: what they are, and what stays of it when one of them is changed.
-use Rattle.std.proofs.Common.{◌≡◌, ◌≢◌, ℕ, zero, suc, ◌/◌, ◌%◌, ◌^◌, ◌<◌, ◌≤◌, ◌||◌, Bool, true, false, List, [], ◌∷◌, ◌++◌, length, length-set, slice_get, Option, Some, None, option_map, if◌then◌else◌, arith, ◌⊎◌, inl, inr, refl, sym, ap, subst, ◌∙◌}
+use Rattle.std.proofs.Common.{◌≡◌, ◌≢◌, ℕ, zero, suc, ◌/◌, ◌%◌, ◌^◌, ◌<◌, ◌≤◌, ◌||◌, Bool, true, false, List, [], ◌∷◌, ◌++◌, map, length, length-set, slice_get, Option, Some, None, option_map, if◌then◌else◌, arith, ◌⊎◌, inl, inr, refl, sym, ap, subst, ◌∙◌}
 use Rattle.std.proofs.Math.Nat.{zero-div}
 use Rattle.std.proofs.lemmas.Bool.{cases_eq, cases_Bool}
-use Rattle.std.proofs.lemmas.Option.{same_Some}
-use Rattle.maint_registers.specs.Devices.{Device, IsDevice, new_endpoint, new_switch, with_link}
-use Rattle.maint_registers.specs.Changes.{with_device, linked_at, routed, defaulted, held_by}
+use Rattle.std.proofs.lemmas.Option.{same_Some, slice_get-map}
+use Rattle.maint_registers.specs.Devices.{Device, IsDevice, is_switch, new_endpoint, new_switch, with_link}
+use Rattle.maint_registers.specs.Changes.{with_device, linked_at, routed, defaulted, held_by, large_set}
 use Rattle.maint_registers.proofs.ChangeLaws.{device-changed, device-kept}
 use Rattle.maint_registers.proofs.LinkLaws.{bit_set, bit_others}
 use Rattle.maint_registers.proofs.WithinLaws.{no_routes_long}
 use Rattle.fabric_script.specs.declared.ports.PortRef.{PortRef}
-use Rattle.fabric_script.specs.Known.{same_port}
+use Rattle.fabric_script.specs.declared.known.Node.{Node}
+use Rattle.fabric_script.specs.Known.{same_port, node_is_switch, is_switch as is_known_switch}
 use Rattle.fabric_script.proofs.PeerLaws.{port_is, same_port-refl}
 use Rattle.fabric_map.specs.Topology.{port_at}
 use Rattle.host_enumerate.specs.Devised.{with_linked_end}
@@ -20,6 +21,7 @@ use Rattle.host_enumerate.specs.Devised.{with_linked_end}
 pub record IsNew (linked : PortRef → Bool) (node : ℕ) (held : Device) : Type 0 where
   pub device : IsDevice held
   pub id : held.base_id < 256
+  pub large_id : held.large_id < 65536
   pub lock : held.lock < 65536
   pub tag : held.tag ≡ 0
   pub shown : (port : ℕ) → port < held.ports
@@ -41,10 +43,12 @@ new_endpoint_is linked node id below none = record {
     most_ports = omega arith;
     endpoint_ports = λ is. refl;
     switch_id = λ is. absurd (cc);
+    switch_large = λ is. absurd (cc);
     destinations = no_routes_long;
     selected = omega arith;
   };
   id = below;
+  large_id = omega arith;
   lock = omega arith;
   tag = refl;
   shown = λ port less. rw (none port) (bit_none port);
@@ -57,10 +61,12 @@ new_switch_is linked node ports most none = record {
     most_ports = most;
     endpoint_ports = λ is. absurd (cc);
     switch_id = λ is. refl;
+    switch_large = λ is. refl;
     destinations = no_routes_long;
     selected = omega arith;
   };
   id = omega arith;
+  large_id = omega arith;
   lock = omega arith;
   tag = refl;
   shown = λ port less. rw (none port) (bit_none port);
@@ -73,10 +79,12 @@ module _ (linked : PortRef → Bool) (node : ℕ) (held : Device) (is : IsNew li
       most_ports = is.device.most_ports;
       endpoint_ports = is.device.endpoint_ports;
       switch_id = is.device.switch_id;
+      switch_large = is.device.switch_large;
       destinations = length-set held.routes id port ∙ is.device.destinations;
       selected = is.device.selected;
     };
     id = is.id;
+    large_id = is.large_id;
     lock = is.lock;
     tag = is.tag;
     shown = is.shown;
@@ -88,10 +96,12 @@ module _ (linked : PortRef → Bool) (node : ℕ) (held : Device) (is : IsNew li
       most_ports = is.device.most_ports;
       endpoint_ports = is.device.endpoint_ports;
       switch_id = is.device.switch_id;
+      switch_large = is.device.switch_large;
       destinations = is.device.destinations;
       selected = is.device.selected;
     };
     id = is.id;
+    large_id = is.large_id;
     lock = is.lock;
     tag = is.tag;
     shown = is.shown;
@@ -103,14 +113,38 @@ module _ (linked : PortRef → Bool) (node : ℕ) (held : Device) (is : IsNew li
       most_ports = is.device.most_ports;
       endpoint_ports = is.device.endpoint_ports;
       switch_id = is.device.switch_id;
+      switch_large = is.device.switch_large;
       destinations = is.device.destinations;
       selected = is.device.selected;
     };
     id = is.id;
+    large_id = is.large_id;
     lock = below;
     tag = is.tag;
     shown = is.shown;
   }
+
+-- an endpoint has the ID
+large_of : (held : Device) (id : ℕ) → is_switch held ≡ false → is_switch held ≡ true → id ≡ 0
+large_of held id endpoint switch = absurd (cc)
+
+pub large_set_is : (linked : PortRef → Bool) (node : ℕ) (held : Device) (id : ℕ) → id < 65536
+    → is_switch held ≡ false → IsNew linked node held → IsNew linked node (large_set id held)
+large_set_is linked node held id below endpoint is = record {
+  device = record {
+    most_ports = is.device.most_ports;
+    endpoint_ports = is.device.endpoint_ports;
+    switch_id = is.device.switch_id;
+    switch_large = large_of held id endpoint;
+    destinations = is.device.destinations;
+    selected = is.device.selected;
+  };
+  id = is.id;
+  large_id = below;
+  lock = is.lock;
+  tag = is.tag;
+  shown = is.shown;
+}
 
 -- another port with a link
 abbrev pub also : (PortRef → Bool) → PortRef → PortRef → Bool
@@ -141,10 +175,12 @@ linked_at_is linked a held is = record {
     most_ports = is.device.most_ports;
     endpoint_ports = is.device.endpoint_ports;
     switch_id = is.device.switch_id;
+    switch_large = is.device.switch_large;
     destinations = is.device.destinations;
     selected = is.device.selected;
   };
   id = is.id;
+  large_id = is.large_id;
   lock = is.lock;
   tag = is.tag;
   shown = λ port less. at port less (cases_eq port a.port);
@@ -169,6 +205,7 @@ also_elsewhere : (linked : PortRef → Bool) (a : PortRef) (node : ℕ) (held : 
 also_elsewhere linked a node held apart is = record {
   device = is.device;
   id = is.id;
+  large_id = is.large_id;
   lock = is.lock;
   tag = is.tag;
   shown = λ port less. is.shown port less
@@ -177,6 +214,28 @@ also_elsewhere linked a node held apart is = record {
 }
 
 -- ---- several devices
+
+-- a device is a switch if the node of its line is one
+pub kind_known : (devices : List Device) (nodes : List Node) (n : ℕ) (held : Device)
+    → map is_switch devices ≡ map (λ node. node_is_switch (Some node)) nodes
+    → slice_get devices n ≡ Some held → is_switch held ≡ is_known_switch nodes n
+kind_known devices nodes n held kinds stands = go (slice_get nodes n) refl
+  where
+    same : Some (is_switch held)
+        ≡ option_map (λ node. node_is_switch (Some node)) (slice_get nodes n)
+    same =
+        ap (option_map is_switch) (sym stands)
+        ∙ (sym (slice_get-map is_switch devices n)
+        ∙ (ap (λ all. slice_get all n) kinds
+        ∙ slice_get-map (λ node. node_is_switch (Some node)) nodes n))
+
+    go : (o : Option Node) → slice_get nodes n ≡ o → is_switch held ≡ is_known_switch nodes n
+    go None is = absurd (let none = same
+        ∙ ap (option_map (λ node. node_is_switch (Some node))) is in cc)
+    go (Some node) is =
+        same_Some (is_switch held) (node_is_switch (Some node))
+        (same ∙ ap (option_map (λ node. node_is_switch (Some node))) is)
+        ∙ ap (λ o. node_is_switch o) (sym is)
 
 -- one of them is changed
 pub are_changed : (linked now : PortRef → Bool) (devices : List Device) (n : ℕ)
@@ -241,6 +300,7 @@ are_as linked now devices same are node held stands =
     record {
       device = is.device;
       id = is.id;
+      large_id = is.large_id;
       lock = is.lock;
       tag = is.tag;
       shown = λ port less. is.shown port less

@@ -138,6 +138,7 @@ module _ (end : Known) (devices : List Device) (host : ℕ) (stage : Stage end d
   fits = record {
     devices = λ node within. (is_new node within).device;
     ids = λ node within. (is_new node within).id;
+    large_ids = λ node within. (is_new node within).large_id;
     locks = λ node within. (is_new node within).lock;
     endpoints = λ node within is. endpoint_of (registers_of devices node)
         (sym (kind_at node within) ∙ is);

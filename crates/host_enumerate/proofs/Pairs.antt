@@ -70,7 +70,8 @@ new_endpoint-device id = record {
   most_ports = omega arith;
   endpoint_ports = λ is. refl;
   switch_id = λ is. absurd (cc);
-  destinations = length-replicate {A = ℕ} 256 255;
+  switch_large = λ is. absurd (cc);
+  destinations = length-replicate {A = ℕ} 1024 255;
   selected = omega arith;
 }
 
@@ -95,6 +96,8 @@ pair-fits = record {
   devices = both (λ node. IsDevice (registers_of pair_devices node)) (new_endpoint-device 5)
       (new_endpoint-device 255);
   ids = both (λ node. (registers_of pair_devices node).base_id < 256) (omega arith) (omega arith);
+  large_ids = both (λ node. (registers_of pair_devices node).large_id < 65536) (omega arith)
+      (omega arith);
   locks = both (λ node. (registers_of pair_devices node).lock < 65536) (omega arith)
       (omega arith);
   endpoints = both (λ node. (topology_of pair_devices pair_links 0).switch_ports node ≡ None

@@ -16,13 +16,13 @@ use Rattle.host_enumerate.proofs.Holders.{askable-same}
 
 pub features_answer : (device : Device) (port : ℕ) → IsSome (value_at device 0x10 port)
 features_answer device port =
-    some_from_same (value_at device 0x10 port) (if is_switch device then 0x10000108 else 0x8)
+    some_from_same (value_at device 0x10 port) (if is_switch device then 0x10000118 else 0x18)
     (features-read device port)
 
 features_are : (device : Device) (port features : ℕ) → value_at device 0x10 port ≡ Some features
-    → features ≡ (if is_switch device then 0x10000108 else 0x8)
+    → features ≡ (if is_switch device then 0x10000118 else 0x18)
 features_are device port features told =
-    same_Some features (if is_switch device then 0x10000108 else 0x8)
+    same_Some features (if is_switch device then 0x10000118 else 0x18)
     (sym told ∙ features-read device port)
 
 pub is_endpoint : (device : Device) (port features : ℕ) → value_at device 0x10 port ≡ Some features
@@ -31,7 +31,7 @@ is_endpoint device port features told none = go (is_switch device) refl
     (ap (λ n. bit_and n 0x10000000) (sym (features_are device port features told)) ∙ none)
   where
     go : (is : Bool) → is_switch device ≡ is
-        → bit_and (if is then 0x10000108 else 0x8) 0x10000000 ≡ 0 → is_switch device ≡ false
+        → bit_and (if is then 0x10000118 else 0x18) 0x10000000 ≡ 0 → is_switch device ≡ false
     go true is bits = absurd (cc)
     go false is bits = is
 
@@ -41,7 +41,7 @@ is_a_switch device port features told some = go (is_switch device) refl
     (λ none. some (ap (λ n. bit_and n 0x10000000) (features_are device port features told) ∙ none))
   where
     go : (is : Bool) → is_switch device ≡ is
-        → bit_and (if is then 0x10000108 else 0x8) 0x10000000 ≢ 0 → is_switch device ≡ true
+        → bit_and (if is then 0x10000118 else 0x18) 0x10000000 ≢ 0 → is_switch device ≡ true
     go true is bits = is
     go false is bits = absurd (bits refl)
 

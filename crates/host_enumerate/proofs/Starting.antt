@@ -1,5 +1,5 @@
 -- A walk begins with the host and its neighbour.
-use Rattle.std.proofs.Common.{◌≡◌, ◌≢◌, ℕ, ◌<◌, ◌*◌, ◌/◌, inr, List, [], ◌∷◌, ◌++◌, Contains, Option, Some, None, IsSome, arith, refl, sym, subst, ◌∙◌}
+use Rattle.std.proofs.Common.{◌≡◌, ◌+◌, ◌≢◌, ℕ, ◌<◌, ◌*◌, ◌/◌, inr, List, [], ◌∷◌, ◌++◌, Contains, Option, Some, None, IsSome, arith, refl, sym, subst, ◌∙◌}
 use Rattle.std.proofs.lemmas.List.Elements.{Contains-push}
 use Rattle.std.proofs.lemmas.Option.{same_Some}
 use Rattle.fabric_script.specs.declared.ports.PortRef.{PortRef}
@@ -68,17 +68,21 @@ pub own_answers : (topology : Topology) (registers : Registers) → IsTopology t
     → Fits topology registers → IsSome (value_at (registers topology.host) 0x60 0)
 own_answers topology registers proper fits =
     some_from_same (value_at (registers topology.host) 0x60 0)
-    ((registers topology.host).base_id * 0x10000)
+    ((registers topology.host).base_id * 0x10000 + (registers topology.host).large_id)
     (base_id-read (registers topology.host) 0
     (fits.endpoints topology.host proper.host proper.host_is_endpoint))
 
 pub own_id : (topology : Topology) (registers : Registers) (value : ℕ) → IsTopology topology
     → Fits topology registers → value_at (registers topology.host) 0x60 0 ≡ Some value
     → value / 65536 ≡ (registers topology.host).base_id
-own_id topology registers value proper fits told = omega (arith, same)
+own_id topology registers value proper fits told =
+    omega (arith, same, fits.large_ids topology.host proper.host)
   where
-    same : value ≡ (registers topology.host).base_id * 0x10000
-    same = same_Some value ((registers topology.host).base_id * 0x10000)
+    shown : ℕ
+    shown = (registers topology.host).base_id * 0x10000 + (registers topology.host).large_id
+
+    same : value ≡ shown
+    same = same_Some value shown
         (sym told ∙ base_id-read (registers topology.host) 0
         (fits.endpoints topology.host proper.host proper.host_is_endpoint))
 

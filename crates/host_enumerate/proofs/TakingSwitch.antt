@@ -119,11 +119,13 @@ module _ (topology : Topology) (before now after : Registers) (host_id next : �
             kind = d.kind;
             ports = d.ports;
             linked = d.linked;
+            large_id = d.large_id;
           }) set_up.same.rest
               ∙ ap (λ (d : registers.Device). record (after at.node) {
                 kind = d.kind;
                 ports = d.ports;
                 linked = d.linked;
+                large_id = d.large_id;
               }) taken.changes.rest;
           routes = λ id most less apart.
               set_up.kept id most (λ same.

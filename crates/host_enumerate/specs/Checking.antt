@@ -50,6 +50,7 @@ pub record IsNewDevice (links : List (PortRef × PortRef)) (node : ℕ) (held : 
     : Type 0 where
   pub device : IsDevice held
   pub id : held.base_id < 256
+  pub large_id : held.large_id < 65536
   pub lock : held.lock < 65536
   pub tag : held.tag ≡ 0
   pub ports : held.ports ≡ ports_shown held

@@ -1,10 +1,10 @@
 -- The devices and links that lines of set-up make.
 use Rattle.std.specs.Prelude.{◌≡◌, ◌≢◌, ℕ, ◌<◌, ◌≤◌, ◌⊎◌, true, false, List, [], ◌∷◌, ◌++◌, length, Some, None, Result, Ok, Err, IsSome, option_map, slice_get, ⊤}
 use Rattle.maint_registers.specs.Devices.{Device, is_switch, new_endpoint, new_switch}
-use Rattle.maint_registers.specs.Changes.{with_device, linked_at, routed, defaulted, held_by}
+use Rattle.maint_registers.specs.Changes.{with_device, linked_at, routed, defaulted, held_by, large_set}
 use Rattle.fabric_script.specs.declared.ports.PortRef.{PortRef}
 use Rattle.fabric_script.specs.declared.lines.Line.{Line}
-use Rattle.fabric_script.specs.declared.lines.Line.TheVariants.{Endpoint, Switch, Link, Route, Default, Lock}
+use Rattle.fabric_script.specs.declared.lines.Line.TheVariants.{Endpoint, Switch, Link, Route, Default, Lock, Large}
 use Rattle.fabric_script.specs.declared.lines.Numbered.{Numbered}
 use Rattle.fabric_script.specs.Known.{links_after}
 use Rattle.fabric_script.specs.Peers.{peer_in}
@@ -25,6 +25,7 @@ devices_after devices (Link a b) = with_linked_end (with_linked_end devices a) b
 devices_after devices (Route node id p) = with_device devices node (routed id p)
 devices_after devices (Default node p) = with_device devices node (defaulted p)
 devices_after devices (Lock node id) = with_device devices node (held_by id)
+devices_after devices (Large node id) = with_device devices node (large_set id)
 devices_after devices _ = devices
 
 -- with all these lines
@@ -52,17 +53,19 @@ pub record IsHost (devices : List Device) (links : List (PortRef × PortRef)) (h
   pub linked : IsSome (peer_in links (port_at host 0))
 
 -- What a line needs of the devices before it: a switch has 2 to 16 ports; the ports of a link, a
--- route and a default port are those of devices, the latter two of switches; and a lock is that of a
--- device.
+-- route and a default port are those of devices, the latter two of switches, and a route is for a
+-- destination that has an entry; a lock is that of a device, and a 16-bit ID that of an endpoint.
 abbrev pub MayDevise : List Device → Line → Type 0
 MayDevise devices (Switch name ports) = (2 ≤ ports) × (ports ≤ 16)
 MayDevise devices (Link a b) = (a.node < length devices) × (a.port < 16)
     × (b.node < length devices) × (b.port < 16)
-MayDevise devices (Route node id p) =
-    (node < length devices) × (is_switch (registers_of devices node) ≡ true)
+MayDevise devices (Route node id p) = (node < length devices)
+    × (is_switch (registers_of devices node) ≡ true) × (id < 1024)
 MayDevise devices (Default node p) =
     (node < length devices) × (is_switch (registers_of devices node) ≡ true)
 MayDevise devices (Lock node id) = node < length devices
+MayDevise devices (Large node id) =
+    (node < length devices) × (is_switch (registers_of devices node) ≡ false)
 MayDevise devices _ = ⊤
 
 -- whether a node can be the host, or the first reason why not

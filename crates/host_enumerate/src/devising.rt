@@ -1,7 +1,7 @@
 //! The devices and links that set-up lines make.
-ghost use Rattle.std.specs.Prelude.{◌≡◌, ◌<◌, ℕ, true, length, IfOk};
+ghost use Rattle.std.specs.Prelude.{◌≡◌, ◌<◌, ℕ, true, false, length, IfOk};
 ghost use Rattle.maint_registers.specs.Devices.{is_switch};
-ghost use Rattle.maint_registers.specs.Changes.{with_device, routed, defaulted, held_by};
+ghost use Rattle.maint_registers.specs.Changes.{with_device, routed, defaulted, held_by, large_set};
 ghost use Rattle.fabric_script.specs.Known.{links_after};
 ghost use Rattle.fabric_script.specs.Scripts.{Passes};
 ghost use Rattle.fabric_map.specs.Plain.{registers_of};
@@ -113,6 +113,7 @@ impl Devised {
             Line::Route { node, id, p } => set_route(&mut self.devices, *node, *id, *p),
             Line::Default { node, p } => set_default(&mut self.devices, *node, *p),
             Line::Lock { node, id } => set_lock(&mut self.devices, *node, *id),
+            Line::Large { node, id } => set_large(&mut self.devices, *node, *id),
             _ => {}
         }
         Ok(())
@@ -129,9 +130,10 @@ fn tell_link(devices: &mut Vec<Registers>, port: PortRef)
 }
 
 /// Sets the entry of a destination in the table of a switch.
-fn set_route(devices: &mut Vec<Registers>, node: u8, id: u8, port: u8)
+fn set_route(devices: &mut Vec<Registers>, node: u8, id: u16, port: u8)
     requires node { node < length devices.old.items }
     requires switch { is_switch (registers_of devices.old.items node) ≡ true }
+    requires destination { id < 1024 }
     ensures { devices.new.items ≡ with_device devices.old.items node (routed id port) }
 {
     devices[usize::from(node)].set_route(id, port);
@@ -152,4 +154,13 @@ fn set_lock(devices: &mut Vec<Registers>, node: u8, id: u16)
     ensures { devices.new.items ≡ with_device devices.old.items node (held_by id) }
 {
     devices[usize::from(node)].set_lock(id);
+}
+
+/// Sets the 16-bit ID of an endpoint.
+fn set_large(devices: &mut Vec<Registers>, node: u8, id: u16)
+    requires node { node < length devices.old.items }
+    requires endpoint { is_switch (registers_of devices.old.items node) ≡ false }
+    ensures { devices.new.items ≡ with_device devices.old.items node (large_set id) }
+{
+    devices[usize::from(node)].set_large(id);
 }

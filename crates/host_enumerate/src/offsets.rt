@@ -7,7 +7,7 @@ pub const FEATURES: u32 = 0x00_0010;
 /// How many ports a switch has, and the port on which it was asked.
 pub const PORT_INFORMATION: u32 = 0x00_0014;
 
-/// The ID of an endpoint.
+/// The IDs of an endpoint: that of 8 bits above that of 16 bits.
 pub const BASE_ID: u32 = 0x00_0060;
 
 /// The ID of the host that holds the device.

@@ -90,7 +90,7 @@ impl PlainMaint {
         if !device.is_switch() {
             return Some(at);
         }
-        let port = device.next_port(dest)?;
+        let port = device.next_port(u16::from(dest))?;
         let next = PortRef {
             node: at.node,
             port,

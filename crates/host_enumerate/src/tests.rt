@@ -31,6 +31,21 @@ fn a_switch_answers_with_the_port_that_was_asked(rt: HostRuntime) {
 }
 
 #[test]
+fn an_endpoint_answers_with_both_ids(rt: HostRuntime) {
+    let mut endpoint = Registers::endpoint(5, true);
+    endpoint.set_large(0x1234);
+    let _ = respond(&mut endpoint, 0, Access::Write(0x60, 0x0009_ffff));
+    let answer = respond(&mut endpoint, 0, Access::Read(0x60));
+    assert!(rt;
+        answer
+            == Answer {
+                status: 0,
+                value: 0x0009_1234
+            }
+    );
+}
+
+#[test]
 fn a_write_is_done_or_refused(rt: HostRuntime) {
     let mut endpoint = Registers::endpoint(255, true);
     let answer = respond(&mut endpoint, 0, Access::Write(0x68, 5));

@@ -35,8 +35,9 @@ fn asked(
     };
     let request = Request {
         prio: 0,
-        dest,
+        dest: u16::from(dest),
         source: 5,
+        large: false,
         op: Op::Read,
         tid: 0,
         hop,

@@ -15,7 +15,7 @@ write-requires-clause-askable g c =
       asked.0,
       asked.1,
       record (g.M.Maint.registers c.args.maint.now asked.1.node) {
-        select = c.from.result % 0x100;
+        select = c.from.result % 0x400;
       },
       asked.2,
       selectable (g.M.Maint.topology c.args.maint.now) (g.M.Maint.registers c.args.maint.now)
@@ -39,7 +39,7 @@ write-requires-2-clause-askable g c =
       there,
       subst (λ t. IsAskable t mid asked.0 c.args.path.now asked.1) (sym topology)
           (askable-written (g.M.Maint.topology c.args.maint.now) old mid asked.0
-          c.args.path.now asked.1 (record (old asked.1.node) { select = c.from.result % 0x100 })
+          c.args.path.now asked.1 (record (old asked.1.node) { select = c.from.result % 0x400 })
           asked.2 first asked.3 (λ _. refl)),
       subst (λ t. IsWritable t mid c.args.path.now asked.1 0x74 c.from-2.result there)
           (sym topology)

@@ -1,4 +1,5 @@
-use Rattle.std.proofs.Common.{rules, ◌∙◌, sym}
+use Rattle.std.proofs.Common.{rules, ◌∙◌, sym, ap}
+use Rattle.maint_registers.specs.Routes.{next_port}
 use Rattle.host_enumerate.proofs.PlainWalks.{linked-inside, walk-endpoint, walk-discarded, walk-passed}
 use Rattle.host_enumerate.proofs.plain.PlainMaint.+walk.Goals as goal
 
@@ -16,7 +17,8 @@ returns-in_err-port t c =
     c.index-device.result.now c.requires.topology (sym c.peer.ensures ∙ c.in_ok-at.was)
     c.index-device.ensures
     (sym c.if-not-is_switch.ensures) c.if-hops-eq0.false
-    (sym c.next_port.ensures.value ∙ c.in_err-port.was)
+    (ap (λ n. next_port c.index-device.result.now n) (sym c.from.ensures)
+    ∙ (sym c.next_port.ensures.value ∙ c.in_err-port.was))
 
 pub returns : goal.returns
 returns t c =
@@ -26,4 +28,5 @@ returns t c =
     c.index-device.result.now c.requires.topology (sym c.peer.ensures ∙ c.in_ok-at.was)
     c.index-device.ensures
     (sym c.if-not-is_switch.ensures) c.if-hops-eq0.false
-    (sym c.next_port.ensures.value ∙ c.in_ok-port.was)
+    (ap (λ n. next_port c.index-device.result.now n) (sym c.from.ensures)
+    ∙ (sym c.next_port.ensures.value ∙ c.in_ok-port.was))

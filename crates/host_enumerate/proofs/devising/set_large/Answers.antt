@@ -1,0 +1,13 @@
+use Rattle.std.proofs.Common.{◌<◌, length, arith}
+use Rattle.maint_registers.specs.Changes.{large_set}
+use Rattle.host_enumerate.proofs.Changed.{changed_at}
+use Rattle.host_enumerate.proofs.devising.set_large.Goals as goal
+
+pub returns : goal.returns
+returns c =
+    let devices = c.args.devices.now.items in
+    let at = c.from.ensures in
+    let there = c.requires.node in
+    let within : c.from.result < length devices = grind (arith, there, at) in
+    changed_at devices c.args.node c.from.result c.index_mut.result.now c.set_large.new.self
+    (large_set c.args.id) at within c.index_mut.ensures.value c.set_large.ensures
