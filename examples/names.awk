@@ -63,41 +63,53 @@ function register(offset,    far) {
     return "register " offset
 }
 
-# the word of eight bytes of data that an offset names
-function word_at(hex, offset) { return substr(hex, byte(offset, 2) % 8 < 4 ? 21 : 29, 8) }
+# how many bytes each device ID has, of a packet of transport type 0 or 1
+function width(hex) { return int(byte(hex, 1) / 16) % 4 + 1 }
 
-function maintenance_words(hex,    type, tid, key, offset) {
-    type = int(byte(hex, 4) / 16)
-    tid = byte(hex, 5)
+# the device ID that begins at a byte
+function id_at(hex, at) { return width(hex) == 2 ? 256 * byte(hex, at) + byte(hex, at + 1) : byte(hex, at) }
+function dest_of(hex) { return id_at(hex, 2) }
+function source_of(hex) { return id_at(hex, 2 + width(hex)) }
+
+# the bytes behind the IDs
+function behind_ids(hex) { return substr(hex, 4 * width(hex) + 5) }
+
+# the word of eight bytes of data that an offset names
+function word_at(rest, offset) { return substr(rest, byte(offset, 2) % 8 < 4 ? 13 : 21, 8) }
+
+function maintenance_words(hex,    rest, type, tid, key, offset) {
+    rest = behind_ids(hex)
+    type = int(byte(rest, 0) / 16)
+    tid = byte(rest, 1)
     if (type > 4) return "reserved maintenance type " type
     if (type > 3) return types[5]
     if (type < 2) {
-        offset = substr(hex, 15, 6)
-        asked[byte(hex, 3) " " tid] = offset
-        return types[type + 1] " " tid " hop " byte(hex, 6) ", " register(offset) \
-            (type ? " = " word_at(hex, offset) : "")
+        offset = substr(rest, 7, 6)
+        asked[width(hex) " " source_of(hex) " " tid] = offset
+        return types[type + 1] " " tid " hop " byte(rest, 2) ", " register(offset) \
+            (type ? " = " word_at(rest, offset) : "")
     }
-    if (byte(hex, 4) % 16) return types[type + 1] " " tid ", error " byte(hex, 4) % 16
+    if (byte(rest, 0) % 16) return types[type + 1] " " tid ", error " byte(rest, 0) % 16
     if (type == 3) return types[4] " " tid ", done"
-    key = byte(hex, 2) " " tid
+    key = width(hex) " " dest_of(hex) " " tid
     if (key in asked)
-        return types[3] " " tid ", " register(asked[key]) " = " word_at(hex, asked[key])
-    return types[3] " " tid ", " substr(hex, 21, 8) " " substr(hex, 29, 8)
+        return types[3] " " tid ", " register(asked[key]) " = " word_at(rest, asked[key])
+    return types[3] " " tid ", " substr(rest, 13, 8) " " substr(rest, 21, 8)
 }
 
 # the data of a packet, without its CRCs and pad
 function data_words(hex,    text) {
     text = substr(hex, 1, length(hex) - (hex ~ /0000$/ ? 8 : 4))
     if (length(text) > 160) text = substr(text, 1, 160) substr(text, 165)
-    text = substr(text, 9)
+    text = behind_ids(text)
     if (length(text) > 32) return length(text) / 2 " bytes " substr(text, 1, 16) ".."
     return text == "" ? "no data" : text
 }
 
 function packet_words(hex,    text) {
     text = "priority " int(byte(hex, 1) / 64)
-    if (int(byte(hex, 1) / 16) % 4) return text ", IDs of another width"
-    text = byte(hex, 3) " to " byte(hex, 2) ", " text ", "
+    if (width(hex) > 2) return text ", IDs of another width"
+    text = source_of(hex) " to " dest_of(hex) (width(hex) == 2 ? " with 16-bit IDs, " : ", ") text ", "
     if (byte(hex, 1) % 16 == 8) return text maintenance_words(hex)
     return text "type " byte(hex, 1) % 16 ", " data_words(hex)
 }

@@ -99,8 +99,8 @@ local too_short = ProtoExpert.new("rapidio.short", "Too short", expert.group.MAL
   expert.severity.ERROR)
 rapidio.experts = { bad_crc, too_short }
 
--- What requests asked for, by their source, destination and transaction number, and the request of
--- each response, by the numbers of their frames.
+-- What requests asked for, by the size of their IDs, their source, destination and transaction
+-- number, and the request of each response, by the numbers of their frames.
 local asked, answered
 
 function rapidio.init()
@@ -190,12 +190,12 @@ local function maintenance(packet, tree)
     tree:add(fields.wdptr, buffer(at + 3, 3))
     tree:add(fields.bytes, buffer(at, 1),
       bytes_of(buffer(at, 1):bitfield(4, 4), bit.band(bit.rshift(offset, 2), 1)))
-    asked[packet.source .. "/" .. packet.dest .. "/" .. tid] =
+    asked[packet.wide .. "/" .. packet.source .. "/" .. packet.dest .. "/" .. tid] =
       { offset = offset, frame = packet.number }
   elseif ttype == 2 or ttype == 3 then
     local status = buffer(at, 1):bitfield(4, 4)
     words = words .. ", " .. (statuses[status] or ("status " .. status))
-    local key = packet.dest .. "/" .. packet.source .. "/" .. tid
+    local key = packet.wide .. "/" .. packet.dest .. "/" .. packet.source .. "/" .. tid
     if not packet.visited then answered[packet.number] = asked[key] end
     local request = answered[packet.number]
     if request then
@@ -344,7 +344,7 @@ function rapidio.dissector(buffer, pinfo, root)
   pinfo.cols.dst = tostring(dest)
   local packet = {
     buffer = buffer, at = 2 + 2 * wide, stop = stop, dest = dest, source = source,
-    number = pinfo.number, visited = pinfo.visited,
+    number = pinfo.number, visited = pinfo.visited, wide = wide,
   }
   local reader = readers[ftype]
   local words, from = ftypes[ftype] or ("type " .. ftype), packet.at

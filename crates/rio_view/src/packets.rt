@@ -12,42 +12,63 @@ const MOST_DATA: usize = 16;
 /// How many bytes of longer data are put.
 const FRONT: usize = 8;
 
+/// The transport type of packets with 16-bit IDs.
+const LARGE: u8 = 1;
+
 /// How many bytes of a body stand before its first CRC.
 const FIRST_BYTES: usize = 80;
 
+/// How many places there are for the requests of a size of IDs.
+const PLACES: usize = 65_536;
+
 /// The registers that requests asked for, by their source and transaction number: a response does
-/// not name its register.
+/// not name its register. Sources with 16-bit IDs of one low byte share places, and the last
+/// request stays.
 #[derive(Drop)]
 pub(crate) struct Asked {
-    offsets: Vec<Option<u32>>,
+    noted: Vec<Option<Noted>>,
+}
+
+/// A request that was seen.
+#[derive(Clone, Copy)]
+struct Noted {
+    source: u16,
+    offset: u32,
 }
 
 impl Asked {
     /// No request was seen.
     pub(crate) fn new(alloc: Global) -> Result<Asked, AllocError> {
         Ok(Asked {
-            offsets: vec![in alloc; None; 65_536]?,
+            noted: vec![in alloc; None; 2 * PLACES]?,
         })
     }
 
     /// Notes the register of a request, if the packet is one.
     pub(crate) fn note(&mut self, packet: &Packet) {
         if let Some(request) = read_request(packet) {
-            if let Some(place) = self.offsets.get_mut(key(request.source, request.tid)) {
-                *place = Some(request.offset);
+            let at = place_of(request.large, request.source, request.tid);
+            if let Some(place) = self.noted.get_mut(at) {
+                *place = Some(Noted {
+                    source: request.source,
+                    offset: request.offset,
+                });
             }
         }
     }
 
-    /// The register that is answered.
+    /// The register that is answered, if its request is still noted.
     fn register_of(&self, response: &Response) -> Option<u32> {
-        *self.offsets.get(key(response.dest, response.tid))?
+        let at = place_of(response.large, response.dest, response.tid);
+        let noted = (*self.noted.get(at)?)?;
+        (noted.source == response.dest).then_some(noted.offset)
     }
 }
 
 /// Where the register of a request is noted.
-fn key(source: u8, tid: u8) -> usize {
-    256 * usize::from(source) + usize::from(tid)
+fn place_of(large: bool, source: u16, tid: u8) -> usize {
+    let first = if large { PLACES } else { 0 };
+    first + 256 * usize::from(source % 256) + usize::from(tid)
 }
 
 /// What a packet says, with its ackID in front if it has one.
@@ -62,6 +83,9 @@ pub(crate) fn put_packet(out: &mut Text, asked: &mut Asked, packet: &Packet) {
     out.put_number(u64::from(source));
     out.put(b" to ");
     out.put_number(u64::from(dest));
+    if packet.tt() == LARGE {
+        out.put(b" with 16-bit IDs");
+    }
     out.put(b", priority ");
     out.put_number(u64::from(packet.prio()));
     out.put(b", ");
@@ -71,7 +95,7 @@ pub(crate) fn put_packet(out: &mut Text, asked: &mut Asked, packet: &Packet) {
         out.put(b"type ");
         out.put_number(u64::from(packet.ftype()));
         out.put(b", ");
-        put_data(out, packet.bytes());
+        put_data(out, packet);
     }
 }
 
@@ -90,7 +114,7 @@ fn put_maintenance(out: &mut Text, asked: &Asked, packet: &Packet) {
     } else if let Some(response) = read_response(packet) {
         put_response(out, asked, &response);
     } else {
-        put_other(out, packet.bytes());
+        put_other(out, packet);
     }
 }
 
@@ -154,8 +178,8 @@ fn put_words(out: &mut Text, offset: Option<u32>, words: (u32, u32)) {
 }
 
 /// What is neither a request nor a response of a known form.
-fn put_other(out: &mut Text, bytes: &[u8]) {
-    let ttype = bytes.get(4).copied().unwrap_or(0) >> 4;
+fn put_other(out: &mut Text, packet: &Packet) {
+    let ttype = packet.bytes().get(ids_end(packet)).copied().unwrap_or(0) >> 4;
     match ttype {
         2 => out.put(b"read-response of another form"),
         3 => out.put(b"write-response of another form"),
@@ -168,10 +192,13 @@ fn put_other(out: &mut Text, bytes: &[u8]) {
 }
 
 /// The data of a packet, without its CRCs and pad. Zeros at its end are taken for a pad.
-fn put_data(out: &mut Text, form: &[u8]) {
+fn put_data(out: &mut Text, packet: &Packet) {
+    let form = packet.bytes();
     let back = if form.ends_with(&[0, 0]) { 4 } else { 2 };
     let body = form.get(..form.len().saturating_sub(back)).unwrap_or(b"");
-    let first = body.get(4..body.len().min(FIRST_BYTES)).unwrap_or(b"");
+    let first = body
+        .get(ids_end(packet)..body.len().min(FIRST_BYTES))
+        .unwrap_or(b"");
     let second = body.get(FIRST_BYTES + 2..).unwrap_or(b"");
     let count = first.len() + second.len();
     if count == 0 {
@@ -184,4 +211,9 @@ fn put_data(out: &mut Text, form: &[u8]) {
         out.put_hex(first.get(..FRONT).unwrap_or(first));
         out.put(b"..");
     }
+}
+
+/// Where the IDs of a packet end.
+fn ids_end(packet: &Packet) -> usize {
+    if packet.tt() == LARGE { 6 } else { 4 }
 }

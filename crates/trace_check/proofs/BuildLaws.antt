@@ -1,15 +1,16 @@
 -- What a line of set-up leaves of the network and of the links as they are kept.
-use Rattle.std.proofs.Common.{◌≡◌, ℕ, zero, suc, ◌+◌, ◌<◌, ◌≤◌, true, false, ◌⊎◌, inl, inr, List, [], ◌∷◌, ◌++◌, length, length-append, replicate, get_or, set, slice_get, slice_set, option_map, Option, Some, None, refl, sym, ap, ◌∙◌, subst, arith, if◌then◌else◌}
+use Rattle.std.proofs.Common.{◌≡◌, ℕ, Bool, zero, suc, ◌+◌, ◌<◌, ◌≤◌, false, ◌⊎◌, inl, inr, List, [], ◌∷◌, ◌++◌, length, length-append, replicate, get_or, set, slice_get, slice_set, option_map, Option, Some, None, refl, sym, ap, ◌∙◌, subst, arith, if◌then◌else◌}
 use Rattle.std.proofs.lemmas.Option.{same_Some, slice_get_read}
 use Rattle.link_buffers.specs.Queues.{no_packets}
 use Rattle.maint_registers.specs.Devices.{Device, is_switch, new_endpoint, new_switch}
 use Rattle.fabric_script.specs.declared.lines.Line.{Line}
-use Rattle.fabric_script.specs.declared.lines.Line.TheVariants.{Endpoint, Switch, Link, Buffers, Route, Default, Lock}
+use Rattle.fabric_script.specs.declared.lines.Line.TheVariants.{Endpoint, Switch, Link, Buffers, Route, Default, Lock, Large}
 use Rattle.fabric_script.specs.declared.ports.PortRef.{PortRef}
-use Rattle.fabric_model.specs.Network.{IsSwitch, Item, Network, bare, peer_in, same_port, with_device}
+use Rattle.fabric_model.specs.Network.{Item, Network, bare, peer_in, same_port, switch_at, with_device}
 use Rattle.fabric_model.proofs.Devices.{length-with_device}
 use Rattle.fabric_model.proofs.Peers.{apart_back, same_port-refl}
-use Rattle.fabric_trace.specs.Settings.{defaulted, held_by, linked_at, routed, set_up, with_buffers, with_change, with_end, with_node}
+use Rattle.fabric_trace.specs.Settings.{defaulted, held_by, large_set, linked_at, routed, set_up, with_buffers, with_change, with_end, with_node}
+use Rattle.fabric_trace.proofs.KindLaws.{IsKindThere, kind_there}
 use Rattle.fabric_trace.specs.Views.{lists_in, packets_in}
 use Rattle.trace_check.specs.declared.links.Links.{Links}
 use Rattle.trace_check.specs.declared.network.Network.{Network as Kept}
@@ -269,6 +270,8 @@ joined_other net kept (Default node p) no_endpoint no_switch no_link joined =
     joined_change net kept node (defaulted p) joined
 joined_other net kept (Lock node id) no_endpoint no_switch no_link joined =
     joined_change net kept node (held_by id) joined
+joined_other net kept (Large node id) no_endpoint no_switch no_link joined =
+    joined_change net kept node (large_set id) joined
 joined_other net kept _ no_endpoint no_switch no_link joined = joined
 
 -- a line makes a node
@@ -332,26 +335,10 @@ device_set devices node i read written change same within value is =
     (slice_get_read devices (length devices) i read refl within value)
     ∙ ap (λ n. with_device devices n change) same
 
--- a switch that is there
-pub record IsSwitchThere (devices : List Device) (node : ℕ) : Type 0 where
-  pub within : node < length devices
-  pub kind : (read : Device) → read ≡ get_or devices node read → is_switch read ≡ true
-
-switch_there : (devices : List Device) (node : ℕ)
-    → option_map is_switch (slice_get devices node) ≡ Some true → IsSwitchThere devices node
-switch_there [] node is = absurd cc
-switch_there (d ∷ devices) zero is = record {
-  within = omega arith;
-  kind = λ read value. ap is_switch value ∙ same_Some (is_switch d) true is;
-}
-switch_there (d ∷ devices) (suc node) is =
-    let later = switch_there devices node is in
-    let within = later.within in
-    record { within = omega arith; kind = later.kind }
-
-pub switch_of : (net : Network) (kept : Kept) (node : ℕ) → IsBuilt net kept → IsSwitch net node
-    → IsSwitchThere kept.registers.items node
-switch_of net kept node built switch =
-    switch_there kept.registers.items node
-    (subst (λ (d : List Device). option_map is_switch (slice_get d node) ≡ Some true)
-    (sym built.network.registers) switch)
+-- an endpoint or a switch of the network is one of the devices that are kept
+pub kind_of : (switch : Bool) (net : Network) (kept : Kept) (node : ℕ) → IsBuilt net kept
+    → switch_at net node ≡ Some switch → IsKindThere switch kept.registers.items node
+kind_of switch net kept node built is =
+    kind_there switch kept.registers.items node
+    (subst (λ (d : List Device). option_map is_switch (slice_get d node) ≡ Some switch)
+    (sym built.network.registers) is)

@@ -9,14 +9,14 @@ use Rattle.fabric_script.specs.Lines.{new_name}
 use Rattle.fabric_script.specs.Reading.{MayBe}
 use Rattle.fabric_script.specs.Scripts.{Passes, PassesFrom}
 use Rattle.fabric_script.specs.declared.lines.Line.{Line}
-use Rattle.fabric_script.specs.declared.lines.Line.TheVariants.{Endpoint, Switch, Link, Buffers, Route, Default, Lock}
+use Rattle.fabric_script.specs.declared.lines.Line.TheVariants.{Endpoint, Switch, Link, Buffers, Route, Default, Lock, Large}
 use Rattle.fabric_script.specs.declared.lines.Numbered.{Numbered}
 use Rattle.fabric_script.specs.declared.ports.PortRef.{PortRef}
 use Rattle.fabric_model.specs.Network.{Network, peer_in, same_port, with_device}
 use Rattle.fabric_model.proofs.Devices.{length-with_device}
 use Rattle.fabric_model.proofs.Peers.{apart_back, port_is, same_port-refl}
 use Rattle.fabric_trace.specs.Runs.{bare, set_up, set_up_all}
-use Rattle.fabric_trace.specs.Settings.{defaulted, held_by, linked_at, routed}
+use Rattle.fabric_trace.specs.Settings.{defaulted, held_by, large_set, linked_at, routed}
 use Rattle.fabric_trace.specs.SetUps.{MaySetUpAll}
 use Rattle.fabric_trace.proofs.Happening.{may_set_up}
 use Rattle.trace_check.specs.Starting.{AreEnds, ArePortsIn, MayAdd}
@@ -232,6 +232,8 @@ count_after net names new (Default node p) same =
     length-with_device net.registers node (defaulted p) ∙ same
 count_after net names new (Lock node id) same =
     length-with_device net.registers node (held_by id) ∙ same
+count_after net names new (Large node id) same =
+    length-with_device net.registers node (large_set id) ∙ same
 count_after net names new _ same = same
 
 ports_in : (known : Known) (new : List ℕ) (nodes : ℕ) (line : Line)

@@ -102,6 +102,7 @@ impl Network {
             Line::Route { node, id, p } => self.registers[usize::from(*node)].set_route(*id, *p),
             Line::Default { node, p } => self.registers[usize::from(*node)].set_default(*p),
             Line::Lock { node, id } => self.registers[usize::from(*node)].set_lock(*id),
+            Line::Large { node, id } => self.registers[usize::from(*node)].set_large(*id),
             _ => {}
         }
     }

@@ -20,6 +20,15 @@ returns-then-not-is_for_registers c = λ nodes net is is_in.
     let yes = served.1 needs.1 in
     cc (c.if-not-is_for_registers.true, yes))
 
+-- it is not the first of its priority
+pub returns-then-not-take_first : goal.returns-then-not-take_first
+returns-then-not-take_first c = λ nodes net is is_in.
+    let first = (c.take_first.ensures nodes net is is_in).0 in
+    not_made nodes net (ByDevice (Answer c.args.port c.args.packet.now c.args.response.now))
+    c.take_first.new.self (λ needs.
+    let yes = first.1 needs.0 in
+    cc (c.if-not-take_first.true, yes))
+
 pub returns-in-Some : goal.returns-in-Some
 returns-in-Some c = if_ok_map c.put_out.result c.put_out.ensures (λ made put nodes net is is_in.
     let p = c.args.port in

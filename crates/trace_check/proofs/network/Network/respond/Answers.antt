@@ -15,7 +15,7 @@ pub returns-in_err-request-clause-registers : goal.returns-in_err-request-clause
 returns-in_err-request-clause-registers c = λ nodes net is.
     let p = c.args.port in
     let none : request_of c.args.packet.now ≡ None
-    = sym c.read_request.ensures ∙ c.in_err-request.was in
+    = sym c.read_request.ensures.value ∙ c.in_err-request.was in
     let stay = unchanged net.registers p.node (device_after p.port (request_of c.args.packet.now))
     (λ device there. ap (λ (o : Option Request). device_after p.port o device) none) in
     record {
@@ -62,7 +62,7 @@ returns-clause-value c = λ nodes net is.
     let request = c.in_ok-request.request in
     let device = c.index_mut.result.now in
     let asked : request_of c.args.packet.now ≡ Some request
-    = sym c.read_request.ensures ∙ c.in_ok-request.was in
+    = sym c.read_request.ensures.value ∙ c.in_ok-request.was in
     let within : c.from-node.result < length list = search rules in
     let stands : slice_get net.registers p.node ≡ Some device
     = ap (λ l. slice_get l p.node) (sym is.registers)
@@ -80,7 +80,7 @@ returns-clause-registers c = λ nodes net is.
     let device = c.index_mut.result.now in
     let answers = device_after p.port (request_of c.args.packet.now) in
     let asked : request_of c.args.packet.now ≡ Some c.in_ok-request.request
-    = sym c.read_request.ensures ∙ c.in_ok-request.was in
+    = sym c.read_request.ensures.value ∙ c.in_ok-request.was in
     let within : c.from-node.result < length list = search rules in
     let written : c.answer-answered.new.registers ≡ answers device
     = c.answer-answered.ensures.registers

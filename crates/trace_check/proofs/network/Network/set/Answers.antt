@@ -1,12 +1,12 @@
-use Rattle.std.proofs.Common.{◌≡◌, ◌<◌, ℕ, List, length, get_or, refl, sym, ap, ◌∙◌, subst, arith}
+use Rattle.std.proofs.Common.{true, false, ◌≡◌, ◌<◌, ℕ, List, length, get_or, refl, sym, ap, ◌∙◌, subst, arith}
 use Rattle.maint_registers.specs.Devices.{Device}
 use Rattle.fabric_model.specs.Network.{Network}
-use Rattle.fabric_trace.specs.Settings.{defaulted, held_by, routed, set_up, with_change}
+use Rattle.fabric_trace.specs.Settings.{defaulted, held_by, large_set, routed, set_up, with_change}
 use Rattle.fabric_trace.specs.SetUps.{MaySetUp}
 use Rattle.std.specs.Vec.{with_item}
 use Rattle.trace_check.specs.Starting.{ArePortsIn, IsBuilt}
 use Rattle.trace_check.specs.declared.network.Network.{Network as Kept}
-use Rattle.trace_check.proofs.BuildLaws.{built_buffers, built_change, built_link, device_set, port_kept, port_linked, switch_of}
+use Rattle.trace_check.proofs.BuildLaws.{built_buffers, built_change, built_link, device_set, port_kept, port_linked, kind_of}
 use Rattle.trace_check.proofs.TableLaws.{place_within}
 use Rattle.trace_check.proofs.network.Network.set.Goals as goal
 
@@ -70,15 +70,20 @@ written net old node i read device change built same within value is =
 pub index_mut-requires-in-Route : goal.index_mut-requires-in-Route
 index_mut-requires-in-Route c =
     let may = c.requires.may in
-    let there = (switch_of may.net c.args.self.now c.in-Route.node may.built
+    let there = (kind_of true may.net c.args.self.now c.in-Route.node may.built
     (subst (MaySetUp may.net) c.in-Route.is may.may.may).0).within in
     grind (arith, there)
 
-pub set_route-requires : goal.set_route-requires
-set_route-requires c =
+pub set_route-requires-clause-destination : goal.set_route-requires-clause-destination
+set_route-requires-clause-destination c =
+    let may = c.requires.may in
+    (subst (MaySetUp may.net) c.in-Route.is may.may.may).1
+
+pub set_route-requires-clause-switch : goal.set_route-requires-clause-switch
+set_route-requires-clause-switch c =
     let may = c.requires.may in
     let read = c.index_mut-in-Route.result.now in
-    (switch_of may.net c.args.self.now c.in-Route.node may.built
+    (kind_of true may.net c.args.self.now c.in-Route.node may.built
     (subst (MaySetUp may.net) c.in-Route.is may.may.may).0).kind read
     (c.index_mut-in-Route.ensures.value
     ∙ ap (λ n. get_or c.args.self.now.registers.items n read) c.from.ensures)
@@ -86,7 +91,7 @@ set_route-requires c =
 pub index_mut-requires-in-Default : goal.index_mut-requires-in-Default
 index_mut-requires-in-Default c =
     let may = c.requires.may in
-    let there = (switch_of may.net c.args.self.now c.in-Default.node may.built
+    let there = (kind_of true may.net c.args.self.now c.in-Default.node may.built
     (subst (MaySetUp may.net) c.in-Default.is may.may.may).0).within in
     grind (arith, there)
 
@@ -94,7 +99,7 @@ pub set_default-requires : goal.set_default-requires
 set_default-requires c =
     let may = c.requires.may in
     let read = c.index_mut-in-Default.result.now in
-    (switch_of may.net c.args.self.now c.in-Default.node may.built
+    (kind_of true may.net c.args.self.now c.in-Default.node may.built
     (subst (MaySetUp may.net) c.in-Default.is may.may.may).0).kind read
     (c.index_mut-in-Default.ensures.value
     ∙ ap (λ n. get_or c.args.self.now.registers.items n read) c.from-in-Default.ensures)
@@ -102,7 +107,7 @@ set_default-requires c =
 pub returns-in-Route : goal.returns-in-Route
 returns-in-Route c = λ net built may.
     let old = c.args.self.now in
-    let there = (switch_of net old c.in-Route.node built
+    let there = (kind_of true net old c.in-Route.node built
     (subst (MaySetUp net) c.in-Route.is may.may).0).within in
     let at = c.from.ensures in
     let within : c.from.result < length old.registers.items = grind (arith, there, at) in
@@ -116,7 +121,7 @@ pub returns-in-Default : goal.returns-in-Default
 returns-in-Default c = λ net built may.
     let old = c.args.self.now in
     let i = c.from-in-Default.result in
-    let there = (switch_of net old c.in-Default.node built
+    let there = (kind_of true net old c.in-Default.node built
     (subst (MaySetUp net) c.in-Default.is may.may).0).within in
     let at = c.from-in-Default.ensures in
     let within : i < length old.registers.items = grind (arith, there, at) in
@@ -139,3 +144,33 @@ returns-in-Lock c = λ net built may.
     (written net old c.in-Lock.node i c.index_mut-in-Lock.result.now
     c.set_lock.new.self (held_by c.in-Lock.id) built at within
     c.index_mut-in-Lock.ensures.value c.set_lock.ensures)
+
+pub index_mut-requires-in-Large : goal.index_mut-requires-in-Large
+index_mut-requires-in-Large c =
+    let may = c.requires.may in
+    let there = (kind_of false may.net c.args.self.now c.in-Large.node may.built
+    (subst (MaySetUp may.net) c.in-Large.is may.may.may).0).within in
+    grind (arith, there)
+
+pub set_large-requires : goal.set_large-requires
+set_large-requires c =
+    let may = c.requires.may in
+    let read = c.index_mut-in-Large.result.now in
+    (kind_of false may.net c.args.self.now c.in-Large.node may.built
+    (subst (MaySetUp may.net) c.in-Large.is may.may.may).0).kind read
+    (c.index_mut-in-Large.ensures.value
+    ∙ ap (λ n. get_or c.args.self.now.registers.items n read) c.from-in-Large.ensures)
+
+pub returns-in-Large : goal.returns-in-Large
+returns-in-Large c = λ net built may.
+    let old = c.args.self.now in
+    let i = c.from-in-Large.result in
+    let there = (kind_of false net old c.in-Large.node built
+    (subst (MaySetUp net) c.in-Large.is may.may).0).within in
+    let at = c.from-in-Large.ensures in
+    let within : i < length old.registers.items = grind (arith, there, at) in
+    subst (λ line. IsBuilt (set_up net line) (with_written old i c.set_large.new.self))
+    (sym c.in-Large.is)
+    (written net old c.in-Large.node i c.index_mut-in-Large.result.now
+    c.set_large.new.self (large_set c.in-Large.id) built at within
+    c.index_mut-in-Large.ensures.value c.set_large.ensures)
