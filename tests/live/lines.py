@@ -41,6 +41,19 @@ def room(program):
     port.end()
 
 
+def ids_of_16_bits(program):
+    """Packets with IDs of 16 bits, which have the room that those of 8 bits leave, up to the longest."""
+    port = Port(program, 8)
+    equal("16 bits", port.ask("send16 0 15 4097 8194 -"), ["queued 001f2002100125cf"])
+    equal("the least", port.ask("send16 0 15 0 0 -")[0][:19], "queued 001f00000000")
+    equal("the greatest", port.ask("send16 3 15 65535 65535 -")[0][:19], "queued 00dfffffffff")
+    equal("the longest", len(port.ask("send16 0 9 256 255 " + "5a" * 266)[0]), len("queued ") + 2 * 276)
+    for _ in range(13):
+        equal("room", len(port.ask("send 0 15 1 2 -")), 1)
+    equal("full", port.ask("send16 0 15 1 2 -"), ["full"])
+    port.end()
+
+
 def time_out(program):
     """A port whose time-out comes asks, and a port that is asked answers which ackID it expects."""
     a, b = Port(program, 8), Port(program, 8)
@@ -54,11 +67,16 @@ def time_out(program):
 
 
 REFUSED = {
-    "words": ["", "foo", "take 1", "state ", " take", "TAKE", "turn 1 1", "send", "send 1 2 3"],
-    "number": ["turn 0", "turn 100001", "turn x", "turn 01", "send 4 15 1 2 -", "send 0 16 1 2 -", "send 0 0 256 2 -"],
+    "words": ["", "foo", "take 1", "state ", " take", "TAKE", "turn 1 1", "send", "send 1 2 3",
+              "send16", "send8 0 15 1 2 -", "SEND16 0 15 1 2 -"],
+    "number": ["turn 0", "turn 100001", "turn x", "turn 01", "send 4 15 1 2 -", "send 0 16 1 2 -", "send 0 0 256 2 -",
+               "send 0 0 1 256 -", "send16 4 15 1 2 -", "send16 0 16 1 2 -", "send16 0 0 65536 2 -",
+               "send16 0 0 1 65536 -", "send16 0 0 01 2 -"],
     "character": ["got k1", "got k1c  d00", "got kBC", "got d00 "],
-    "bytes": ["send 0 15 1 2 ", "send 0 15 1 2 0", "send 0 15 1 2 0G", "send 0 15 1 2", "send 0 15 1 2 00 00"],
-    "length": ["send 0 15 1 2 00", "send 0 15 1 2 " + "00" * 270],
+    "bytes": ["send 0 15 1 2 ", "send 0 15 1 2 0", "send 0 15 1 2 0G", "send 0 15 1 2", "send 0 15 1 2 00 00",
+              "send16 0 15 1 2", "send16 0 15 1 2 0"],
+    "length": ["send 0 15 1 2 00", "send 0 15 1 2 " + "00" * 270,
+               "send16 0 15 1 2 00", "send16 0 15 1 2 " + "00" * 268],
 }
 
 
@@ -97,5 +115,5 @@ def bytes_and_readers(program):
 
 
 if __name__ == "__main__":
-    for case in (one_packet, room, time_out, refused, ends, long_lines, bytes_and_readers):
+    for case in (one_packet, room, ids_of_16_bits, time_out, refused, ends, long_lines, bytes_and_readers):
         case(sys.argv[1])

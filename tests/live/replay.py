@@ -10,7 +10,9 @@ import sys
 sys.path.insert(0, str(pathlib.Path(__file__).parents[2] / "examples" / "live"))
 from two_ports import Port, characters  # noqa: E402
 
-SETUP = "endpoint A 1\nendpoint B 2\nlink A.0 B.0\nbuffers A.0 5\nbuffers B.0 7\n"
+SETUP = "endpoint A 1\nendpoint B 2\nlink A.0 B.0\nbuffers A.0 5\nbuffers B.0 7\nlarge A 4097\nlarge B 8194\n"
+# The IDs of both ends, by the word that sends a packet with them.
+IDS = {"send": (1, 2), "send16": (4097, 8194)}
 EVENTS = 1000
 NAMES = "AB"
 WORDS = {"take": "queued", "leave": "taken"}
@@ -82,8 +84,10 @@ class Exchange:
 
     def sent(self, end):
         prio, data = self.chance.randrange(4), self.chance.randbytes(2 * self.chance.randrange(1, 9)).hex()
-        event = "send %s %d 11 %d %s" % (NAMES[end], prio, 2 - end, data)
-        self.asked(end, event, "send %d 11 %d %d %s" % (prio, end + 1, 2 - end, data))
+        word = self.chance.choice(list(IDS))
+        source, dest = IDS[word][end], IDS[word][1 - end]
+        event = "%s %s %d 11 %d %s" % (word, NAMES[end], prio, dest, data)
+        self.asked(end, event, "%s %d 11 %d %d %s" % (word, prio, source, dest, data))
 
     def turned(self, end):
         count = self.chance.randrange(1, 4)

@@ -3,7 +3,7 @@ use Rattle.std.proofs.Common.{◌≡◌, ℕ, ◌+◌, ◌<◌, ◌≤◌, suc, 
 use Rattle.std.proofs.lemmas.Bool.Decides.{nat_tests}
 use Rattle.std.proofs.Math.Seq.{get_or-append_seam}
 use Rattle.fabric_script.specs.declared.lines.Line.{Line}
-use Rattle.fabric_script.specs.declared.lines.Line.TheVariants.{Endpoint, Switch, Link, Buffers, Route, Default, Lock, Send, Read, Write, Pump, Deliver, Alter, Insert, Erase, Timeout, Settle, Move, Collect, Run}
+use Rattle.fabric_script.specs.declared.lines.Line.TheVariants.{Endpoint, Switch, Link, Buffers, Route, Default, Lock, Large, Send, Read, Write, Pump, Deliver, Alter, Insert, Erase, Timeout, Settle, Move, Collect, Run, Send16, Read16, Write16}
 use Rattle.fabric_script.specs.declared.lines.Numbered.{Numbered}
 use Rattle.fabric_script.specs.declared.reasons.Reason.TheVariants.{UnknownLine, BadNumber, BadName, NameTaken, UnknownNode, PortOutside, PortTaken, IdTaken, BadHex, BadLength, WrongKind, OutOfPlace, NotLinked, TooMuchWork}
 use Rattle.fabric_script.specs.Known.{Known, nothing, nothing_in, of_script, of_set_up, known_after, cost_of}
@@ -69,6 +69,7 @@ no_cost known (Buffers port n) event = refl
 no_cost known (Route node id p) event = refl
 no_cost known (Default node p) event = refl
 no_cost known (Lock node id) event = refl
+no_cost known (Large node id) event = refl
 no_cost known _ event = absurd cc
 
 cost_behind : (known : Known) (names : List (List ℕ)) (lines : List Numbered) → NoEvents lines
@@ -111,6 +112,12 @@ event_may known new other (Read node prio dest hop tid offset) event may =
     record { fit = may.fit; next = may.next }
 event_may known new other (Write node prio dest hop tid offset value) event may =
     record { fit = may.fit; next = may.next }
+event_may known new other (Send16 node prio ftype dest hex) event may =
+    record { fit = may.fit; next = may.next }
+event_may known new other (Read16 node prio dest hop tid offset) event may =
+    record { fit = may.fit; next = may.next }
+event_may known new other (Write16 node prio dest hop tid offset value) event may =
+    record { fit = may.fit; next = may.next }
 event_may known new other (Pump port n) event may = record { fit = may.fit; next = may.next }
 event_may known new other (Deliver port n) event may = record { fit = may.fit; next = may.next }
 event_may known new other (Alter port place ch) event may =
@@ -151,6 +158,9 @@ kind_same known (Move node) = refl
 kind_same known (Send node prio ftype dest hex) = refl
 kind_same known (Read node prio dest hop tid offset) = refl
 kind_same known (Write node prio dest hop tid offset value) = refl
+kind_same known (Send16 node prio ftype dest hex) = refl
+kind_same known (Read16 node prio dest hop tid offset) = refl
+kind_same known (Write16 node prio dest hop tid offset value) = refl
 kind_same known (Collect node) = refl
 kind_same known _ = refl
 
@@ -205,6 +215,12 @@ is_cheap known new (Send node prio ftype dest hex) event other none may =
 is_cheap known new (Read node prio dest hop tid offset) event other none may =
     not_over known.cost 1 none (omega arith)
 is_cheap known new (Write node prio dest hop tid offset value) event other none may =
+    not_over known.cost 1 none (omega arith)
+is_cheap known new (Send16 node prio ftype dest hex) event other none may =
+    not_over known.cost 1 none (omega arith)
+is_cheap known new (Read16 node prio dest hop tid offset) event other none may =
+    not_over known.cost 1 none (omega arith)
+is_cheap known new (Write16 node prio dest hop tid offset value) event other none may =
     not_over known.cost 1 none (omega arith)
 is_cheap known new (Pump port n) event other none may = not_over known.cost n none may.fit.1.0.1
 is_cheap known new (Deliver port n) event other none may = not_over known.cost n none may.fit.1.0.1

@@ -1,5 +1,5 @@
 -- What a line asks for: its words, which single spaces part, are those of a request.
-use Rattle.std.specs.Prelude.{◌≡◌, ℕ, ◌≤◌, ◌<◌, List, [], ◌∷◌, All, codes, map, Result, Ok, Err}
+use Rattle.std.specs.Prelude.{◌≡◌, ℕ, ◌≤◌, ◌<◌, Bool, true, false, List, [], ◌∷◌, All, codes, map, Result, Ok, Err}
 use Rattle.std.specs.Fmt.{decimal}
 use Rattle.rio_chars.specs.CharText.{char_text_of, HasByte}
 use Rattle.rio_chars.specs.declared.chars.Char.{Char}
@@ -11,23 +11,36 @@ use Rattle.rio_port.specs.declared.requests.Reason.{Reason}
 use Rattle.rio_port.specs.declared.requests.Request.{Request}
 use Rattle.rio_port.specs.declared.requests.Request.TheVariants.{Got, Turn, TimeOut, Send, Take, State}
 
--- The first four words say the fields of a packet; these words stand behind them.
-pub record SpellsHeader (words : List (List ℕ)) (header : Header) (behind : List (List ℕ)) : Type 0
-  where
-    pub prio : header.prio ≤ 3
-    pub ftype : header.ftype ≤ 15
-    pub source : header.source ≤ 255
-    pub dest : header.dest ≤ 255
-    pub words_are : words ≡ decimal header.prio ∷ decimal header.ftype ∷ decimal header.source
-        ∷ decimal header.dest ∷ behind
+-- the first word of a line with a packet, by whether its IDs have 16 bits
+abbrev pub send_word : Bool → List ℕ
+send_word false = codes "send"
+send_word true = codes "send16"
+
+-- the greatest device ID of 8 bits, and of 16 bits
+abbrev pub most_id : Bool → ℕ
+most_id false = 0xff
+most_id true = 0xffff
+
+-- The first four words say the fields of a packet, whose IDs have 16 bits if `large` is true, and 8
+-- bits otherwise; these words stand behind them.
+pub record SpellsHeader (large : Bool) (words : List (List ℕ)) (header : Header)
+    (behind : List (List ℕ)) : Type 0 where
+  pub prio : header.prio ≤ 3
+  pub ftype : header.ftype ≤ 15
+  pub source : header.source ≤ most_id large
+  pub dest : header.dest ≤ most_id large
+  pub size : header.large ≡ large
+  pub words_are : words ≡ decimal header.prio ∷ decimal header.ftype ∷ decimal header.source
+      ∷ decimal header.dest ∷ behind
 
 -- The words say the fields and the data of a packet, and this is its link form.
-pub record SpellsPacket (words : List (List ℕ)) (packet : List ℕ) : Type 0 where
+pub record SpellsPacket (large : Bool) (words : List (List ℕ)) (packet : List ℕ) : Type 0 where
   pub header : Header
   pub bytes : List ℕ
-  pub fields : SpellsHeader words header (hex_text bytes ∷ [])
+  pub fields : SpellsHeader large words header (hex_text bytes ∷ [])
   pub are_bytes : All (λ byte. byte < 256) bytes
-  pub form : LinkForm (body_of header.prio header.ftype header.dest header.source bytes) packet
+  pub form : LinkForm
+      (body_of header.prio header.ftype large header.dest header.source bytes) packet
 
 -- the words behind the first one spell these characters
 abbrev pub SpellsGot : List (List ℕ) → List Char → Type 0
@@ -43,8 +56,8 @@ AsksFor (Got chars) words =
     (behind : List (List ℕ)) × (words ≡ codes "got" ∷ behind) × SpellsGot behind chars
 AsksFor (Turn count) words =
     (behind : List (List ℕ)) × (words ≡ codes "turn" ∷ behind) × SpellsTurns behind count
-AsksFor (Send packet) words =
-    (behind : List (List ℕ)) × (words ≡ codes "send" ∷ behind) × SpellsPacket behind packet
+AsksFor (Send packet) words = (large : Bool) × (behind : List (List ℕ))
+    × (words ≡ send_word large ∷ behind) × SpellsPacket large behind packet
 AsksFor TimeOut words = words ≡ codes "timeout" ∷ []
 AsksFor Take words = words ≡ codes "take" ∷ []
 AsksFor State words = words ≡ codes "state" ∷ []

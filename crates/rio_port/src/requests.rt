@@ -1,8 +1,8 @@
 //! What a line asks for.
-ghost use Rattle.std.specs.Prelude.{◌≢◌, ◌∷◌, ℕ, List, IfOk, MatchResult, codes};
+ghost use Rattle.std.specs.Prelude.{◌≡◌, ◌≢◌, ◌∷◌, ℕ, List, IfOk, MatchResult, codes};
 ghost use Rattle.fabric_script.specs.Words.{words_left};
 ghost use Rattle.rio_packets.specs.declared.making.Header.{Header as AHeader};
-ghost use Rattle.rio_port.specs.Requests.{SpellsHeader, ReadsWords};
+ghost use Rattle.rio_port.specs.Requests.{SpellsHeader, ReadsWords, send_word, most_id as most_id_of};
 ghost use Rattle.rio_port.specs.Lines.{ReadsLine};
 
 use crate::words::{read_bytes, read_chars, take_number};
@@ -55,7 +55,10 @@ pub fn read_request(alloc: Global, line: &[u8]) -> Result<Result<Request, Reason
         return read_got(alloc, words);
     }
     if keyword == b"send".as_slice() {
-        return read_send(alloc, words);
+        return read_send(alloc, false, words);
+    }
+    if keyword == b"send16".as_slice() {
+        return read_send(alloc, true, words);
     }
     if keyword == b"turn".as_slice() {
         return Ok(read_turn(words));
@@ -68,6 +71,7 @@ fn read_single(keyword: &[u8], words: Option<&[u8]>) -> Result<Request, Reason>
     requires got { keyword.now ≢ codes "got" }
     requires turn { keyword.now ≢ codes "turn" }
     requires send { keyword.now ≢ codes "send" }
+    requires send16 { keyword.now ≢ codes "send16" }
     ensures { ReadsWords (keyword.entry.now ∷ words_left words.entry) result }
 {
     if words.is_some() {
@@ -109,12 +113,16 @@ fn read_turn(words: Option<&[u8]>) -> Result<Request, Reason>
     Ok(Request::Turn(number))
 }
 
-/// The words behind `send`.
-fn read_send(alloc: Global, words: Option<&[u8]>) -> Result<Result<Request, Reason>, AllocError>
+/// The words behind `send`, or behind `send16` if the IDs have 16 bits.
+fn read_send(
+    alloc: Global,
+    large: bool,
+    words: Option<&[u8]>,
+) -> Result<Result<Request, Reason>, AllocError>
     ensures { IfOk result (λ asked.
-        ReadsWords (codes "send" ∷ words_left words.entry) asked) }
+        ReadsWords (send_word large ∷ words_left words.entry) asked) }
 {
-    let (header, rest) = match read_header(words) {
+    let (header, rest) = match read_header(large, words) {
         Ok(read) => read,
         Err(reason) => return Ok(Err(reason)),
     };
@@ -128,21 +136,30 @@ fn read_send(alloc: Global, words: Option<&[u8]>) -> Result<Result<Request, Reas
 }
 
 /// The four numbers of a packet, and the words behind them.
-fn read_header(words: Option<&[u8]>) -> Result<(Header, Option<&[u8]>), Reason>
+fn read_header(large: bool, words: Option<&[u8]>) -> Result<(Header, Option<&[u8]>), Reason>
     ensures { MatchResult result
-        (λ read. SpellsHeader (words_left words.entry) read.0 (words_left read.1))
+        (λ read. SpellsHeader large (words_left words.entry) read.0 (words_left read.1))
         (λ reason. (header : AHeader) (rest : List (List ℕ))
-        → ¬ SpellsHeader (words_left words.entry) header rest) }
+        → ¬ SpellsHeader large (words_left words.entry) header rest) }
 {
     let (prio, words) = take_number(words, 3)?;
     let (ftype, words) = take_number(words, 15)?;
-    let (source, words) = take_number(words, 255)?;
-    let (dest, words) = take_number(words, 255)?;
+    let most = most_id(large);
+    let (source, words) = take_number(words, most)?;
+    let (dest, words) = take_number(words, most)?;
     let header = Header {
         prio: prio as u8,
         ftype: ftype as u8,
-        dest: dest as u8,
-        source: source as u8,
+        dest: dest as u16,
+        source: source as u16,
+        large,
     };
     Ok((header, words))
+}
+
+/// The greatest device ID of 16 bits, or of 8 bits.
+fn most_id(large: bool) -> u32
+    ensures { result ≡ most_id_of large }
+{
+    if large { 0xffff } else { 0xff }
 }

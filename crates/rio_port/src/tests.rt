@@ -27,11 +27,24 @@ const THREE: usize = 177;
 /// More calls than any of the runs makes: with this number no call fails.
 const CALLS: u32 = 100_000;
 
-/// Serves the lines, with at most `step` bytes in each call, and these calls failing.
+/// Serves `LINES`, with at most `step` bytes in each call, and these calls failing.
 fn served(alloc: Global, step: usize, read: u32, write: u32) -> Result<(Status, MemSink), Fail>
     requires { 1 ≤ step }
 {
-    let mut source = MemSource::new(LINES.to_vec(alloc)?, step, vec![in alloc; read]?);
+    let source = MemSource::new(LINES.to_vec(alloc)?, step, vec![in alloc; read]?);
+    served_of(alloc, source, step, write)
+}
+
+/// Serves a source, with at most `step` bytes in each call of the sink, and this call failing.
+fn served_of(
+    alloc: Global,
+    source: MemSource,
+    step: usize,
+    write: u32,
+) -> Result<(Status, MemSink), Fail>
+    requires { 1 ≤ step }
+{
+    let mut source = source;
     let Ok(mut sink) = MemSink::new(alloc, 10_000, step, vec![in alloc; write]?) else {
         return Err(Fail::from("no memory"));
     };
@@ -52,6 +65,21 @@ fn bytes_may_come_and_go_one_by_one(rt: HostRuntime) -> Result<(), Fail> {
     let (status, sink) = served(rt.alloc(), 1, CALLS, CALLS)?;
     assert_eq!(rt; status, Status::Done);
     assert!(rt; sink.written() == ANSWERS);
+    Ok(())
+}
+
+/// The device IDs 1 and 2 have 8 bits or 16; 4097 and 8194 have 16 alone.
+#[test]
+fn a_packet_has_ids_of_either_size(rt: HostRuntime) -> Result<(), Fail> {
+    let lines: &[u8] = b"send 0 15 1 2 -\nsend16 0 15 1 2 -\nsend16 0 15 4097 8194 -\n\
+send16 0 15 65535 65535 -\nsend16 0 15 65536 1 -\nsend16 0 15 1 65536 -\nsend 0 15 256 1 -\n";
+    let answers: &[u8] = b"queued 000f0201deb20000\nok\nqueued 001f0002000111f2\nok\n\
+queued 001f2002100125cf\nok\nqueued 001ffffffffff67c\nok\n\
+refused number\nok\nrefused number\nok\nrefused number\nok\n";
+    let source = MemSource::new(lines.to_vec(rt.alloc())?, 100_000, Vec::new(rt.alloc()));
+    let (status, sink) = served_of(rt.alloc(), source, 100_000, CALLS)?;
+    assert_eq!(rt; status, Status::Done);
+    assert!(rt; sink.written() == answers);
     Ok(())
 }
 

@@ -1,6 +1,6 @@
 use Rattle.rio_live.proofs.AnsweringLaws.{on_err, answered_quiet, answered_refused, answered_event, breaks_event}
 use Rattle.rio_live.proofs.answers.answer.Goals as goal
-use Rattle.rio_live.proofs.answers.answer.Goals.{in-Quiet, in-Refused, in-Event+in_ok-going-in-Event+in-Send-1, in-Event+in_ok-going-in-Event+in-Endpoint-1}
+use Rattle.rio_live.proofs.answers.answer.Goals.{in-Quiet, in-Refused, in-Event+in_ok-going-in-Event+in-Send-1, in-Event+in_ok-going-in-Event+in-Send16-1, in-Event+in_ok-going-in-Event+in-Endpoint-1}
 
 pub returns-in_err-going-in-Event-clause-breaks : goal.returns-in_err-going-in-Event-clause-breaks
 returns-in_err-going-in-Event-clause-breaks g c =
@@ -30,6 +30,13 @@ returns-clause-answered g c = λ taken holds.
           w.write_refused.new.outbox next mid w.in-Refused.reason (rw w.in-Refused.is at read)
           w.write_refused.ensures (rw w.outbox-is at c.write.ensures))
       | in-Event+in_ok-going-in-Event+in-Send-1 w ↦
+          let takes = rw w.in-Event.is at read in
+          rw (w.live-is, w.going-is) (answered_event written faults taken number line out
+          w.happen.new.outbox next mid w.happen.new.live w.in-Event.event
+          w.in_ok-going-in-Event.going takes
+          (w.in_ok-going-in-Event.ensures.happens taken line takes.0 takes.2)
+          (rw w.outbox-is at c.write.ensures))
+      | in-Event+in_ok-going-in-Event+in-Send16-1 w ↦
           let takes = rw w.in-Event.is at read in
           rw (w.live-is, w.going-is) (answered_event written faults taken number line out
           w.happen.new.outbox next mid w.happen.new.live w.in-Event.event

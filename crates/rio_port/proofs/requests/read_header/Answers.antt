@@ -11,7 +11,7 @@ returns-in_err-ftype c =
     let err = err_from_is_err_and left.result left.ensures.1 in
     let prio : words_left c.args.words
     ≡ decimal c.in_ok-prio.prio ∷ words_left c.in_ok-prio.words = cc (c.in_ok-prio.ensures.1) in
-    rw err.1 (second_none (words_left c.args.words) (words_left c.in_ok-prio.words)
+    rw err.1 (second_none c.args.large (words_left c.args.words) (words_left c.in_ok-prio.words)
     c.in_ok-prio.prio prio c.in_err-ftype.ensures)
 
 pub returns-in_err-source : goal.returns-in_err-source
@@ -23,9 +23,9 @@ returns-in_err-source c =
     let ftype : words_left c.in_ok-prio.words
     ≡ decimal c.in_ok-ftype.ftype ∷ words_left c.in_ok-ftype.words =
     cc (c.in_ok-ftype.ensures.1) in
-    rw err.1 (third_none (words_left c.args.words) (words_left c.in_ok-prio.words)
-    (words_left c.in_ok-ftype.words) c.in_ok-prio.prio c.in_ok-ftype.ftype prio ftype
-    c.in_err-source.ensures)
+    rw err.1 (third_none c.args.large (words_left c.args.words) (words_left c.in_ok-prio.words)
+    (words_left c.in_ok-ftype.words) c.in_ok-prio.prio c.in_ok-ftype.ftype
+    c.most_id-most.result prio ftype c.most_id-most.ensures c.in_err-source.ensures)
 
 pub returns-in_err-dest : goal.returns-in_err-dest
 returns-in_err-dest c =
@@ -39,6 +39,7 @@ returns-in_err-dest c =
     let source : words_left c.in_ok-ftype.words
     ≡ decimal c.in_ok-source.source ∷ words_left c.in_ok-source.words =
     cc (c.in_ok-source.ensures.1) in
-    rw err.1 (fourth_none (words_left c.args.words) (words_left c.in_ok-prio.words)
+    rw err.1 (fourth_none c.args.large (words_left c.args.words) (words_left c.in_ok-prio.words)
     (words_left c.in_ok-ftype.words) (words_left c.in_ok-source.words) c.in_ok-prio.prio
-    c.in_ok-ftype.ftype c.in_ok-source.source prio ftype source c.in_err-dest.ensures)
+    c.in_ok-ftype.ftype c.in_ok-source.source c.most_id-most.result prio ftype source
+    c.most_id-most.ensures c.in_err-dest.ensures)
