@@ -77,6 +77,11 @@ function behind_ids(hex) { return substr(hex, 4 * width(hex) + 5) }
 # the word of eight bytes of data that an offset names
 function word_at(rest, offset) { return substr(rest, byte(offset, 2) % 8 < 4 ? 13 : 21, 8) }
 
+# whether a request is to read four bytes (0) or to write them (1), by its size and its length
+function is_of_four(hex, rest, type) {
+    return byte(rest, 0) % 16 == 8 && length(hex) == 16 + 8 * width(hex) + 16 * type
+}
+
 function maintenance_words(hex,    rest, type, tid, key, offset) {
     rest = behind_ids(hex)
     type = int(byte(rest, 0) / 16)
@@ -87,7 +92,7 @@ function maintenance_words(hex,    rest, type, tid, key, offset) {
         offset = substr(rest, 7, 6)
         asked[width(hex) " " source_of(hex) " " tid] = offset
         return types[type + 1] " " tid " hop " byte(rest, 2) ", " register(offset) \
-            (type ? " = " word_at(rest, offset) : "")
+            (!is_of_four(hex, rest, type) ? ", not of four bytes" : type ? " = " word_at(rest, offset) : "")
     }
     if (byte(rest, 0) % 16) return types[type + 1] " " tid ", error " byte(rest, 0) % 16
     if (type == 3) return types[4] " " tid ", done"
