@@ -2,7 +2,7 @@
 use Rattle.std.proofs.Common.{◌≡◌, ℕ, ◌<◌, ◌≤◌, Bool, cond, length, Option, None, ap, refl, le-ltb, lt-ltb, lit≤}
 use Rattle.link_model.specs.Outstanding.{Outstanding}
 use Rattle.link_model.specs.Window.{window}
-use Rattle.link_model.specs.Output.{startable}
+use Rattle.link_model.specs.Output.{startable, credited}
 
 -- fewer than the ackIDs are outstanding, so that the next ackID is none of theirs
 pub window_few : window ≤ 31
@@ -17,9 +17,9 @@ window_is = refl
 pub startable-full : (w : Outstanding) (waiting : Option ℕ) → window ≤ length w.prios
     → startable w waiting ≡ None
 startable-full w waiting full =
-    ap (λ (b : Bool). cond b waiting None) (le-ltb (length w.prios) window full)
+    ap (λ (b : Bool). cond b (credited w waiting) None) (le-ltb (length w.prios) window full)
 
 pub startable-open : (w : Outstanding) (waiting : Option ℕ) → length w.prios < window
-    → startable w waiting ≡ waiting
+    → startable w waiting ≡ credited w waiting
 startable-open w waiting few =
-    ap (λ (b : Bool). cond b waiting None) (lt-ltb (length w.prios) window few)
+    ap (λ (b : Bool). cond b (credited w waiting) None) (lt-ltb (length w.prios) window few)

@@ -13,10 +13,10 @@ pub data Input : Type 0 where
   RetryStopped : ℕ → Input
   ErrorStopped : ℕ → Input
 
--- what comes to a receiver
+-- what comes to a receiver; a packet that is expected, with the buffer status after it
 pub data Arrival : Type 0 where
-  ExpectedWithRoom : Arrival
-  ExpectedWithoutRoom : Arrival
+  ExpectedWithRoom : (buffers : ℕ) → Arrival
+  ExpectedWithoutRoom : (buffers : ℕ) → Arrival
   UnexpectedAck : Arrival
   -- characters that are no packet or symbol, with the number of the cause
   Damaged : ℕ → Arrival
@@ -24,10 +24,12 @@ pub data Arrival : Type 0 where
   LinkRequest : Arrival
   OtherStype1 : Arrival
 
--- a good packet with an ackID, where another is expected, and whether its priority has room
-abbrev pub packet_arrival : ℕ → ℕ → Bool → Arrival
-packet_arrival expected ack room =
-    if ack == expected then (if room then ExpectedWithRoom else ExpectedWithoutRoom)
+-- a good packet with an ackID, where another is expected, whether its priority has room, and the
+-- buffer status after it
+abbrev pub packet_arrival : ℕ → ℕ → Bool → ℕ → Arrival
+packet_arrival expected ack room buffers =
+    if ack == expected
+    then (if room then ExpectedWithRoom buffers else ExpectedWithoutRoom buffers)
     else UnexpectedAck
 
 -- a control symbol by its stype1 and cmd; a link-request with another cmd than input-status is
@@ -50,11 +52,11 @@ abbrev pub silent : Input → Received
 silent state = record { state = state; reply = None; held = false }
 
 -- the packet of the expected ackID is accepted
-abbrev pub accepted : ℕ → Received
-accepted expected =
+abbrev pub accepted : ℕ → ℕ → Received
+accepted expected buffers =
     record {
       state = Ok ((expected + 1) % 32);
-      reply = Some (packet_accepted expected);
+      reply = Some (packet_accepted expected buffers);
       held
           = true;
     }
@@ -65,12 +67,13 @@ error expected cause = replied (ErrorStopped expected) (packet_not_accepted expe
 
 -- what an arrival does: one clause for each entry of the table
 abbrev pub receives : Arrival → Input → Received
-receives ExpectedWithRoom (Ok expected) = accepted expected
-receives ExpectedWithRoom (RetryStopped expected) = silent (RetryStopped expected)
-receives ExpectedWithRoom (ErrorStopped expected) = silent (ErrorStopped expected)
-receives ExpectedWithoutRoom (Ok expected) = replied (RetryStopped expected) (packet_retry expected)
-receives ExpectedWithoutRoom (RetryStopped expected) = silent (RetryStopped expected)
-receives ExpectedWithoutRoom (ErrorStopped expected) = silent (ErrorStopped expected)
+receives (ExpectedWithRoom buffers) (Ok expected) = accepted expected buffers
+receives (ExpectedWithRoom buffers) (RetryStopped expected) = silent (RetryStopped expected)
+receives (ExpectedWithRoom buffers) (ErrorStopped expected) = silent (ErrorStopped expected)
+receives (ExpectedWithoutRoom buffers) (Ok expected) =
+    replied (RetryStopped expected) (packet_retry expected buffers)
+receives (ExpectedWithoutRoom buffers) (RetryStopped expected) = silent (RetryStopped expected)
+receives (ExpectedWithoutRoom buffers) (ErrorStopped expected) = silent (ErrorStopped expected)
 receives UnexpectedAck (Ok expected) = error expected 1
 receives UnexpectedAck (RetryStopped expected) = silent (RetryStopped expected)
 receives UnexpectedAck (ErrorStopped expected) = silent (ErrorStopped expected)

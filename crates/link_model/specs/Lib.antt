@@ -1,4 +1,6 @@
 pub mod Window
+pub mod AckIds
+pub mod Reports
 pub mod Outstanding
 pub mod Symbols
 pub mod Output

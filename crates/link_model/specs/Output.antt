@@ -2,8 +2,11 @@
 -- 1.3, Part 6, packet retry and error recovery). The rows and columns are in the order of the
 -- tables of docs/link.md.
 use Rattle.std.specs.Prelude.{ℕ, ◌==◌, Bool, true, false, nat_lt, nat_le, if◌then◌else◌, length, Option, Some, None}
+use Rattle.rio_symbols.specs.Fields.{Fields}
 use Rattle.rio_symbols.specs.declared.stype0.TheConstants.{PACKET_ACCEPTED, PACKET_RETRY, PACKET_NOT_ACCEPTED, LINK_RESPONSE}
-use Rattle.link_model.specs.Outstanding.{Outstanding, next_ack, distance, is_oldest, without_oldest, with_next, from_ack}
+use Rattle.link_model.specs.Outstanding.{Outstanding, next_ack, distance, is_oldest, without_oldest, with_next, with_report, from_ack}
+use Rattle.link_model.specs.declared.reports.Report.{Report}
+use Rattle.link_model.specs.Reports.{has_buffer_status, base_of, report_of, has_credit}
 use Rattle.link_model.specs.Window.{window}
 
 pub data Output : Type 0 where
@@ -57,7 +60,20 @@ abbrev pub responded : Bool → Outstanding → ℕ → Heard
 responded false w ack = ignored (ErrorStopped false w)
 responded true w ack =
     if nat_le (distance w.oldest ack) (length w.prios)
-    then heard (Ok (from_ack ack)) (distance w.oldest ack) else heard Failed 0
+    then heard (Ok (from_ack ack w.report)) (distance w.oldest ack) else heard Failed 0
+
+-- a report replaces the last one, in every state that has not failed
+abbrev pub reported : Option Report → Output → Output
+reported report (Ok w) = Ok (with_report report w)
+reported report (RetryStopped w) = RetryStopped (with_report report w)
+reported report (ErrorStopped asked w) = ErrorStopped asked (with_report report w)
+reported report Failed = Failed
+
+-- what the buffer status of a symbol does, if it has one, before anything else
+abbrev pub hears_report : Fields → Output → Output
+hears_report symbol output =
+    if has_buffer_status symbol.s0
+    then reported (report_of (base_of symbol.s0 symbol.p0) symbol.p1) output else output
 
 -- what a symbol with the ackID does: one clause for each entry of the table
 abbrev pub hears : Stype0 → Output → ℕ → Heard
@@ -88,6 +104,8 @@ pub data Sends : Type 0 where
   Packet : (ack prio : ℕ) → Sends
   Restart : Sends
   Request : Sends
+  -- status with NOP, which tells the free buffers
+  Status : Sends
   Nothing : Sends
 
 -- the state after a turn, and what it sends
@@ -98,23 +116,41 @@ pub record Turned : Type 0 where
 abbrev pub turned : Output → Sends → Turned
 turned state sends = record { state = state; sends = sends }
 
--- the priority of the packet that a turn starts, if one waits and fewer than the window are
--- outstanding
+-- the priority, if the far port has told of room for a packet of it, or does not tell
+abbrev pub credited : Outstanding → Option ℕ → Option ℕ
+credited w None = None
+credited w (Some prio) = if has_credit w.report (next_ack w) prio then Some prio else None
+
+-- the priority of the packet that a turn starts, if one waits, fewer than the window are
+-- outstanding, and there is credit for it
 abbrev pub startable : Outstanding → Option ℕ → Option ℕ
-startable w waiting = if nat_lt (length w.prios) window then waiting else None
+startable w waiting = if nat_lt (length w.prios) window then credited w waiting else None
 
-abbrev pub started : Outstanding → Option ℕ → Turned
-started w None = turned (Ok w) Nothing
-started w (Some prio) = turned (Ok (with_next w prio)) (Packet (next_ack w) prio)
+-- what is sent where no packet starts, by whether the port tells its free buffers
+abbrev pub unstarted : Bool → Sends
+unstarted true = Status
+unstarted false = Nothing
 
--- what a turn does, where the packet that waits first has the priority: one clause for each entry
--- of the table
-abbrev pub turns : Output → Option ℕ → Turned
-turns (Ok w) waiting = started w (startable w waiting)
-turns (RetryStopped w) waiting = turned (Ok (from_ack w.oldest)) Restart
-turns (ErrorStopped false w) waiting = turned (ErrorStopped true w) Request
-turns (ErrorStopped true w) waiting = turned (ErrorStopped true w) Nothing
-turns Failed waiting = turned Failed Nothing
+abbrev pub started : Bool → Outstanding → Option ℕ → Turned
+started tells w None = turned (Ok w) (unstarted tells)
+started tells w (Some prio) = turned (Ok (with_next w prio)) (Packet (next_ack w) prio)
+
+-- what a turn does of a port that tells its free buffers, or does not, where the packet that waits
+-- first has the priority: one clause for each entry of the table
+abbrev pub turns : Bool → Output → Option ℕ → Turned
+turns tells (Ok w) waiting = started tells w (startable w waiting)
+turns tells (RetryStopped w) waiting = turned (Ok (from_ack w.oldest w.report)) Restart
+turns tells (ErrorStopped false w) waiting = turned (ErrorStopped true w) Request
+turns tells (ErrorStopped true w) waiting = turned (ErrorStopped true w) Nothing
+turns tells Failed waiting = turned Failed Nothing
+
+-- whether a packet is sent
+abbrev pub starts : Sends → Bool
+starts (Packet ack prio) = true
+starts Restart = false
+starts Request = false
+starts Status = false
+starts Nothing = false
 
 -- what a time-out does
 abbrev pub times_out : Output → Output

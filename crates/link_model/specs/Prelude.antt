@@ -25,8 +25,9 @@ pub use Rattle.link_model.specs.Reading.{Plain, Within, Skipped, Text, placed}
 pub use Rattle.link_model.specs.ReadingSpelt.{data_chars}
 unfoldable pub use Rattle.link_model.specs.ReadingSpelt.{symbol_chars_of, packet_chars_of}
 unfoldable pub use Rattle.link_model.specs.Window.{window}
+pub use Rattle.link_model.specs.Reports.{untold}
 pub use Rattle.link_model.specs.Outstanding.{Outstanding, from_ack, distance, IsOutstanding}
-pub use Rattle.link_model.specs.Output.{Output, Sends, hears, turns, times_out}
+pub use Rattle.link_model.specs.Output.{Output, Sends, hears, hears_report, turns, times_out}
 pub use Rattle.link_model.specs.Input.{Input, Arrival, Received, symbol_arrival, packet_arrival, receives}
 pub use Rattle.link_model.specs.Input.Arrival.{Damaged}
-pub use Rattle.link_model.specs.Symbols.{packet_accepted, restart_from_retry, link_request, start_of_packet, end_of_packet}
+pub use Rattle.link_model.specs.Symbols.{packet_accepted, restart_from_retry, link_request, status, start_of_packet, end_of_packet}

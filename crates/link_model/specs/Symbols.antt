@@ -7,23 +7,22 @@ use Rattle.rio_symbols.specs.declared.stype1.TheConstants.{START_OF_PACKET, END_
 use Rattle.rio_symbols.specs.declared.cmd.TheConstants.{INPUT_STATUS}
 use Rattle.rio_symbols.specs.Fields.{Fields}
 
--- the buffer status of a port that does not tell its free buffers: receiver-controlled flow control
-abbrev pub untold : ℕ
-untold = 31
-
 -- a symbol with stype0, its two parameters and NOP
 abbrev pub answer : ℕ → ℕ → ℕ → Fields
 answer s0 p0 p1 = record { s0 = s0; p0 = p0; p1 = p1; s1 = NOP; cmd = 0 }
 
--- status, which has the next expected ackID, with stype1 and cmd
-abbrev pub status_with : ℕ → ℕ → ℕ → Fields
-status_with expected s1 cmd = record { s0 = STATUS; p0 = expected; p1 = untold; s1 = s1; cmd = cmd }
+-- status, which has the next expected ackID and the buffer status, with stype1 and cmd
+abbrev pub status_with : (expected buffers s1 cmd : ℕ) → Fields
+status_with expected buffers s1 cmd =
+    record { s0 = STATUS; p0 = expected; p1 = buffers; s1 = s1; cmd = cmd }
 
-abbrev pub packet_accepted : ℕ → Fields
-packet_accepted ack = answer PACKET_ACCEPTED ack untold
+-- the ackID and the buffer status, which is the number of free buffers, or 31 of a port that does
+-- not tell it
+abbrev pub packet_accepted : ℕ → ℕ → Fields
+packet_accepted ack buffers = answer PACKET_ACCEPTED ack buffers
 
-abbrev pub packet_retry : ℕ → Fields
-packet_retry ack = answer PACKET_RETRY ack untold
+abbrev pub packet_retry : ℕ → ℕ → Fields
+packet_retry ack buffers = answer PACKET_RETRY ack buffers
 
 -- the next expected ackID (this project's profile) and the cause
 abbrev pub packet_not_accepted : ℕ → ℕ → Fields
@@ -33,15 +32,19 @@ packet_not_accepted expected cause = answer PACKET_NOT_ACCEPTED expected cause
 abbrev pub link_response : ℕ → ℕ → Fields
 link_response expected port_status = answer LINK_RESPONSE expected port_status
 
-abbrev pub start_of_packet : ℕ → Fields
-start_of_packet expected = status_with expected START_OF_PACKET 0
+-- status with NOP
+abbrev pub status : ℕ → ℕ → Fields
+status expected buffers = status_with expected buffers NOP 0
 
-abbrev pub end_of_packet : ℕ → Fields
-end_of_packet expected = status_with expected END_OF_PACKET 0
+abbrev pub start_of_packet : ℕ → ℕ → Fields
+start_of_packet expected buffers = status_with expected buffers START_OF_PACKET 0
 
-abbrev pub restart_from_retry : ℕ → Fields
-restart_from_retry expected = status_with expected RESTART_FROM_RETRY 0
+abbrev pub end_of_packet : ℕ → ℕ → Fields
+end_of_packet expected buffers = status_with expected buffers END_OF_PACKET 0
+
+abbrev pub restart_from_retry : ℕ → ℕ → Fields
+restart_from_retry expected buffers = status_with expected buffers RESTART_FROM_RETRY 0
 
 -- link-request input-status
-abbrev pub link_request : ℕ → Fields
-link_request expected = status_with expected LINK_REQUEST INPUT_STATUS
+abbrev pub link_request : ℕ → ℕ → Fields
+link_request expected buffers = status_with expected buffers LINK_REQUEST INPUT_STATUS

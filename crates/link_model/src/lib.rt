@@ -12,12 +12,14 @@
 //!   [`event_laws`] state what holds of every reading; the calls do nothing.
 //! - [`WINDOW`]: the most packets that are outstanding
 //! - [`packet_accepted`] and the like: the control symbols that a port sends
+//! - [`Report`]: what a port tells of its free receive buffers; [`has_credit`]: what may start by it
 //! - [`PortStatus`]: what a link-response tells of the input
 #![tactic(auto)]
 
 mod event;
 mod reading_kinds;
 mod reading_laws;
+mod reports;
 mod symbols;
 #[cfg(test)]
 mod tests;
@@ -30,8 +32,9 @@ pub use reading_laws::{
     packet_in_progress_is_bounded, reading_in_pieces, spelling_is_read,
     spelling_is_read_from_any_place,
 };
+pub use reports::{Report, has_buffer_status, has_credit, report_base};
 pub use symbols::{
-    PortStatus, end_of_packet, link_request, link_response, packet_accepted, packet_not_accepted,
-    packet_retry, restart_from_retry, start_of_packet,
+    PortStatus, UNTOLD, end_of_packet, link_request, link_response, packet_accepted,
+    packet_not_accepted, packet_retry, restart_from_retry, start_of_packet, status,
 };
 pub use window::{WINDOW, window_of_the_tables};
