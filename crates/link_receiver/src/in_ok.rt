@@ -1,13 +1,15 @@
 //! `InOk`: packets are taken.
 ghost use Rattle.std.specs.Prelude.{◌≡◌, ◌<◌, ◌==◌};
-ghost use Rattle.link_model.specs.Prelude.{number_of, prio_of, Received, packet_arrival, receives, Input, Damaged};
-ghost use Rattle.link_buffers.specs.Queues.{room_for, stored};
+ghost use Rattle.link_model.specs.Prelude.{number_of, Received, receives, Input, Damaged};
+ghost use Rattle.link_buffers.specs.Queues.{stored};
 ghost use Rattle.link_model.specs.Input.{replied};
 ghost use Rattle.link_model.specs.Input.Arrival.{RestartFromRetry, LinkRequest};
 ghost use Rattle.link_receiver.specs.Answers.{after_packet};
+ghost use Rattle.link_receiver.specs.Status.{comes_to};
 
 use crate::in_error_stopped::InErrorStopped;
 use crate::in_retry_stopped::InRetryStopped;
+use crate::status::buffer_status;
 use link_buffers::InStore;
 use link_model::{PortStatus, link_response, packet_accepted, packet_not_accepted, packet_retry};
 use rio_packets::{Cause, Packet};
@@ -66,14 +68,14 @@ impl InOk {
 
     /// A good packet with this ackID. With another ackID than the expected one it is an error of
     /// cause 1; where its priority has no room it has to be sent again; else it is put into the
-    /// store. In the first two cases the store is unchanged.
-    pub fn packet(self, ack: u8, packet: &Packet, store: &mut InStore) -> AfterPacket
+    /// store. In the first two cases the store is unchanged. The symbol tells the number of buffers
+    /// that are free then, if the port `tells` it.
+    pub fn packet(self, ack: u8, packet: &Packet, store: &mut InStore, tells: bool) -> AfterPacket
         ensures entry { after_packet result
-            ≡ receives (packet_arrival self ack (room_for store.old (prio_of packet.now)))
-            (Input.Ok self) }
+            ≡ receives (comes_to tells store.old self ack packet.now) (Input.Ok self) }
         ensures store { store.new
-            ≡ stored (receives (packet_arrival self ack (room_for store.old (prio_of packet.now)))
-            (Input.Ok self)).held store.old packet.now }
+            ≡ stored (receives (comes_to tells store.old self ack packet.now) (Input.Ok self)).held
+            store.old packet.now }
     {
         let known = self.expects(ack);
         let InOk { expected } = self;
@@ -82,13 +84,14 @@ impl InOk {
             return AfterPacket::NotAccepted(InErrorStopped { expected }, symbol);
         }
         if !store.has_room(packet.prio()) {
-            return AfterPacket::Retry(InRetryStopped { expected }, packet_retry(expected));
+            let symbol = packet_retry(expected, buffer_status(tells, store));
+            return AfterPacket::Retry(InRetryStopped { expected }, symbol);
         }
         store.put(packet.copy());
         let next = InOk {
             expected: (expected + 1) % 32,
         };
-        AfterPacket::Accepted(next, packet_accepted(expected))
+        AfterPacket::Accepted(next, packet_accepted(expected, buffer_status(tells, store)))
     }
 
     /// What came is no packet or symbol.

@@ -32,12 +32,15 @@
 //!
 //! - `InOk`, `InRetryStopped`, `InErrorStopped`: the states
 //! - `AfterPacket`: the next state after a packet
+//! - `buffer_status`: what a port tells of its receive buffers
 #![tactic(auto)]
 
 mod in_error_stopped;
 mod in_ok;
 mod in_retry_stopped;
+mod status;
 
 pub use in_error_stopped::InErrorStopped;
 pub use in_ok::{AfterPacket, InOk};
 pub use in_retry_stopped::InRetryStopped;
+pub use status::buffer_status;

@@ -32,6 +32,9 @@
 //!
 //! What is not drawn leads to no other state, as a time-out in `OutRetryStopped`.
 //!
+//! Each state that has not failed keeps the last report of the far port, if it tells its free
+//! buffers. `OutOk` starts only what has room by it.
+//!
 //! This project's profile: the highest priority goes first, also among what has to be sent again
 //! after a retry; at most `WINDOW` packets are outstanding; a time-out in `OutOk` is an error also
 //! where nothing is outstanding, and in `OutRetryStopped` it changes nothing.
@@ -47,8 +50,6 @@ mod out_error_stopped;
 mod out_ok;
 mod out_retry_stopped;
 mod outstanding;
-#[cfg(test)]
-mod tests;
 
 pub use answers::{AfterAccepted, AfterResponse, AfterRetry, OutFailed, Started};
 pub use out_error_stopped::OutErrorStopped;

@@ -2,7 +2,8 @@
 ghost use Rattle.std.specs.Prelude.{◌≡◌, ℕ, ◌<◌, [], false, length, take, Option};
 ghost use Rattle.link_buffers.specs.Priorities.{packets_of, lists_without, Covers};
 ghost use Rattle.link_model.specs.Prelude.{hears, times_out, turns, Output, Sends, IsOutstanding};
-ghost use Rattle.link_model.specs.Output.{turned};
+ghost use Rattle.link_model.specs.Output.{turned, reported};
+ghost use Rattle.link_model.specs.Reports.{report_of};
 ghost use Rattle.link_model.specs.Output.Stype0.{LinkResponse};
 ghost use Rattle.link_sender.specs.Answers.{after_response, error_stopped};
 
@@ -12,6 +13,7 @@ use crate::out_ok::OutOk;
 use crate::outstanding::Outstanding;
 use arrayvec::ArrayVec;
 use link_buffers::OutStore;
+use link_model::Report;
 use rio_packets::Packet;
 use std::marker::Model;
 
@@ -32,12 +34,26 @@ impl Model for OutErrorStopped {
 }
 
 impl OutErrorStopped {
+    /// Keeps what the far port told, as [`OutOk::report`].
+    pub fn report(self, base: u8, free: u8) -> OutErrorStopped
+        requires base { base < 32 }
+        requires free { free < 32 }
+        ensures { error_stopped result ≡ reported (report_of base free) (error_stopped self) }
+    {
+        let OutErrorStopped {
+            mut outstanding,
+            asked,
+        } = self;
+        outstanding.keep(Report::new(base, free));
+        OutErrorStopped { outstanding, asked }
+    }
+
     /// A turn of a sender that has not asked, which sends a link-request. One that has asked is
     /// unchanged.
     pub fn request(self) -> OutErrorStopped
         ensures { (waiting : Option ℕ)
             → turned (error_stopped result) Sends.Request
-            ≡ turns (Output.ErrorStopped false self.outstanding) waiting }
+            ≡ turns false (Output.ErrorStopped false self.outstanding) waiting }
     {
         OutErrorStopped {
             outstanding: self.outstanding,
@@ -106,7 +122,7 @@ impl OutErrorStopped {
         let (accepted, _) = self.outstanding.prios().split_at(usize::from(count));
         free_all(accepted, store, freed);
         AfterResponse::Ok(OutOk {
-            outstanding: Outstanding::from_ack(ack),
+            outstanding: self.outstanding.restarted(ack),
         })
     }
 }

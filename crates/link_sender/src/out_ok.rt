@@ -1,9 +1,12 @@
 //! `OutOk`: packets may start.
-ghost use Rattle.std.specs.Prelude.{◌≡◌, ℕ, [], length, take, IfSome, ◌<◌};
+ghost use Rattle.std.specs.Prelude.{◌≡◌, ℕ, [], Some, None, length, take, IfSome, is_some, ◌<◌, false};
+ghost use Rattle.std.specs.Option.{option_map};
 ghost use Rattle.link_buffers.specs.Queues.{list_at};
 ghost use Rattle.link_buffers.specs.Priorities.{packets_of, lists_without, count_of, highest, Covers};
-ghost use Rattle.link_model.specs.Prelude.{hears, times_out, turns, Output, IsOutstanding, from_ack};
-ghost use Rattle.link_model.specs.Output.{Heard};
+ghost use Rattle.link_model.specs.Prelude.{hears, times_out, turns, Output, IsOutstanding, from_ack, window};
+ghost use Rattle.link_model.specs.Output.{Heard, startable};
+ghost use Rattle.link_model.specs.Outstanding.{with_report};
+ghost use Rattle.link_model.specs.Reports.{report_of};
 ghost use Rattle.link_model.specs.Output.Stype0.{PacketAccepted, PacketRetry, PacketNotAccepted};
 ghost use Rattle.link_sender.specs.Answers.{after_accepted, after_retry, after_turn, error_stopped};
 
@@ -13,8 +16,8 @@ use crate::out_error_stopped::OutErrorStopped;
 use crate::out_retry_stopped::OutRetryStopped;
 use crate::outstanding::Outstanding;
 use arrayvec::ArrayVec;
-use link_buffers::OutStore;
-use link_model::WINDOW;
+use link_buffers::{OutStore, Waiting};
+use link_model::{Report, WINDOW};
 use rio_packets::Packet;
 use std::marker::Model;
 
@@ -33,34 +36,75 @@ impl Model for OutOk {
 }
 
 impl OutOk {
-    /// The state of a new port: nothing is outstanding, and the next ackID is 0.
+    /// The state of a new port: nothing is outstanding, the next ackID is 0, and the far port has
+    /// told nothing.
     pub fn new() -> OutOk
-        ensures { result ≡ from_ack 0 }
+        ensures { result ≡ from_ack 0 None }
     {
         OutOk {
-            outstanding: Outstanding::from_ack(0),
+            outstanding: Outstanding::from_ack(0, None),
         }
     }
 
+    /// Keeps what the far port told: a buffer status, 0 to 31, and the ackID that it expects, 0 to
+    /// 31. A buffer status of 31 tells nothing, and the state keeps no report then.
+    pub fn report(self, base: u8, free: u8) -> OutOk
+        requires base { base < 32 }
+        requires free { free < 32 }
+        ensures { result ≡ with_report (report_of base free) self }
+    {
+        let OutOk { mut outstanding } = self;
+        outstanding.keep(Report::new(base, free));
+        OutOk { outstanding }
+    }
+
+    /// Returns whether a turn starts a packet.
+    pub fn ready(&self, store: &OutStore) -> bool
+        ensures { result
+            ≡ is_some (startable self.now (highest (lists_without self.now.prios store.now))) }
+    {
+        self.next(store).is_some()
+    }
+
+    /// The place of the packet that a turn starts.
+    fn next(&self, store: &OutStore) -> Option<Waiting>
+        ensures prio { option_map (λ first. first.prio) result
+            ≡ startable self.now (highest (lists_without self.now.prios store.now)) }
+        ensures few { IfSome result (λ first. length self.now.prios < window) }
+        ensures waiting { IfSome result (λ first. Some first.prio
+            ≡ highest (lists_without self.now.prios store.now)) }
+        ensures place { IfSome result (λ first. first.place ≡ count_of self.now.prios first.prio) }
+        ensures waits { IfSome result
+            (λ first. first.place < length (list_at store.now first.prio)) }
+        ensures range { IfSome result (λ first. first.prio < 4) }
+    {
+        if self.outstanding.len() >= WINDOW {
+            return None;
+        }
+        let next = store.first_behind(self.outstanding.prios())?;
+        if !self.outstanding.has_credit(next.prio) {
+            return None;
+        }
+        Some(next)
+    }
+
     /// Starts the first packet of the highest priority that has one which is not outstanding (this
-    /// project's profile), where fewer than `WINDOW` are outstanding. It takes the next ackID.
+    /// project's profile), if fewer than `WINDOW` are outstanding and the far port has told of room
+    /// for it or does not tell. It takes the next ackID.
     pub fn turn(self, store: &OutStore) -> (OutOk, Option<Started>)
         requires { Covers self.prios store.now }
         ensures entry { after_turn result.0 result.1
-            ≡ turns (Output.Ok self) (highest (lists_without self.prios store.now)) }
+            ≡ turns false (Output.Ok self) (highest (lists_without self.prios store.now)) }
         ensures place { IfSome result.1 (λ packet. packet.place ≡ count_of self.prios packet.prio) }
         ensures waits { IfSome result.1
             (λ packet. packet.place < length (list_at store.now packet.prio)) }
         ensures range { IfSome result.1 (λ packet. (packet.ack < 32) × (packet.prio < 4)) }
         ensures covered { Covers result.0.prios store.now }
     {
-        let OutOk { mut outstanding } = self;
-        if outstanding.len() >= WINDOW {
-            return (OutOk { outstanding }, None);
-        }
-        let Some(next) = store.first_behind(outstanding.prios()) else {
-            return (OutOk { outstanding }, None);
+        let Some(next) = self.next(store) else {
+            return (self, None);
         };
+        let OutOk { mut outstanding } = self;
         let ack = outstanding.next_ack();
         outstanding.push(next.prio);
         let started = Started {

@@ -1,13 +1,16 @@
 //! `OutRetryStopped`: the far port asked for the oldest packet again.
-ghost use Rattle.std.specs.Prelude.{◌≡◌, ℕ, length, Option};
+ghost use Rattle.std.specs.Prelude.{◌≡◌, ◌<◌, ℕ, length, Option, false};
 ghost use Rattle.link_model.specs.Prelude.{hears, turns, Output, Sends, IsOutstanding};
 ghost use Rattle.link_model.specs.Output.{turned};
+ghost use Rattle.link_model.specs.Outstanding.{with_report};
+ghost use Rattle.link_model.specs.Reports.{report_of};
 ghost use Rattle.link_model.specs.Output.Stype0.{PacketAccepted, PacketRetry, PacketNotAccepted};
 ghost use Rattle.link_sender.specs.Answers.{error_stopped};
 
 use crate::out_error_stopped::OutErrorStopped;
 use crate::out_ok::OutOk;
 use crate::outstanding::Outstanding;
+use link_model::Report;
 use std::marker::Model;
 
 /// A sender that has to send restart-from-retry. Contracts see its outstanding packets.
@@ -25,14 +28,27 @@ impl Model for OutRetryStopped {
 }
 
 impl OutRetryStopped {
+    /// Keeps what the far port told, as [`OutOk::report`].
+    pub fn report(self, base: u8, free: u8) -> OutRetryStopped
+        requires base { base < 32 }
+        requires free { free < 32 }
+        ensures { result ≡ with_report (report_of base free) self }
+    {
+        let OutRetryStopped { mut outstanding } = self;
+        outstanding.keep(Report::new(base, free));
+        OutRetryStopped { outstanding }
+    }
+
     /// A turn, which sends restart-from-retry: nothing is outstanding, and the oldest ackID is the
     /// next one.
     pub fn restart(self) -> OutOk
         ensures { (waiting : Option ℕ)
-            → turned (Output.Ok result) Sends.Restart ≡ turns (Output.RetryStopped self) waiting }
+            → turned (Output.Ok result) Sends.Restart
+            ≡ turns false (Output.RetryStopped self) waiting }
     {
+        let oldest = self.outstanding.oldest();
         OutOk {
-            outstanding: Outstanding::from_ack(self.outstanding.oldest()),
+            outstanding: self.outstanding.restarted(oldest),
         }
     }
 

@@ -1,16 +1,21 @@
-//! The outstanding packets: their priorities in the order of their ackIDs, and the oldest ackID.
-ghost use Rattle.std.specs.Prelude.{◌≡◌, ◌<◌, [], length, slice_index, take};
-ghost use Rattle.link_model.specs.Outstanding.{IsOutstanding, next_ack, distance, is_oldest, without_oldest, with_next, from_ack};
+//! The outstanding packets: their priorities in the order of their ackIDs, the oldest ackID, and the
+//! last report of the far port.
+ghost use Rattle.std.specs.Prelude.{◌≡◌, ◌<◌, [], length, slice_index, take, IfSome};
+ghost use Rattle.link_model.specs.Outstanding.{IsOutstanding, next_ack, distance, is_oldest, without_oldest, with_next, with_report, from_ack};
+ghost use Rattle.link_model.specs.Reports.{IsReport, has_credit};
 ghost use Rattle.link_model.specs.Window.{window};
 
 use arrayvec::ArrayVec;
+use link_model::{Report, has_credit};
 use std::marker::Model;
 
-/// What a sender knows of the packets that it sent and that are not acknowledged.
+/// What a sender knows of the packets that it sent and that are not acknowledged, and of the free
+/// buffers of the far port.
 #[derive(Debug, Drop)]
 pub(crate) struct Outstanding {
     oldest: u8,
     prios: ArrayVec<u8, 31>,
+    report: Option<Report>,
 }
 
 impl Model for Outstanding {
@@ -18,21 +23,49 @@ impl Model for Outstanding {
 
     ghost Value = { Outstanding };
 
-    ghost view = { λ s. record { oldest = s.oldest; prios = s.prios.items } };
+    ghost view = { λ s. record { oldest = s.oldest; prios = s.prios.items; report = s.report } };
 
-    ghost invariant = { λ s. IsOutstanding (record { oldest = s.oldest; prios = s.prios.items }) };
+    ghost invariant = { λ s. IsOutstanding
+        (record { oldest = s.oldest; prios = s.prios.items; report = s.report }) };
 }
 
 impl Outstanding {
-    /// Nothing is outstanding, and `ack` is the next ackID.
-    pub(crate) fn from_ack(ack: u8) -> Outstanding
-        requires { ack < 32 }
-        ensures { result ≡ from_ack ack }
+    /// Nothing is outstanding, `ack` is the next ackID, and this is the last report.
+    pub(crate) fn from_ack(ack: u8, report: Option<Report>) -> Outstanding
+        requires ack { ack < 32 }
+        requires report { IfSome report IsReport }
+        ensures { result ≡ from_ack ack report }
     {
         Outstanding {
             oldest: ack,
             prios: ArrayVec::new(),
+            report,
         }
+    }
+
+    /// Nothing is outstanding, and `ack` is the next ackID.
+    pub(crate) fn restarted(self, ack: u8) -> Outstanding
+        requires { ack < 32 }
+        ensures { result ≡ from_ack ack self.report }
+    {
+        Outstanding::from_ack(ack, self.report)
+    }
+
+    /// Keeps this report as the last one.
+    pub(crate) fn keep(&mut self, report: Option<Report>)
+        requires { IfSome report IsReport }
+        ensures { self.new ≡ with_report report self.old }
+    {
+        self.report = report;
+    }
+
+    /// Returns whether the next packet may start, if it has this priority: the far port told of room
+    /// for it, or does not tell.
+    pub(crate) fn has_credit(&self, prio: u8) -> bool
+        requires { prio < 4 }
+        ensures { result ≡ has_credit self.now.report (next_ack self.now) prio }
+    {
+        has_credit(self.report, self.next_ack(), prio)
     }
 
     /// Returns the ackID of the oldest packet, or the next one where nothing is outstanding.
