@@ -1,8 +1,9 @@
 -- What a port answers is an answer, and an answer is read as itself from any place.
 use Rattle.std.proofs.Common.{◌≡◌, ℕ, ◌+◌, ◌<◌, ◌==◌, ◌&&◌, Bool, true, false, Option, Some, List, [], ◌∷◌, ◌++◌, refl, ap, ◌∙◌, if◌then◌else◌, subst, arith}
-use Rattle.link_model.specs.Prelude.{Fields, number_of, prio_of, Cause, BadSymbol, BadPacket, BadChar, General, Input, Arrival, packet_arrival, symbol_arrival, receives, run, place, place_after, Text, placed, symbol_chars_of}
+use Rattle.link_model.specs.Prelude.{Fields, number_of, prio_of, Cause, BadSymbol, BadPacket, BadChar, General, Input, Arrival, symbol_arrival, receives, run, place, place_after, Text, placed, symbol_chars_of}
 use Rattle.rio_packets.specs.declared.cause.Cause.TheVariants.{UnexpectedAck}
-use Rattle.link_buffers.specs.Queues.{room_for}
+use Rattle.link_buffers.specs.Queues.{Buffered, room_for, stored}
+use Rattle.link_receiver.specs.Status.{buffer_status, comes_to}
 use Rattle.link_model.specs.declared.event.Event.{Event}
 use Rattle.link_model.specs.declared.event.Event.TheVariants.{Ctl, Pkt, Bad}
 use Rattle.link_model.specs.declared.reading_kinds.Pending.{Pending}
@@ -16,22 +17,29 @@ use Rattle.link_port.specs.States.{expected_of}
 use Rattle.link_port.specs.Steps.{acts}
 use Rattle.link_port.specs.Answers.{IsAnswer, IsReply}
 
--- the number of a cause has five bits
+-- the number of a cause, or a buffer status, has five bits
 abbrev IsSmall : Arrival → Type 0
-IsSmall Arrival.ExpectedWithRoom = Unit {0}
-IsSmall Arrival.ExpectedWithoutRoom = Unit {0}
+IsSmall (Arrival.ExpectedWithRoom buffers) = buffers < 32
+IsSmall (Arrival.ExpectedWithoutRoom buffers) = buffers < 32
 IsSmall Arrival.UnexpectedAck = Unit {0}
 IsSmall (Arrival.Damaged cause) = cause < 32
 IsSmall Arrival.RestartFromRetry = Unit {0}
 IsSmall Arrival.LinkRequest = Unit {0}
 IsSmall Arrival.OtherStype1 = Unit {0}
 
-small_packet : (same room : Bool)
-    → IsSmall (if same then (if room then Arrival.ExpectedWithRoom else Arrival.ExpectedWithoutRoom)
+small_packet : (same room : Bool) (buffers : ℕ) → buffers < 32
+    → IsSmall (if same
+    then (if room then Arrival.ExpectedWithRoom buffers else Arrival.ExpectedWithoutRoom buffers)
     else Arrival.UnexpectedAck)
-small_packet true true = tt
-small_packet true false = tt
-small_packet false room = tt
+small_packet true true buffers few = few
+small_packet true false buffers few = few
+small_packet false room buffers few = tt
+
+small_status : (tells room : Bool) (store : Buffered) (packet : List ℕ) → store.buffers < 32
+    → buffer_status tells (stored room store packet) < 32
+small_status true true store packet few = omega arith
+small_status true false store packet few = omega arith
+small_status false room store packet few = omega arith
 
 small_symbol : (restart request : Bool)
     → IsSmall (if restart then Arrival.RestartFromRetry
@@ -55,14 +63,14 @@ answers_by s0 p0 p1 stype0 first second = record {
 
 received_answers : (what : Arrival) (input : Input) → IsSmall what → expected_of input < 32
     → IsReply (receives what input).reply
-received_answers Arrival.ExpectedWithRoom (Input.Ok e) small below =
-    answers_by 0 e 31 (omega arith) below (omega arith)
-received_answers Arrival.ExpectedWithRoom (Input.RetryStopped e) small below = tt
-received_answers Arrival.ExpectedWithRoom (Input.ErrorStopped e) small below = tt
-received_answers Arrival.ExpectedWithoutRoom (Input.Ok e) small below =
-    answers_by 1 e 31 (omega arith) below (omega arith)
-received_answers Arrival.ExpectedWithoutRoom (Input.RetryStopped e) small below = tt
-received_answers Arrival.ExpectedWithoutRoom (Input.ErrorStopped e) small below = tt
+received_answers (Arrival.ExpectedWithRoom buffers) (Input.Ok e) small below =
+    answers_by 0 e buffers (omega arith) below small
+received_answers (Arrival.ExpectedWithRoom buffers) (Input.RetryStopped e) small below = tt
+received_answers (Arrival.ExpectedWithRoom buffers) (Input.ErrorStopped e) small below = tt
+received_answers (Arrival.ExpectedWithoutRoom buffers) (Input.Ok e) small below =
+    answers_by 1 e buffers (omega arith) below small
+received_answers (Arrival.ExpectedWithoutRoom buffers) (Input.RetryStopped e) small below = tt
+received_answers (Arrival.ExpectedWithoutRoom buffers) (Input.ErrorStopped e) small below = tt
 received_answers Arrival.UnexpectedAck (Input.Ok e) small below =
     answers_by 2 e 1 (omega arith) below (omega arith)
 received_answers Arrival.UnexpectedAck (Input.RetryStopped e) small below = tt
@@ -88,15 +96,16 @@ received_answers Arrival.OtherStype1 (Input.ErrorStopped e) small below = tt
 
 -- whatever comes, the reply is an answer
 pub reply_answers : (p : PortState) (e : Event) → expected_of p.input < 32
-    → IsReply (acts p e).reply
-reply_answers p (Ctl s) below =
+    → p.received.buffers < 32 → IsReply (acts p e).reply
+reply_answers p (Ctl s) below few =
     received_answers (symbol_arrival s.s1 s.cmd) p.input
     (small_symbol (s.s1 == 3) ((s.s1 == 4) && (s.cmd == 4))) below
-reply_answers p (Pkt ack packet) below =
-    received_answers
-    (packet_arrival (expected_of p.input) ack (room_for p.received (prio_of packet))) p.input
-    (small_packet (ack == expected_of p.input) (room_for p.received (prio_of packet))) below
-reply_answers p (Bad cause) below =
+reply_answers p (Pkt ack packet) below few =
+    let room = room_for p.received (prio_of packet) in
+    received_answers (comes_to p.tells p.received (expected_of p.input) ack packet) p.input
+    (small_packet (ack == expected_of p.input) room _
+    (small_status p.tells room p.received packet few)) below
+reply_answers p (Bad cause) below few =
     received_answers (Arrival.Damaged (number_of cause)) p.input (small_cause cause) below
 
 -- the symbols with which a port answers tell themselves alone, and leave the text as it was
@@ -124,13 +133,13 @@ answer_after t k s is =
     ∙ ap (λ (u : Text). place u Nothing) (answer_stays (begins_in t k) s is)
 
 pub reply_run : (p : PortState) (e : Event) (s : Fields) (t : Text) (k : Pending) (at : ℕ)
-    → expected_of p.input < 32 → (acts p e).reply ≡ Some s
+    → expected_of p.input < 32 → p.received.buffers < 32 → (acts p e).reply ≡ Some s
     → run (place t k) at (symbol_chars_of s) ≡ placed at (broken_off k) ++ (at + 3, Ctl s) ∷ []
-reply_run p e s t k at below same =
-    answer_run t k at s (is_answer (acts p e).reply s (reply_answers p e below) same)
+reply_run p e s t k at below few same =
+    answer_run t k at s (is_answer (acts p e).reply s (reply_answers p e below few) same)
 
 pub reply_after : (p : PortState) (e : Event) (s : Fields) (t : Text) (k : Pending)
-    → expected_of p.input < 32 → (acts p e).reply ≡ Some s
+    → expected_of p.input < 32 → p.received.buffers < 32 → (acts p e).reply ≡ Some s
     → place_after (place t k) (symbol_chars_of s) ≡ place (begins_in t k) Nothing
-reply_after p e s t k below same =
-    answer_after t k s (is_answer (acts p e).reply s (reply_answers p e below) same)
+reply_after p e s t k below few same =
+    answer_after t k s (is_answer (acts p e).reply s (reply_answers p e below few) same)

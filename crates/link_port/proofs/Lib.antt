@@ -1,6 +1,7 @@
 pub mod FirstPackets
 pub mod TurnLaws
 pub mod ActLaws
+pub mod HearLaws
 pub mod ReplyLaws
 pub mod SentReads
 pub mod RunLaws

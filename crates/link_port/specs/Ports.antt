@@ -1,26 +1,28 @@
 -- A port.
-use Rattle.std.specs.Prelude.{◌≡◌, ℕ, ◌<◌, List}
+use Rattle.std.specs.Prelude.{◌≡◌, ℕ, ◌<◌, Bool, List, None}
 use Rattle.link_buffers.specs.Prelude.{Buffered, no_packets, IsInStore, IsOutStore, Covers}
 use Rattle.link_model.specs.Prelude.{Place, start, IsBounded, from_ack, Output, Input}
 use Rattle.link_port.specs.States.{prios_of, IsOutput, expected_of}
 
 -- what contracts see of a port: the place of its framer, its two halves, the packets to be sent,
--- and those that came in
+-- those that came in, and whether it tells its free buffers
 pub record PortState : Type 0 where
   pub place : Place
   pub output : Output
   pub input : Input
   pub queued : List (List (List ℕ))
   pub received : Buffered
+  pub tells : Bool
 
--- a port without a packet, which begins with ackID 0 both ways
-abbrev pub new_port : ℕ → PortState
-new_port buffers = record {
+-- a port without a packet, which begins with ackID 0 both ways and was told nothing
+abbrev pub new_port : Bool → ℕ → PortState
+new_port tells buffers = record {
   place = start;
-  output = Output.Ok (from_ack 0);
+  output = Output.Ok (from_ack 0 None);
   input = Input.Ok 0;
   queued = no_packets;
   received = record { lists = no_packets; buffers = buffers };
+  tells = tells;
 }
 
 -- What is true of every port: its outstanding packets, at most the window, are among the packets to
@@ -33,8 +35,9 @@ pub record IsPort (port : PortState) : Type 0 where
   pub receives : IsInStore port.received
   pub bounded : IsBounded port.place.text
 
--- what calls of the layer above leave as it is: the number of buffers, the framer, and both halves
+-- what calls of the layer above leave as it is: the number of buffers, the framer, both halves, and
+-- whether it tells
 abbrev pub AreAlike : PortState → PortState → Type 0
 AreAlike port next =
     (port.received.buffers ≡ next.received.buffers) × (port.place ≡ next.place)
-    × (port.output ≡ next.output) × (port.input ≡ next.input)
+    × (port.output ≡ next.output) × (port.input ≡ next.input) × (port.tells ≡ next.tells)

@@ -7,6 +7,7 @@ pub use Rattle.link_model.specs.declared.reading_kinds.Pending.TheVariants.{Noth
 pub use Rattle.link_port.specs.Ports.{PortState, IsPort, AreAlike, new_port}
 pub use Rattle.link_port.specs.States.{prios_of, expected_of, expects}
 pub use Rattle.link_port.specs.Steps.{Acted, acts, is_acted}
-pub use Rattle.link_port.specs.Turns.{Burst, no_burst, packet_burst, burst_of, turns_to, turn_sends, timed_out, waiting_in}
+pub use Rattle.link_port.specs.Turns.{Burst, standing, no_burst, symbol_burst, packet_burst, burst_of, turns_to, turn_sends, tell_sends, is_ready, timed_out, waiting_in}
+pub use Rattle.link_receiver.specs.Status.{buffer_status}
 unfoldable pub use Rattle.link_port.specs.Acts.{replies}
 pub use Rattle.link_port.specs.Runs.{completed_events}

@@ -2,17 +2,18 @@
 -- (RapidIO Interconnect Specification 1.3, Part 6, packet acknowledgment and error recovery).
 use Rattle.std.specs.Prelude.{ℕ, ◌++◌, Bool, true, false, if◌then◌else◌, List, [], ◌∷◌, take, Option, Some, None}
 use Rattle.std.specs.Option.{option_or}
-use Rattle.link_model.specs.Prelude.{Char, Fields, number_of, prio_of, Cause, step, hears, Received, packet_arrival, symbol_arrival, receives, Damaged}
-use Rattle.link_buffers.specs.Prelude.{room_for, stored, packets_of, lists_without}
+use Rattle.link_model.specs.Prelude.{Char, Fields, number_of, Cause, step, hears, hears_report, Received, symbol_arrival, receives, Damaged}
+use Rattle.link_buffers.specs.Prelude.{stored, packets_of, lists_without}
+use Rattle.link_receiver.specs.Status.{comes_to}
 use Rattle.link_model.specs.declared.event.Event.{Event}
 use Rattle.link_model.specs.declared.event.Event.TheVariants.{Ctl, Pkt, Bad}
 use Rattle.link_model.specs.Output.{Heard, stype0}
 use Rattle.link_port.specs.States.{prios_of, expected_of, expects}
 use Rattle.link_port.specs.Ports.{PortState}
 
--- what a symbol does in the output half, by its stype0 and its ackID
+-- what a symbol does in the output half, by its buffer status, and then by its stype0 and its ackID
 abbrev pub heard : PortState → Fields → Heard
-heard port symbol = hears (stype0 symbol.s0) port.output symbol.p0
+heard port symbol = hears (stype0 symbol.s0) (hears_report symbol port.output) symbol.p0
 
 -- the priorities of the packets that it acknowledges
 abbrev pub acknowledged : PortState → Fields → List ℕ
@@ -33,8 +34,7 @@ obeyed port symbol = receives (symbol_arrival symbol.s1 symbol.cmd) port.input
 -- what a good packet with an ackID does
 abbrev pub arrived : PortState → ℕ → List ℕ → Received
 arrived port ack packet =
-    receives (packet_arrival (expected_of port.input) ack (room_for port.received (prio_of packet)))
-    port.input
+    receives (comes_to port.tells port.received (expected_of port.input) ack packet) port.input
 
 -- what characters do that are no packet or symbol
 abbrev pub damaged : PortState → Cause → Received

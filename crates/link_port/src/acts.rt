@@ -165,7 +165,8 @@ impl Port {
     {
         // The half is moved out and led on; the placeholder is never read.
         let output = mem::replace(&mut self.output, Output::Failed(OutFailed));
-        self.output = output.hear(symbol.s0, symbol.p0, &mut self.queued, freed);
+        let told = output.hear_report(symbol);
+        self.output = told.hear(symbol.s0, symbol.p0, &mut self.queued, freed);
     }
 
     /// A symbol in the input half.
@@ -190,7 +191,12 @@ impl Port {
     {
         // The half is moved out and led on; the placeholder is never read.
         let input = mem::replace(&mut self.input, Input::Ok(InOk::new()));
-        let Arrived { input, reply, held } = input.packet(ack, packet, &mut self.received);
+        let Arrived { input, reply, held } = input.packet(
+            ack,
+            packet,
+            &mut self.received,
+            self.tells,
+        );
         self.input = input;
         Done { reply, held }
     }

@@ -1,7 +1,8 @@
 //! `Input`: the input half of a port, in any of its states.
 ghost use Rattle.std.specs.Prelude.{◌≡◌, ◌<◌, false};
-ghost use Rattle.link_model.specs.Prelude.{number_of, prio_of, packet_arrival, symbol_arrival, receives, Damaged};
-ghost use Rattle.link_buffers.specs.Queues.{room_for, stored};
+ghost use Rattle.link_model.specs.Prelude.{number_of, symbol_arrival, receives, Damaged};
+ghost use Rattle.link_buffers.specs.Queues.{stored};
+ghost use Rattle.link_receiver.specs.Status.{comes_to};
 ghost use Rattle.link_model.specs.Input.{replied, silent};
 ghost use Rattle.link_model.specs.Input as in_half;
 ghost use Rattle.link_model.specs.Input.Arrival.{RestartFromRetry, LinkRequest};
@@ -34,15 +35,22 @@ pub(crate) struct Arrived {
 }
 
 impl Input {
-    /// A good packet with this ackID. It is dropped unless packets are taken.
-    pub(crate) fn packet(self, ack: u8, packet: &Packet, store: &mut InStore) -> Arrived
+    /// A good packet with this ackID, to a port that `tells` its free buffers or does not. It is
+    /// dropped unless packets are taken.
+    pub(crate) fn packet(
+        self,
+        ack: u8,
+        packet: &Packet,
+        store: &mut InStore,
+        tells: bool,
+    ) -> Arrived
         ensures entry { received (input_of result.input) result.reply result.held
-            ≡ receives (packet_arrival (expected_of (input_of self)) ack
-            (room_for store.old (prio_of packet.now))) (input_of self) }
+            ≡ receives (comes_to tells store.old (expected_of (input_of self)) ack packet.now)
+            (input_of self) }
         ensures store { store.new ≡ stored result.held store.old packet.now }
     {
         match self {
-            Input::Ok(state) => taken(state.packet(ack, packet, store)),
+            Input::Ok(state) => taken(state.packet(ack, packet, store, tells)),
             Input::RetryStopped(state) => dropped(Input::RetryStopped(state)),
             Input::ErrorStopped(state) => dropped(Input::ErrorStopped(state)),
         }

@@ -1,7 +1,7 @@
 //! `Output`: the output half of a port, in any of its states.
-ghost use Rattle.std.specs.Prelude.{◌≡◌, ◌<◌, [], length, take};
+ghost use Rattle.std.specs.Prelude.{◌≡◌, ◌<◌, [], Bool, length, take};
 ghost use Rattle.link_buffers.specs.Priorities.{packets_of, lists_without, highest, Covers};
-ghost use Rattle.link_model.specs.Output.{hears, stype0, times_out, turned, turns};
+ghost use Rattle.link_model.specs.Output.{hears, hears_report, starts, stype0, times_out, turned, turns};
 ghost use Rattle.link_model.specs.Output.Stype0.{PacketAccepted, PacketRetry, PacketNotAccepted, LinkResponse};
 ghost use Rattle.link_port.specs.States.{prios_of, has_asked, IsOutput};
 ghost use Rattle.link_port.specs.Halves.{output_of, out_kind_of};
@@ -10,12 +10,13 @@ ghost use Rattle.link_port.specs.Sends.{sends_of, starting, AreWaiting};
 use crate::kinds::OutKind;
 use arrayvec::ArrayVec;
 use link_buffers::OutStore;
+use link_model::{has_buffer_status, report_base};
 use link_sender::{
     AfterAccepted, AfterResponse, AfterRetry, OutErrorStopped, OutFailed, OutOk, OutRetryStopped,
     Started,
 };
 use rio_packets::Packet;
-use rio_symbols::stype0;
+use rio_symbols::{Symbol, stype0};
 
 /// The output half. The head of `link_sender` draws how one state leads to another.
 #[derive(Drop)]
@@ -32,22 +33,54 @@ pub(crate) enum Sends {
     Packet(Started),
     Restart,
     Request,
+    Status,
     Nothing,
 }
 
 impl Sends {
-    /// What is sent where this packet starts, if any.
-    fn starting(started: Option<Started>) -> Sends
-        ensures { result ≡ starting started }
+    /// What is sent where this packet starts, if any, by a port that `tells` its free buffers or
+    /// does not.
+    fn starting(started: Option<Started>, tells: bool) -> Sends
+        ensures { result ≡ starting tells started }
     {
         match started {
             Some(started) => Sends::Packet(started),
+            None if tells => Sends::Status,
             None => Sends::Nothing,
         }
     }
 }
 
 impl Output {
+    /// What the far port told by a symbol with this stype0, this ackID and this buffer status.
+    pub(crate) fn hear_report(self, symbol: Symbol) -> Output
+        ensures { output_of result ≡ hears_report symbol (output_of self) }
+    {
+        let Symbol { s0, p0, p1, .. } = symbol;
+        if !has_buffer_status(s0) {
+            return self;
+        }
+        let base = report_base(s0, p0);
+        match self {
+            Output::Ok(state) => Output::Ok(state.report(base, p1)),
+            Output::RetryStopped(state) => Output::RetryStopped(state.report(base, p1)),
+            Output::ErrorStopped(state) => Output::ErrorStopped(state.report(base, p1)),
+            Output::Failed(state) => Output::Failed(state),
+        }
+    }
+
+    /// Returns whether a turn starts a packet.
+    pub(crate) fn ready(&self, queued: &OutStore) -> bool
+        ensures { (tells : Bool) → result
+            ≡ starts (turns tells (output_of self.now)
+            (highest (lists_without (prios_of (output_of self.now)) queued.now))).sends }
+    {
+        match self {
+            Output::Ok(state) => state.ready(queued),
+            Output::RetryStopped(_) | Output::ErrorStopped(_) | Output::Failed(_) => false,
+        }
+    }
+
     /// A symbol with this stype0 and this ackID. The packets that it acknowledges leave the store
     /// into `freed`.
     pub(crate) fn hear(
@@ -158,11 +191,11 @@ impl Output {
         }
     }
 
-    /// A turn: what is sent, and the next state.
-    pub(crate) fn turn(self, queued: &OutStore) -> (Output, Sends)
+    /// A turn of a port that `tells` its free buffers or does not: what is sent, and the next state.
+    pub(crate) fn turn(self, queued: &OutStore, tells: bool) -> (Output, Sends)
         requires covered { Covers (prios_of (output_of self)) queued.now }
         ensures entry { turned (output_of result.0) (sends_of result.1)
-            ≡ turns (output_of self)
+            ≡ turns tells (output_of self)
             (highest (lists_without (prios_of (output_of self)) queued.now)) }
         ensures waiting { AreWaiting result.1 (prios_of (output_of self)) queued.now }
         ensures covered { Covers (prios_of (output_of result.0)) queued.now }
@@ -170,7 +203,7 @@ impl Output {
         match self {
             Output::Ok(state) => {
                 let (next, started) = state.turn(queued);
-                (Output::Ok(next), Sends::starting(started))
+                (Output::Ok(next), Sends::starting(started, tells))
             }
             Output::RetryStopped(state) => (Output::Ok(state.restart()), Sends::Restart),
             Output::ErrorStopped(state) => {

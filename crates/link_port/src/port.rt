@@ -1,5 +1,5 @@
 //! `Port`: the end of a link.
-ghost use Rattle.std.specs.Prelude.{◌≡◌, ◌<◌, ◌≤◌, ◌↔◌, [], length, slice_get, IsTrue, IfOk};
+ghost use Rattle.std.specs.Prelude.{◌≡◌, ◌<◌, ◌≤◌, ◌↔◌, [], true, false, length, slice_get, IsTrue, IfOk};
 ghost use Rattle.link_model.specs.Prelude.{prio_of, at_rest as rests, start, place_after, said, window};
 ghost use Rattle.link_buffers.specs.Queues.{list_at, appended, popped, packet_count};
 ghost use Rattle.link_port.specs.States.{prios_of, has_asked};
@@ -7,19 +7,20 @@ ghost use Rattle.link_port.specs.Halves.{out_kind_of, in_kind_of};
 ghost use Rattle.link_port.specs.Ports.{AreAlike, IsPort, new_port};
 ghost use Rattle.link_port.specs.Steps.{read, takes, first_acted};
 ghost use Rattle.link_port.specs.Runs.{front_of, after_front, takes_run, completed_events, slot_after};
-ghost use Rattle.link_port.specs.Turns.{turns_to, turn_sends, timed_out, waiting_in};
+ghost use Rattle.link_port.specs.Turns.{turns_to, turn_sends, tell_sends, standing, is_ready, timed_out, waiting_in};
+ghost use Rattle.link_port.specs.Bursts.{IsStanding};
 ghost use Rattle.rio_framer.specs.Giving.{listed, IsPaired};
 
-use crate::bursts::{Burst, make_burst};
+use crate::bursts::{Burst, Standing, make_burst};
 use crate::completed::{Completed, complete};
 use crate::face::PortFace;
 use crate::input_half::Input;
 use crate::kinds::{InKind, OutKind};
-use crate::output_half::Output;
+use crate::output_half::{Output, Sends};
 use crate::taken::Taken;
 use arrayvec::ArrayVec;
 use link_buffers::{InStore, OutStore};
-use link_receiver::InOk;
+use link_receiver::{InOk, buffer_status};
 use link_sender::{OutFailed, OutOk};
 use rio_chars::{Char, NoMemory};
 use rio_framer::{Events, Framer};
@@ -37,6 +38,7 @@ pub struct Port {
     pub(crate) input: Input,
     pub(crate) queued: OutStore,
     pub(crate) received: InStore,
+    pub(crate) tells: bool,
 }
 
 impl Model for Port {
@@ -54,6 +56,7 @@ impl Model for Port {
       input = input_of port.input;
       queued = port.queued;
       received = port.received;
+      tells = port.tells;
     } };
 
     ghost invariant = { λ port. Covers (prios_of (output_of port.output)) port.queued
@@ -62,11 +65,33 @@ impl Model for Port {
 
 impl Port {
     /// Makes a port of 4 to 30 receive buffers, with no packet, which begins with ackID 0 both
-    /// ways. `NoMemory` is the only other answer; no other call of a port takes memory.
+    /// ways. It does not tell its free buffers. `NoMemory` is the only other answer; no other call
+    /// of a port takes memory, but [`Port::telling`].
     pub fn new(alloc: Global, buffers: u8) -> Result<Port, NoMemory>
         requires least { 4 ≤ buffers }
         requires most { buffers ≤ 30 }
-        ensures empty { IfOk result (λ port. port ≡ new_port buffers) }
+        ensures empty { IfOk result (λ port. port ≡ new_port false buffers) }
+        ensures port { IfOk result (λ port. IsPort port) }
+    {
+        Port::make(alloc, buffers, false)
+    }
+
+    /// Makes a port as [`Port::new`], which tells its free buffers (transmitter-controlled flow
+    /// control, RapidIO Interconnect Specification 1.3, Part 6).
+    pub fn telling(alloc: Global, buffers: u8) -> Result<Port, NoMemory>
+        requires least { 4 ≤ buffers }
+        requires most { buffers ≤ 30 }
+        ensures empty { IfOk result (λ port. port ≡ new_port true buffers) }
+        ensures port { IfOk result (λ port. IsPort port) }
+    {
+        Port::make(alloc, buffers, true)
+    }
+
+    /// Makes a port that `tells` its free buffers or does not.
+    fn make(alloc: Global, buffers: u8, tells: bool) -> Result<Port, NoMemory>
+        requires least { 4 ≤ buffers }
+        requires most { buffers ≤ 30 }
+        ensures empty { IfOk result (λ port. port ≡ new_port tells buffers) }
         ensures port { IfOk result (λ port. IsPort port) }
     {
         let port = Port {
@@ -75,6 +100,7 @@ impl Port {
             input: Input::Ok(InOk::new()),
             queued: OutStore::new(alloc)?,
             received: InStore::new(alloc, buffers)?,
+            tells,
         };
         port.bounds();
         Ok(port)
@@ -148,7 +174,8 @@ impl Port {
 
     /// Sends at most one packet or one symbol: a packet where the sender may start one,
     /// restart-from-retry after a retry, and a link-request after an error, once until a response
-    /// or a time-out. Read by themselves the characters say what is sent, and leave nothing in
+    /// or a time-out. A port that tells its free buffers sends status, where the sender may start
+    /// packets and starts none. Read by themselves the characters say what is sent, and leave nothing in
     /// progress.
     pub fn turn(&mut self) -> Burst
         ensures state { self.new ≡ turns_to self.old }
@@ -161,10 +188,56 @@ impl Port {
         self.bounds();
         // The half is moved out and led on; the placeholder is never read.
         let output = mem::replace(&mut self.output, Output::Failed(OutFailed));
-        let (output, sends) = output.turn(&self.queued);
+        let (output, sends) = output.turn(&self.queued, self.tells);
         self.output = output;
         self.bounds();
-        make_burst(sends, self.input.expected(), &self.queued)
+        make_burst(sends, self.standing(), &self.queued)
+    }
+
+    /// Sends status with NOP, from a port that tells its free buffers, in every state. Any other
+    /// port sends nothing. No state changes.
+    pub fn tell(&self) -> Burst
+        ensures chars { result.chars.items ≡ (tell_sends self.now).chars }
+        ensures sent { result.sent.items ≡ (tell_sends self.now).sent }
+        ensures read { said start result.chars.items ≡ result.sent.items }
+        ensures rests { place_after start result.chars.items ≡ start }
+        ensures port { IsPort self.now }
+    {
+        self.bounds();
+        if self.tells {
+            make_burst(Sends::Status, self.standing(), &self.queued)
+        } else {
+            make_burst(Sends::Nothing, self.standing(), &self.queued)
+        }
+    }
+
+    /// What each symbol of a turn tells of the port.
+    fn standing(&self) -> Standing
+        ensures value { result ≡ standing self.now }
+        ensures range { IsStanding result }
+    {
+        Standing {
+            expected: self.input.expected(),
+            buffers: buffer_status(self.tells, &self.received),
+        }
+    }
+
+    /// Returns whether the port tells its free buffers.
+    pub fn tells(&self) -> bool
+        ensures value { result ≡ self.now.tells }
+        ensures port { IsPort self.now }
+    {
+        self.bounds();
+        self.tells
+    }
+
+    /// Returns whether a turn would start a packet.
+    pub fn ready(&self) -> bool
+        ensures value { result ≡ is_ready self.now }
+        ensures port { IsPort self.now }
+    {
+        self.bounds();
+        self.output.ready(&self.queued)
     }
 
     /// A time-out: a sender that may start packets has to ask which packet the far port expects,
@@ -258,9 +331,10 @@ impl PortFace for Port {
 
     ghost alike = { AreAlike };
 
-    ghost alike_same = { λ port. (refl, refl, refl, refl) };
+    ghost alike_same = { λ port. (refl, refl, refl, refl, refl) };
 
-    ghost alike_on = { λ port next last h k. (h.0 ∙ k.0, h.1 ∙ k.1, h.2 ∙ k.2, h.3 ∙ k.3) };
+    ghost alike_on = { λ port next last h k.
+        (h.0 ∙ k.0, h.1 ∙ k.1, h.2 ∙ k.2, h.3 ∙ k.3, h.4 ∙ k.4) };
 
     fn in_head(&self, prio: u8) -> Option<&Packet> {
         self.bounds();

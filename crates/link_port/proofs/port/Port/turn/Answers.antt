@@ -17,6 +17,7 @@ seen p = record {
   input = input_of p.input;
   queued = p.queued;
   received = p.received;
+  tells = p.tells;
 }
 
 pub invariant_of-self : goal.invariant_of-self
@@ -29,7 +30,7 @@ returns-clause-chars c =
     let waits = rw c.replace-output.ensures.value at c.turn-output.ensures.waiting in
     c.make_burst.ensures.chars
     ∙ ap (λ n. (burst_by c.turn-output.result.1 n c.self.inside.queued).chars)
-    c.expected.ensures.value
+    c.standing.ensures.value
     ∙ ap (λ (s : Burst). s.chars) (turn_is (seen c.self.inside) _ _ entry waits)
     ∙ ap (λ (p : PortState). (turn_sends p).chars) c.self.view_is
 
@@ -39,7 +40,7 @@ returns-clause-sent c =
     let waits = rw c.replace-output.ensures.value at c.turn-output.ensures.waiting in
     c.make_burst.ensures.sent
     ∙ ap (λ n. (burst_by c.turn-output.result.1 n c.self.inside.queued).sent)
-    c.expected.ensures.value
+    c.standing.ensures.value
     ∙ ap (λ (s : Burst). s.sent) (turn_is (seen c.self.inside) _ _ entry waits)
     ∙ ap (λ (p : PortState). (turn_sends p).sent) c.self.view_is
 
