@@ -1,21 +1,25 @@
 -- Each step of a port leaves a port: what is true of every port stays true.
-use Rattle.std.proofs.Common.{◌≡◌, ℕ, ◌-◌, ◌%◌, ◌<◌, ◌≤◌, true, false, Option, Some, None, List, [], ◌∷◌, length, take, inl, inr, refl, ap, ◌∙◌, arith, length-append, length-drop}
+use Rattle.std.proofs.Common.{◌≡◌, ℕ, ◌-◌, ◌%◌, ◌<◌, ◌≤◌, Bool, true, false, Option, Some, None, IfSome, List, [], ◌∷◌, length, take, inl, inr, refl, sym, ap, ◌∙◌, subst, arith, length-append, length-drop}
 use Rattle.std.proofs.lemmas.Bool.{cases_lt, le-leb}
 use Rattle.std.proofs.lemmas.List.Elements.{All-nil, All-cons, All-drop, All-append}
-use Rattle.link_buffers.specs.Prelude.{packet_count, lists_without, highest, Covers}
+use Rattle.link_buffers.specs.Prelude.{lists_without, highest, Covers}
 use Rattle.link_buffers.proofs.PriorityLaws.{Covers-drop, Covers-highest, highest_below-some}
-use Rattle.link_model.specs.Prelude.{Input, Output, hears, turns, times_out, Outstanding, IsOutstanding, distance, from_ack, window}
-use Rattle.link_model.specs.Output.{Stype0, accepted, retried, responded, started}
+use Rattle.link_model.specs.Prelude.{Fields, Input, Output, hears, hears_report, turns, times_out, Outstanding, IsOutstanding, distance, from_ack, window}
+use Rattle.link_model.specs.Output.{Stype0, stype0, accepted, retried, responded, started, credited}
 use Rattle.link_model.specs.Output.Stype0.{PacketAccepted, PacketRetry, PacketNotAccepted, LinkResponse, OtherStype0}
 use Rattle.link_model.specs.Outstanding.{without_oldest, with_next}
+use Rattle.link_model.specs.declared.reports.Report.{Report}
+use Rattle.link_model.specs.Reports.{IsReport}
 use Rattle.link_model.proofs.WindowFacts.{startable-full, startable-open}
 use Rattle.link_port.specs.States.{prios_of, IsOutput}
+use Rattle.link_port.proofs.HearLaws.{report_prios}
 use Rattle.link_sound.specs.Marks.{Forward, Backward, Response}
 use Rattle.link_sound.specs.Meanings.{tells, receiver_of}
 use Rattle.link_sound.specs.Between.{IsBetween}
 use Rattle.link_sound.proofs.SenderMoves.{answered}
 use Rattle.link_sound.proofs.Hearing.{oldest_cases}
-use Rattle.link_sound.proofs.Turning.{count_is}
+use Rattle.link_sound.proofs.Turning.{count_is, credited_some}
+use Rattle.link_sound.proofs.Reported.{report_between, report_output}
 
 -- an output half, and the packets that it may have to send
 pub record IsSender (output : Output) (queued : List (List (List ℕ))) : Type 0 where
@@ -25,11 +29,13 @@ pub record IsSender (output : Output) (queued : List (List (List ℕ))) : Type 0
 pub covers_none : (queued : List (List (List ℕ))) → Covers [] queued
 covers_none queued prio = omega arith
 
-pub nothing_from : (ack : ℕ) → ack < 32 → IsOutstanding (from_ack ack)
-nothing_from ack below = record {
+pub nothing_from : (ack : ℕ) (report : Option Report) → ack < 32 → IfSome report IsReport
+    → IsOutstanding (from_ack ack report)
+nothing_from ack report below is = record {
   oldest = below;
   few = omega arith;
   prios = All-nil (λ (prio : ℕ). prio < 4);
+  report = is;
 }
 
 -- the oldest packet is acknowledged
@@ -38,6 +44,7 @@ fewer w is = record {
   oldest = omega arith;
   few = omega (arith, is.few, length-drop 1 w.prios);
   prios = All-drop (λ (prio : ℕ). prio < 4) 1 w.prios is.prios;
+  report = is.report;
 }
 
 -- one more packet is outstanding
@@ -49,38 +56,43 @@ more w prio room few is = record {
   prios =
       All-append (λ (p : ℕ). p < 4) w.prios (prio ∷ []) is.prios
       (All-cons (λ (p : ℕ). p < 4) prio [] few (All-nil (λ (p : ℕ). p < 4)));
+  report = is.report;
 }
 
 -- a turn
-started_sends : (w : Outstanding) (queued : List (List (List ℕ))) (waiting : Option ℕ)
-    → length w.prios < window → highest (lists_without w.prios queued) ≡ waiting
-    → IsSender (Output.Ok w) queued → IsSender (started w waiting).state queued
-started_sends w queued None room waits s = s
-started_sends w queued (Some prio) room waits s = record {
+started_sends :
+    (tells : Bool) (w : Outstanding) (queued : List (List (List ℕ))) (starts : Option ℕ)
+    → length w.prios < window
+    → ((prio : ℕ) → starts ≡ Some prio → highest (lists_without w.prios queued) ≡ Some prio)
+    → IsSender (Output.Ok w) queued → IsSender (started tells w starts).state queued
+started_sends tells w queued None room waits s = s
+started_sends tells w queued (Some prio) room waits s = record {
   window_is =
-      more w prio room (highest_below-some 4 prio (lists_without w.prios queued) waits).0
-      s.window_is;
-  covered = Covers-highest w.prios prio queued s.covered waits;
+      more w prio room
+      (highest_below-some 4 prio (lists_without w.prios queued) (waits prio refl)).0 s.window_is;
+  covered = Covers-highest w.prios prio queued s.covered (waits prio refl);
 }
 
-pub turn_sends : (output : Output) (queued : List (List (List ℕ))) → IsSender output queued
-    → IsSender (turns output (highest (lists_without (prios_of output) queued))).state queued
-turn_sends (Output.Ok w) queued s =
+pub turn_sends :
+    (tells : Bool) (output : Output) (queued : List (List (List ℕ))) → IsSender output queued
+    → IsSender (turns tells output (highest (lists_without (prios_of output) queued))).state queued
+turn_sends tells (Output.Ok w) queued s =
+    let waiting = highest (lists_without w.prios queued) in
     elim (cases_lt (length w.prios) window) [
-      | inl few ↦ rw (startable-open w (highest (lists_without w.prios queued)) few)
-          (started_sends w queued (highest (lists_without w.prios queued)) few refl s)
-      | inr full ↦ rw (startable-full w (highest (lists_without w.prios queued)) full) s
+      | inl few ↦ rw (startable-open w waiting few)
+          (started_sends tells w queued (credited w waiting) few (credited_some w waiting) s)
+      | inr full ↦ rw (startable-full w waiting full) s
     ]
-turn_sends (Output.RetryStopped w) queued s = record {
-  window_is = nothing_from w.oldest s.window_is.oldest;
+turn_sends tells (Output.RetryStopped w) queued s = record {
+  window_is = nothing_from w.oldest w.report s.window_is.oldest s.window_is.report;
   covered = covers_none queued;
 }
-turn_sends (Output.ErrorStopped false w) queued s = record {
+turn_sends tells (Output.ErrorStopped false w) queued s = record {
   window_is = s.window_is;
   covered = s.covered;
 }
-turn_sends (Output.ErrorStopped true w) queued s = s
-turn_sends Output.Failed queued s = s
+turn_sends tells (Output.ErrorStopped true w) queued s = s
+turn_sends tells Output.Failed queued s = s
 
 -- a time-out
 pub time_out_sends : (output : Output) (queued : List (List (List ℕ))) → IsSender output queued
@@ -134,7 +146,7 @@ responded_sends w ack input queued kept_ahead kept_back b s =
     (omega (arith, b.is.held_first, b.is.sent_first)) b.outstanding in
     let within : distance w.oldest ack ≤ length w.prios = omega (arith, b.is.sent_first) in
     rw (le-leb (distance w.oldest ack) (length w.prios) within) (record {
-      window_is = nothing_from ack (below_32 ack b.held does.0);
+      window_is = nothing_from ack w.report (below_32 ack b.held does.0) s.window_is.report;
       covered = covers_none (lists_without (take (distance w.oldest ack) w.prios) queued);
     })
 
@@ -180,3 +192,25 @@ heard_sends OtherStype0 ack (Output.Ok w) input queued kept_ahead kept_back b s 
 heard_sends OtherStype0 ack (Output.RetryStopped w) input queued kept_ahead kept_back b s = s
 heard_sends OtherStype0 ack (Output.ErrorStopped asked w) input queued kept_ahead kept_back b s = s
 heard_sends OtherStype0 ack Output.Failed input queued kept_ahead kept_back b s = s
+
+-- a symbol: its report, and then what it says
+pub symbol_sends :
+    (symbol : Fields) (output : Output) (input : Input) (queued : List (List (List ℕ)))
+    (kept_ahead : List Forward) (kept_back : List Backward) → symbol.p0 < 32
+    → IsBetween output input queued kept_ahead
+    (tells (stype0 symbol.s0) symbol.p0 ∷ kept_back) → IsSender output queued
+    → IsSender (hears (stype0 symbol.s0) (hears_report symbol output) symbol.p0).state
+    (lists_without (take (hears (stype0 symbol.s0) (hears_report symbol output) symbol.p0).freed
+    (prios_of output)) queued)
+symbol_sends symbol output input queued kept_ahead kept_back below b s =
+    let told = hears_report symbol output in
+    let kind = stype0 symbol.s0 in
+    let same = report_prios symbol output in
+    subst (λ (ps : List ℕ). IsSender (hears kind told symbol.p0).state
+    (lists_without (take (hears kind told symbol.p0).freed ps) queued)) same
+    (heard_sends kind symbol.p0 told input queued kept_ahead kept_back
+    (report_between symbol output input queued kept_ahead (tells kind symbol.p0 ∷ kept_back) b)
+    (record {
+      window_is = report_output symbol output below s.window_is;
+      covered = subst (λ (ps : List ℕ). Covers ps queued) (sym same) s.covered;
+    }))

@@ -1,32 +1,41 @@
 -- What holds after every history of two ports: by one step after another.
-use Rattle.std.proofs.Common.{◌≡◌, ◌≢◌, ℕ, zero, suc, ◌<◌, ◌==◌, Option, Some, None, List, [], ◌∷◌, ◌++◌, map, length, take, drop, slice_get, option_to_list, inl, inr, refl, sym, ap, ◌∙◌, subst, if◌then◌else◌, arith, append_assoc}
-use Rattle.std.proofs.lemmas.Bool.{cases_Bool}
-use Rattle.std.proofs.lemmas.Bool.Decides.{eqb_tells}
+use Rattle.std.proofs.Common.{◌≡◌, ◌≢◌, ℕ, zero, suc, ◌<◌, ◌==◌, Bool, Option, Some, None, List, [], ◌∷◌, ◌++◌, map, length, take, drop, option_to_list, All, refl, sym, ap, ◌∙◌, subst, arith, append_assoc}
 use Rattle.std.proofs.lemmas.List.{append-nil}
-use Rattle.std.proofs.lemmas.List.Elements.{filter-append}
+use Rattle.std.proofs.Math.Seq.{drop-append_seam}
+use Rattle.std.proofs.lemmas.List.Elements.{filter-append, All-nil, All-append, All-head, All-tail, All-drop}
 use Rattle.link_model.specs.Prelude.{prio_of, distance}
-use Rattle.link_buffers.specs.Queues.{no_packets, list_at, popped, appended, of_prio}
+use Rattle.link_buffers.specs.Queues.{no_packets, list_at, appended, of_prio}
 use Rattle.link_buffers.specs.Priorities.{Covers, highest}
 use Rattle.link_buffers.proofs.PriorityParts.{of_prio_one, held_of_prio}
-use Rattle.link_buffers.proofs.PriorityLists.{list_at-popped}
 use Rattle.link_buffers.proofs.PriorityLaws.{list_at-appended, packets_of-appended, lists_without-appended, Covers-take, length-lists_without}
 use Rattle.link_port.specs.Prelude.{Event, PortState, IsPort, acts, turns_to, timed_out, waiting_in, prios_of, expected_of}
 use Rattle.link_model.specs.Output as out
 use Rattle.link_sound.specs.Meanings.{forward, backward, oldest_of}
 use Rattle.link_sound.specs.Sound.{IsSound}
 use Rattle.link_sound.specs.Lent.{lent, waiting, Holds, Frees}
-use Rattle.link_sound.specs.Histories.{AreBuffers, Journeys, Link, new_link, turned_round, after_event, IsStep, Turns, Acts, Others, TimesOut, Puts, Loses, GoesOn, IsHistory, Rests, AtFirst, AtSecond, AreCarried}
+use Rattle.link_sound.specs.Histories.{AreBuffers, Journeys, Link, new_link, turned_round, after_event, IsStep, Turns, Tells, Acts, Others, TimesOut, Puts, Loses, GoesOn, IsHistory, Rests, AtFirst, AtSecond, AreCarried}
 use Rattle.link_sound.proofs.Freed.{turn_stays, time_out_stays}
-use Rattle.link_sound.proofs.Steps.{begins, exchanged, turn_keeps, acted_keeps, other_keeps, time_out_keeps, lost_keeps, put_keeps, other_parts}
+use Rattle.link_sound.proofs.Steps.{begins, exchanged, turn_keeps, tell_keeps, acted_keeps, other_keeps, time_out_keeps, lost_keeps, put_keeps, other_parts}
 use Rattle.link_sound.proofs.Moves.{acted_holds, other_holds, acted_frees, other_frees}
 use Rattle.link_sound.proofs.Promises.{not_failed}
+use Rattle.link_sound.proofs.Ranged.{HasAck, turn_has, tell_has, event_has}
 use Rattle.link_sound.proofs.PortBounds.{new_is_port, turn_port, time_out_port, put_port, read_port, acted_port, other_port}
+
+-- what holds of all holds of those that are not lost
+All-behind :
+    {X : Type 0} (P : X → Type 0) (all lost kept : List X) → all ≡ lost ++ kept → All P all
+    → All P kept
+All-behind P all lost kept is of =
+    subst (λ xs. All P xs) (ap (drop (length lost)) is ∙ drop-append_seam lost kept)
+    (All-drop P (length lost) all of)
 
 -- what every history keeps
 pub record IsLawful (l : Link) : Type 0 where
   pub port_a : IsPort l.a
   pub port_b : IsPort l.b
   pub sound : IsSound l.a l.b l.kept_a l.kept_b
+  pub has_a : All HasAck l.kept_a
+  pub has_b : All HasAck l.kept_b
   pub of_a : AreCarried l.of_a l.a l.b
   pub of_b : AreCarried l.of_b l.b l.a
 
@@ -113,14 +122,17 @@ put_carried j p q packet covers few c =
 
 event_keeps :
     (l : Link) (e : Event) (rest : List Event) → IsPort (acts l.a e).port
+    → All HasAck rest
     → IsSound (acts l.a e).port l.b (after_event l e rest).kept_a rest
     → Frees l.a (acts l.a e).port l.b (acts l.a e).freed
     → Holds l.b l.a (acts l.a e).port (acts l.a e).held → IsLawful l
     → IsLawful (after_event l e rest)
-event_keeps l e rest port sound frees holds is = record {
+event_keeps l e rest port has sound frees holds is = record {
   port_a = port;
   port_b = is.port_b;
   sound = sound;
+  has_a = All-append HasAck l.kept_a _ is.has_a (event_has l.a e is.port_a.expected_ack);
+  has_b = has;
   of_a = free_carried l.of_a l.a (acts l.a e).port l.b (acts l.a e).freed frees is.of_a;
   of_b = hold_carried l.of_b l.b l.a (acts l.a e).port (acts l.a e).held holds is.of_b;
 }
@@ -128,23 +140,38 @@ event_keeps l e rest port sound frees holds is = record {
 step_keeps : (l next : Link) → IsStep l next → IsLawful l → IsLawful next
 step_keeps l next (Turns _) is =
     let stays =
-    turn_stays l.a.output (highest (waiting_in l.a)) l.b.input l.a.queued (map forward l.kept_a)
+    turn_stays l.a.tells l.a.output (highest (waiting_in l.a)) l.b.input l.a.queued
+    (map forward l.kept_a)
     (map backward l.kept_b) is.port_a.covered is.sound.a_to_b in
     record {
       port_a = turn_port l.a is.port_a;
       port_b = is.port_b;
       sound = turn_keeps l.a l.b l.kept_a l.kept_b is.port_a.covered is.sound;
+      has_a = All-append HasAck l.kept_a _ is.has_a (turn_has l.a is.port_a.expected_ack);
+      has_b = is.has_b;
       of_a = stay_carried l.of_a l.a l.b (turns_to l.a) l.b stays.0 stays.1 is.of_a;
       of_b = stay_carried l.of_b l.b l.a l.b (turns_to l.a) refl refl is.of_b;
     }
+step_keeps l next (Tells _) is = record {
+  port_a = is.port_a;
+  port_b = is.port_b;
+  sound = tell_keeps l.a l.b l.kept_a l.kept_b is.sound;
+  has_a = All-append HasAck l.kept_a _ is.has_a (tell_has l.a is.port_a.expected_ack);
+  has_b = is.has_b;
+  of_a = is.of_a;
+  of_b = is.of_b;
+}
 step_keeps l next (Acts _ e rest first acted) is =
     let sound = subst (λ (es : List Event). IsSound l.a l.b l.kept_a es) first is.sound in
-    event_keeps l e rest (acted_port l.a l.b l.kept_a rest e is.port_a is.port_b acted sound)
+    let has = subst (λ (es : List Event). All HasAck es) first is.has_b in
+    event_keeps l e rest
+    (acted_port l.a l.b l.kept_a rest e is.port_a is.port_b (All-head HasAck e rest has) acted
+    sound) (All-tail HasAck e rest has)
     (acted_keeps l.a l.b l.kept_a rest e is.port_a.covered acted sound)
     (acted_frees l.a l.b l.kept_a rest e is.port_a.covered acted sound)
     (acted_holds l.a l.b l.kept_a rest e is.port_b.covered is.port_b.sends acted sound) is
 step_keeps l next (Others _ e other) is =
-    event_keeps l e l.kept_b (other_port l.a e is.port_a other)
+    event_keeps l e l.kept_b (other_port l.a e is.port_a other) is.has_b
     (other_keeps l.a l.b l.kept_a l.kept_b e other is.sound) (other_frees l.a l.b e other)
     (other_holds l.a l.b e other) is
 step_keeps l next (TimesOut _) is =
@@ -153,6 +180,8 @@ step_keeps l next (TimesOut _) is =
       port_a = time_out_port l.a is.port_a;
       port_b = is.port_b;
       sound = time_out_keeps l.a l.b l.kept_a l.kept_b is.sound;
+      has_a = All-nil HasAck;
+      has_b = All-nil HasAck;
       of_a = stay_carried l.of_a l.a l.b (timed_out l.a) l.b stays.0 stays.1 is.of_a;
       of_b = stay_carried l.of_b l.b l.a l.b (timed_out l.a) refl refl is.of_b;
     }
@@ -164,6 +193,8 @@ step_keeps l next (Puts _ packet few passes room) is =
       sound =
           put_keeps l.a l.b l.kept_a l.kept_b (prio_of packet) packet is.port_a.covered within
           is.sound;
+      has_a = is.has_a;
+      has_b = is.has_b;
       of_a = put_carried l.of_a l.a l.b packet is.port_a.covered within is.of_a;
       of_b =
           stay_carried l.of_b l.b l.a l.b
@@ -177,6 +208,8 @@ step_keeps l next (Loses _ lost_a kept_a lost_b kept_b first second) is =
       port_a = is.port_a;
       port_b = is.port_b;
       sound = lost_keeps l.a l.b lost_a kept_a lost_b kept_b sound;
+      has_a = All-behind HasAck l.kept_a lost_a kept_a first is.has_a;
+      has_b = All-behind HasAck l.kept_b lost_b kept_b second is.has_b;
       of_a = is.of_a;
       of_b = is.of_b;
     }
@@ -184,6 +217,8 @@ step_keeps l next (GoesOn _ received place store bounded) is = record {
   port_a = read_port l.a received place store bounded is.port_a;
   port_b = is.port_b;
   sound = other_parts l.a l.b l.kept_a l.kept_b received place is.sound;
+  has_a = is.has_a;
+  has_b = is.has_b;
   of_a =
       stay_carried l.of_a l.a l.b (record l.a { received = received; place = place }) l.b refl refl
       is.of_a;
@@ -197,6 +232,8 @@ round_keeps l is = record {
   port_a = is.port_b;
   port_b = is.port_a;
   sound = exchanged l.a l.b l.kept_a l.kept_b is.sound;
+  has_a = is.has_b;
+  has_b = is.has_a;
   of_a = is.of_b;
   of_b = is.of_a;
 }
@@ -216,39 +253,49 @@ none_waits (suc (suc zero)) = refl
 none_waits (suc (suc (suc zero))) = refl
 none_waits (suc (suc (suc (suc prio)))) = refl
 
-new_is_lawful : (m n : ℕ) → AreBuffers m → AreBuffers n → IsLawful (new_link m n)
-new_is_lawful m n first second = record {
-  port_a = new_is_port m first;
-  port_b = new_is_port n second;
+new_is_lawful : (tells_a tells_b : Bool) (m n : ℕ) → AreBuffers m → AreBuffers n
+    → IsLawful (new_link tells_a tells_b m n)
+new_is_lawful tells_a tells_b m n first second = record {
+  port_a = new_is_port tells_a m first;
+  port_b = new_is_port tells_b n second;
   sound = record { a_to_b = begins _ _ _ refl refl; b_to_a = begins _ _ _ refl refl };
+  has_a = All-nil HasAck;
+  has_b = All-nil HasAck;
   of_a = record { in_order = none_waits; freed_after_held = refl };
   of_b = record { in_order = none_waits; freed_after_held = refl };
 }
 
 -- every history from two new ports
-all_lawful : (m n : ℕ) (l : Link) → AreBuffers m → AreBuffers n → IsHistory (new_link m n) l
+all_lawful : (tells_a tells_b : Bool) (m n : ℕ) (l : Link) → AreBuffers m → AreBuffers n
+    → IsHistory (new_link tells_a tells_b m n) l
     → IsLawful l
-all_lawful m n l first second history =
-    history_keeps (new_link m n) l history (new_is_lawful m n first second)
+all_lawful tells_a tells_b m n l first second history =
+    history_keeps (new_link tells_a tells_b m n) l history
+    (new_is_lawful tells_a tells_b m n first second)
 
-pub all_ports : (m n : ℕ) (l : Link) → AreBuffers m → AreBuffers n → IsHistory (new_link m n) l
+pub all_ports : (tells_a tells_b : Bool) (m n : ℕ) (l : Link) → AreBuffers m → AreBuffers n
+    → IsHistory (new_link tells_a tells_b m n) l
     → IsPort l.a × IsPort l.b
-all_ports m n l first second history =
-    let is = all_lawful m n l first second history in (is.port_a, is.port_b)
+all_ports tells_a tells_b m n l first second history =
+    let is = all_lawful tells_a tells_b m n l first second history in (is.port_a, is.port_b)
 
-pub all_sound : (m n : ℕ) (l : Link) → AreBuffers m → AreBuffers n → IsHistory (new_link m n) l
+pub all_sound : (tells_a tells_b : Bool) (m n : ℕ) (l : Link) → AreBuffers m → AreBuffers n
+    → IsHistory (new_link tells_a tells_b m n) l
     → IsSound l.a l.b l.kept_a l.kept_b
-all_sound m n l first second history = (all_lawful m n l first second history).sound
+all_sound tells_a tells_b m n l first second history
+    = (all_lawful tells_a tells_b m n l first second history).sound
 
-pub all_carried : (m n : ℕ) (l : Link) → AreBuffers m → AreBuffers n → IsHistory (new_link m n) l
+pub all_carried : (tells_a tells_b : Bool) (m n : ℕ) (l : Link) → AreBuffers m → AreBuffers n
+    → IsHistory (new_link tells_a tells_b m n) l
     → AreCarried l.of_a l.a l.b × AreCarried l.of_b l.b l.a
-all_carried m n l first second history =
-    let is = all_lawful m n l first second history in (is.of_a, is.of_b)
+all_carried tells_a tells_b m n l first second history =
+    let is = all_lawful tells_a tells_b m n l first second history in (is.of_a, is.of_b)
 
-pub none_failed : (m n : ℕ) (l : Link) → AreBuffers m → AreBuffers n → IsHistory (new_link m n) l
+pub none_failed : (tells_a tells_b : Bool) (m n : ℕ) (l : Link) → AreBuffers m → AreBuffers n
+    → IsHistory (new_link tells_a tells_b m n) l
     → (l.a.output ≢ out.Output.Failed) × (l.b.output ≢ out.Output.Failed)
-none_failed m n l first second history =
-    let sound = all_sound m n l first second history in (
+none_failed tells_a tells_b m n l first second history =
+    let sound = all_sound tells_a tells_b m n l first second history in (
       not_failed l.a l.b l.kept_a l.kept_b sound,
       not_failed l.b l.a l.kept_b l.kept_a (exchanged l.a l.b l.kept_a l.kept_b sound),
     )

@@ -1,22 +1,24 @@
 -- What a sender frees is the front of what is lent, and nothing else of its packets moves.
-use Rattle.std.proofs.Common.{◌≡◌, ℕ, suc, ◌+◌, ◌-◌, ◌%◌, true, false, List, [], ◌∷◌, ◌++◌, length, take, drop, Option, Some, None, inl, inr, refl, sym, ap, ◌∙◌, arith}
+use Rattle.std.proofs.Common.{◌≡◌, ℕ, suc, ◌+◌, ◌-◌, ◌%◌, Bool, true, false, List, [], ◌∷◌, ◌++◌, length, take, drop, Option, Some, None, inl, inr, refl, sym, ap, ◌∙◌, subst, arith}
 use Rattle.std.proofs.Math.Seq.{take-add, take-nil}
 use Rattle.std.proofs.lemmas.Bool.{le-leb}
 use Rattle.std.proofs.lemmas.List.{append-nil, take-append-le}
 use Rattle.link_buffers.specs.Priorities.{packets_of, lists_without, Covers}
 use Rattle.link_buffers.proofs.PriorityLists.{packets_of-append, lists_without-append}
-use Rattle.link_model.specs.Prelude.{Input, Output, hears, turns, times_out, Outstanding, distance}
-use Rattle.link_model.specs.Output.{Stype0, Heard, accepted, retried, responded, started, startable}
+use Rattle.link_model.specs.Prelude.{Fields, Input, Output, hears, hears_report, turns, times_out, Outstanding, distance}
+use Rattle.link_model.specs.Output.{Stype0, stype0, Heard, accepted, retried, responded, started, startable}
 use Rattle.link_model.specs.Output.Stype0.{PacketAccepted, PacketRetry, PacketNotAccepted, LinkResponse, OtherStype0}
 use Rattle.link_sound.specs.Marks.{Forward, Backward, Accept, Response}
 use Rattle.link_sound.proofs.SenderMoves.{oldest_accepted, answered, distance_is}
 use Rattle.link_port.specs.States.{prios_of, expected_of}
-use Rattle.link_sound.specs.Meanings.{tells, receiver_of}
+use Rattle.link_port.proofs.HearLaws.{report_prios}
+use Rattle.link_sound.specs.Meanings.{tells, receiver_of, oldest_of}
 use Rattle.link_sound.specs.Between.{IsBetween}
 use Rattle.link_sound.specs.Lent.{lent_until, waiting_from}
 use Rattle.link_sound.proofs.Turning.{count_is}
 use Rattle.link_sound.proofs.Hearing.{next_oldest, oldest_cases, response_counts}
 use Rattle.link_sound.proofs.Plain.{lent_count}
+use Rattle.link_sound.proofs.Reported.{report_oldest, report_between}
 
 -- what is freed, and what stays lent and waiting, where a sender hears something
 abbrev pub IsFreed : Output → Heard → ℕ → List (List (List ℕ)) → Type 0
@@ -153,6 +155,48 @@ heard_frees OtherStype0 ack (Output.ErrorStopped asked w) input queued kept_ahea
     (refl, refl)
 heard_frees OtherStype0 ack Output.Failed input queued kept_ahead kept_back covers b = (refl, refl)
 
+-- what a sender knows of is told by its oldest packet and its priorities alone
+lent_same :
+    (output next : Output) (expected : ℕ) (queued : List (List (List ℕ)))
+    → oldest_of next ≡ oldest_of output → prios_of next ≡ prios_of output
+    → (lent_until next expected queued ≡ lent_until output expected queued)
+    × (waiting_from next expected queued ≡ waiting_from output expected queued)
+lent_same output next expected queued first prios =
+    let same =
+    ap (λ oldest. take (distance oldest expected) (prios_of next)) first
+    ∙ ap (take (distance (oldest_of output) expected)) prios in
+    (ap (λ ps. packets_of ps queued) same, ap (λ ps. lists_without ps queued) same)
+
+-- a symbol: its report, and then what it says
+pub symbol_frees :
+    (symbol : Fields) (output : Output) (input : Input) (queued : List (List (List ℕ)))
+    (kept_ahead : List Forward) (kept_back : List Backward)
+    → Covers (prios_of output) queued
+    → IsBetween output input queued kept_ahead
+    (tells (stype0 symbol.s0) symbol.p0 ∷ kept_back)
+    → IsFreed output (hears (stype0 symbol.s0) (hears_report symbol output) symbol.p0)
+    (expected_of input) queued
+symbol_frees symbol output input queued kept_ahead kept_back covers b =
+    let told = hears_report symbol output in
+    let kind = stype0 symbol.s0 in
+    let does = hears kind told symbol.p0 in
+    let expected = expected_of input in
+    let prios = report_prios symbol output in
+    let same = lent_same output told expected queued (report_oldest symbol output) prios in
+    let frees =
+    heard_frees kind symbol.p0 told input queued kept_ahead kept_back
+    (subst (λ (ps : List ℕ). Covers ps queued) (sym prios) covers)
+    (report_between symbol output input queued kept_ahead (tells kind symbol.p0 ∷ kept_back) b) in (
+      sym same.0
+          ∙ frees.0
+          ∙ ap (λ ps. packets_of (take does.freed ps) queued
+          ++ lent_until does.state expected (lists_without (take does.freed ps) queued)) prios,
+      ap (λ ps. waiting_from does.state expected (lists_without (take does.freed ps) queued))
+          (sym prios)
+          ∙ frees.1
+          ∙ same.1,
+    )
+
 -- what is lent and what waits stays
 abbrev pub Stays : Output → Output → ℕ → List (List (List ℕ)) → Type 0
 Stays output next expected queued =
@@ -160,12 +204,13 @@ Stays output next expected queued =
     × (waiting_from next expected queued ≡ waiting_from output expected queued)
 
 started_stays :
-    (w : Outstanding) (input : Input) (queued : List (List (List ℕ))) (kept_ahead : List Forward)
-    (kept_back : List Backward) (waiting : Option ℕ) → Covers w.prios queued
+    (tells : Bool) (w : Outstanding) (input : Input) (queued : List (List (List ℕ)))
+    (kept_ahead : List Forward) (kept_back : List Backward) (waiting : Option ℕ)
+    → Covers w.prios queued
     → IsBetween (Output.Ok w) input queued kept_ahead kept_back
-    → Stays (Output.Ok w) (started w waiting).state (expected_of input) queued
-started_stays w input queued kept_ahead kept_back None covers b = (refl, refl)
-started_stays w input queued kept_ahead kept_back (Some prio) covers b =
+    → Stays (Output.Ok w) (started tells w waiting).state (expected_of input) queued
+started_stays tells w input queued kept_ahead kept_back None covers b = (refl, refl)
+started_stays tells w input queued kept_ahead kept_back (Some prio) covers b =
     let total =
     count_is w.prios queued b.freed b.sent covers
     (omega (arith, b.is.held_first, b.is.sent_first)) b.outstanding in
@@ -188,20 +233,21 @@ none_lent w input queued kept_ahead kept_back b =
 
 -- a turn moves nothing
 pub turn_stays :
-    (output : Output) (waiting : Option ℕ) (input : Input) (queued : List (List (List ℕ)))
+    (tells : Bool) (output : Output) (waiting : Option ℕ) (input : Input)
+    (queued : List (List (List ℕ)))
     (kept_ahead : List Forward) (kept_back : List Backward) → Covers (prios_of output) queued
     → IsBetween output input queued kept_ahead kept_back
-    → Stays output (turns output waiting).state (expected_of input) queued
-turn_stays (Output.Ok w) waiting input queued kept_ahead kept_back covers b =
-    started_stays w input queued kept_ahead kept_back (startable w waiting) covers b
-turn_stays (Output.RetryStopped w) waiting input queued kept_ahead kept_back covers b =
+    → Stays output (turns tells output waiting).state (expected_of input) queued
+turn_stays tells (Output.Ok w) waiting input queued kept_ahead kept_back covers b =
+    started_stays tells w input queued kept_ahead kept_back (startable w waiting) covers b
+turn_stays tells (Output.RetryStopped w) waiting input queued kept_ahead kept_back covers b =
     let none = none_lent w input queued kept_ahead kept_back b in
     rw none (refl, refl)
-turn_stays (Output.ErrorStopped false w) waiting input queued kept_ahead kept_back covers b =
+turn_stays tells (Output.ErrorStopped false w) waiting input queued kept_ahead kept_back covers b =
     (refl, refl)
-turn_stays (Output.ErrorStopped true w) waiting input queued kept_ahead kept_back covers b =
+turn_stays tells (Output.ErrorStopped true w) waiting input queued kept_ahead kept_back covers b =
     (refl, refl)
-turn_stays Output.Failed waiting input queued kept_ahead kept_back covers b = (refl, refl)
+turn_stays tells Output.Failed waiting input queued kept_ahead kept_back covers b = (refl, refl)
 
 -- nor does a time-out
 pub time_out_stays : (output : Output) (expected : ℕ) (queued : List (List (List ℕ)))

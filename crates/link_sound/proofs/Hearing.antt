@@ -1,25 +1,26 @@
 -- What a symbol that comes back does to the direction of the port that hears it.
-use Rattle.std.proofs.Common.{◌≡◌, ◌⊎◌, ℕ, suc, ◌+◌, ◌-◌, ◌%◌, ◌≤◌, true, false, List, [], ◌∷◌, length, take, drop, inl, inr, sym, ap, ◌∙◌, arith}
+use Rattle.std.proofs.Common.{◌≡◌, ◌⊎◌, ℕ, suc, ◌+◌, ◌-◌, ◌%◌, ◌≤◌, true, false, List, [], ◌∷◌, length, take, drop, inl, inr, sym, ap, ◌∙◌, subst, arith}
 use Rattle.std.proofs.Math.Bool.{and-false}
 use Rattle.std.proofs.lemmas.Bool.{cases_Bool, le-leb}
 use Rattle.std.proofs.lemmas.Bool.Decides.{eqb_tells}
 use Rattle.std.proofs.lemmas.List.{drop-drop}
 use Rattle.link_buffers.specs.Priorities.{lists_without, Covers}
 use Rattle.link_buffers.proofs.PriorityLaws.{drop-packets_of}
+use Rattle.link_model.specs.Prelude.{Fields, hears_report}
 use Rattle.link_model.specs.Input.{Input}
-use Rattle.link_model.specs.Output.{Output, Stype0, hears, accepted, retried, responded}
+use Rattle.link_model.specs.Output.{Output, Stype0, stype0, hears, accepted, retried, responded}
 use Rattle.link_model.specs.Output.Stype0.{PacketAccepted, PacketRetry, PacketNotAccepted, LinkResponse, OtherStype0}
 use Rattle.link_model.specs.Outstanding.{Outstanding, distance, is_oldest}
 use Rattle.link_sound.specs.Marks.{Forward, Backward, Accept, Retry, Response}
 use Rattle.link_sound.specs.Sender.{Sender}
-use Rattle.link_sound.specs.Receiver.{Receiver}
-use Rattle.link_sound.specs.Direction.{IsDirection}
 use Rattle.link_sound.proofs.MoveLaws.{lost_front}
 use Rattle.link_sound.proofs.SenderMoves.{error_at_ok_direction, error_at_retry_stopped, oldest_accepted, no_accept_at_retry, no_retry_at_retry, oldest_refused, no_response_unasked, answered}
 use Rattle.link_port.specs.States.{prios_of}
+use Rattle.link_port.proofs.HearLaws.{report_prios}
 use Rattle.link_sound.specs.Meanings.{tells, sender_of, receiver_of}
 use Rattle.link_sound.specs.Between.{IsBetween}
 use Rattle.link_sound.proofs.Turning.{count_is, drop_taken}
+use Rattle.link_sound.proofs.Reported.{report_between}
 
 -- whether the ackID is that of the oldest packet
 pub oldest_cases : (w : Outstanding) (ack : ℕ)
@@ -142,7 +143,8 @@ retried_keeps w ack input queued kept_ahead kept_back b =
 pub response_counts :
     (w : Outstanding) (ack : ℕ) (input : Input) (queued : List (List (List ℕ)))
     (kept_ahead : List Forward) (kept_back : List Backward) → Covers w.prios queued
-    → (b : IsBetween (Output.ErrorStopped true w) input queued kept_ahead (Response ack ∷ kept_back))
+    → (b : IsBetween (Output.ErrorStopped true w) input queued kept_ahead
+    (Response ack ∷ kept_back))
     → (distance w.oldest ack ≡ b.held - b.freed) × (distance w.oldest ack ≤ length w.prios)
 response_counts w ack input queued kept_ahead kept_back covers b =
     let does = answered (receiver_of input) b.freed b.held ack b.sent kept_ahead kept_back b.is in
@@ -246,3 +248,23 @@ heard_keeps OtherStype0 ack (Output.ErrorStopped asked w) input queued kept_ahea
     one_lost (Output.ErrorStopped asked w) input queued kept_ahead _ kept_back b
 heard_keeps OtherStype0 ack Output.Failed input queued kept_ahead kept_back covers b =
     one_lost Output.Failed input queued kept_ahead _ kept_back b
+
+-- a symbol: its report, and then what it says
+pub symbol_heard :
+    (symbol : Fields) (output : Output) (input : Input) (queued : List (List (List ℕ)))
+    (kept_ahead : List Forward) (kept_back : List Backward)
+    → Covers (prios_of output) queued
+    → IsBetween output input queued kept_ahead
+    (tells (stype0 symbol.s0) symbol.p0 ∷ kept_back)
+    → IsBetween (hears (stype0 symbol.s0) (hears_report symbol output) symbol.p0).state input
+    (lists_without (take (hears (stype0 symbol.s0) (hears_report symbol output) symbol.p0).freed
+    (prios_of output)) queued) kept_ahead kept_back
+symbol_heard symbol output input queued kept_ahead kept_back covers b =
+    let told = hears_report symbol output in
+    let kind = stype0 symbol.s0 in
+    let same = report_prios symbol output in
+    subst (λ (ps : List ℕ). IsBetween (hears kind told symbol.p0).state input
+    (lists_without (take (hears kind told symbol.p0).freed ps) queued) kept_ahead kept_back) same
+    (heard_keeps kind symbol.p0 told input queued kept_ahead kept_back
+    (subst (λ (ps : List ℕ). Covers ps queued) (sym same) covers)
+    (report_between symbol output input queued kept_ahead (tells kind symbol.p0 ∷ kept_back) b))

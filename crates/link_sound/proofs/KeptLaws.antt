@@ -1,14 +1,8 @@
 -- Laws of what is on its way: a front may be lost, and events come in at the end.
 use Rattle.std.proofs.Common.{◌≡◌, ℕ, zero, suc, ◌%◌, ◌≤◌, Bool, true, false, List, [], ◌∷◌, ◌++◌, length, Some, slice_get, refl, arith}
 use Rattle.std.proofs.lemmas.Option.{slice_get_within}
-use Rattle.link_sound.specs.Marks.{Forward, Packet, Restart, Request, Other, is_restart, is_request, is_forward, Backward, Accept, Retry, Response, Neutral, is_retry, is_response, is_backward}
+use Rattle.link_sound.specs.Marks.{Forward, Packet, Restart, Request, Other, is_packet, is_restart, is_request, is_forward, Backward, Accept, Retry, Response, Neutral, is_retry, is_response, is_backward}
 use Rattle.link_sound.specs.Kept.{Lacks, AcceptsInTurn, PacketsInTurn, RetryOnce, RestartOnce, RequestLast, ResponseLast}
-
-abbrev pub is_packet : Forward → Bool
-is_packet (Packet ack packet) = true
-is_packet Restart = false
-is_packet Request = false
-is_packet Other = false
 
 abbrev pub is_accept : Backward → Bool
 is_accept (Accept ack) = true

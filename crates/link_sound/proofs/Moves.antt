@@ -5,7 +5,6 @@ use Rattle.link_model.specs.Prelude.{number_of, prio_of, Input, packet_arrival, 
 use Rattle.link_buffers.specs.Prelude.{Buffered, room_for, stored, IsOutStore, Covers}
 use Rattle.link_port.specs.Prelude.{Event, Ctl, Pkt, Bad, prios_of, expected_of, expects, PortState, acts, is_acted}
 use Rattle.link_model.specs.Input.Arrival.{ExpectedWithRoom, ExpectedWithoutRoom, UnexpectedAck}
-use Rattle.link_model.specs.Output.{stype0}
 use Rattle.link_sound.specs.Marks.{Forward, Backward, Packet}
 use Rattle.link_sound.specs.Receiver.{IsShut}
 use Rattle.link_sound.specs.Meanings.{receiver_of}
@@ -13,7 +12,7 @@ use Rattle.link_sound.specs.Between.{IsBetween}
 use Rattle.link_sound.specs.Sound.{IsSound}
 use Rattle.link_sound.specs.Lent.{lent_until, waiting_from, HoldsAt, Holds, Frees}
 use Rattle.link_sound.proofs.Plain.{held_is}
-use Rattle.link_sound.proofs.Freed.{heard_frees}
+use Rattle.link_sound.proofs.Freed.{symbol_frees}
 use Rattle.link_sound.proofs.Receiving.{arrival}
 use Rattle.link_sound.proofs.Steps.{is_expected}
 
@@ -46,39 +45,43 @@ damaged_expects cause (Input.RetryStopped expected) = refl
 damaged_expects cause (Input.ErrorStopped expected) = refl
 
 -- what a packet of the expected ackID does
-abbrev PacketHolds : Output → List (List (List ℕ)) → Buffered → Input → ℕ → List ℕ → Bool → Type 0
-PacketHolds output queued store input ack packet room =
+abbrev PacketHolds : Output → List (List (List ℕ)) → Buffered → Input → ℕ → List ℕ → Bool → ℕ
+    → Type 0
+PacketHolds output queued store input ack packet room buffers =
     HoldsAt output queued store
-    (stored (receives (packet_arrival (expected_of input) ack room) input).held store packet)
+    (stored (receives (packet_arrival (expected_of input) ack room buffers) input).held store
+    packet)
     (expected_of input)
-    (expected_of (receives (packet_arrival (expected_of input) ack room) input).state)
-    (if (receives (packet_arrival (expected_of input) ack room) input).held then Some packet
+    (expected_of (receives (packet_arrival (expected_of input) ack room buffers) input).state)
+    (if (receives (packet_arrival (expected_of input) ack room buffers) input).held then Some packet
     else None)
 
 expected_holds :
     (output : Output) (queued : List (List (List ℕ))) (store : Buffered) (ack : ℕ) (packet : List ℕ)
-    (kept_ahead : List Forward) (kept_back : List Backward) (room : Bool)
+    (kept_ahead : List Forward) (kept_back : List Backward) (room : Bool) (buffers : ℕ)
     → room_for store (prio_of packet) ≡ room → Covers (prios_of output) queued → IsOutStore queued
     → IsBetween output (Input.Ok ack) queued (Packet ack packet ∷ kept_ahead) kept_back
-    → PacketHolds output queued store (Input.Ok ack) ack packet room
-expected_holds output queued store ack packet kept_ahead kept_back true room covers four b =
+    → PacketHolds output queued store (Input.Ok ack) ack packet room buffers
+expected_holds output queued store ack packet kept_ahead kept_back true buffers room covers four b =
     let does = held_is output ack queued packet kept_ahead kept_back covers four b in
     rw (eq-eqb ack ack refl) (does.first, room, does.lent, does.waiting, refl)
-expected_holds output queued store ack packet kept_ahead kept_back false room covers four b =
+expected_holds output queued store ack packet kept_ahead kept_back false buffers room covers four
+    b =
     rw (eq-eqb ack ack refl) (nothing_held output queued store ack ack refl)
 
 packet_holds :
     (output : Output) (queued : List (List (List ℕ))) (store : Buffered) (input : Input) (ack : ℕ)
-    (packet : List ℕ) (kept_ahead : List Forward) (kept_back : List Backward)
+    (packet : List ℕ) (kept_ahead : List Forward) (kept_back : List Backward) (buffers : ℕ)
     → input ≡ Input.Ok ack → Covers (prios_of output) queued → IsOutStore queued
     → IsBetween output input queued (Packet ack packet ∷ kept_ahead) kept_back
-    → PacketHolds output queued store input ack packet (room_for store (prio_of packet))
-packet_holds output queued store input ack packet kept_ahead kept_back same covers four b =
+    → PacketHolds output queued store input ack packet (room_for store (prio_of packet)) buffers
+packet_holds output queued store input ack packet kept_ahead kept_back buffers same covers four b =
     subst
-    (λ (i : Input). PacketHolds output queued store i ack packet (room_for store (prio_of packet)))
+    (λ (i : Input). PacketHolds output queued store i ack packet (room_for store (prio_of packet))
+    buffers)
     (sym same)
     (expected_holds output queued store ack packet kept_ahead kept_back
-    (room_for store (prio_of packet)) refl covers four
+    (room_for store (prio_of packet)) buffers refl covers four
     (subst (λ (i : Input). IsBetween output i queued (Packet ack packet ∷ kept_ahead) kept_back)
     same b))
 
@@ -92,46 +95,53 @@ acted_holds a b kept_a kept_b (Ctl symbol) covers four acted s =
     (expected_of (receives (symbol_arrival symbol.s1 symbol.cmd) a.input).state)
     (symbol_expects symbol.s1 symbol.cmd a.input)
 acted_holds a b kept_a kept_b (Pkt ack packet) covers four acted s =
-    packet_holds b.output b.queued a.received a.input ack packet _ _ (is_expected a.input ack acted)
+    packet_holds b.output b.queued a.received a.input ack packet _ _ _
+    (is_expected a.input ack acted)
     covers four s.b_to_a
 acted_holds a b kept_a kept_b (Bad cause) covers four acted s = absurd cc
 
 shut_holds :
-    (same room : Bool) (output : Output) (queued : List (List (List ℕ))) (store : Buffered)
+    (same room : Bool) (buffers : ℕ) (output : Output) (queued : List (List (List ℕ)))
+    (store : Buffered)
     (input : Input) (packet : List ℕ) → IsShut (receiver_of input)
     → HoldsAt output queued store (stored (receives
-    (if same then (if room then ExpectedWithRoom else ExpectedWithoutRoom) else UnexpectedAck)
+    (if same then (if room then ExpectedWithRoom buffers else ExpectedWithoutRoom buffers)
+    else UnexpectedAck)
     input).held store packet) (expected_of input)
     (expected_of (receives
-    (if same then (if room then ExpectedWithRoom else ExpectedWithoutRoom) else UnexpectedAck)
+    (if same then (if room then ExpectedWithRoom buffers else ExpectedWithoutRoom buffers)
+    else UnexpectedAck)
     input).state)
     (if (receives
-    (if same then (if room then ExpectedWithRoom else ExpectedWithoutRoom) else UnexpectedAck)
+    (if same then (if room then ExpectedWithRoom buffers else ExpectedWithoutRoom buffers)
+    else UnexpectedAck)
     input).held then Some packet else None)
-shut_holds same room output queued store (Input.Ok expected) packet shut = absurd shut
-shut_holds true true output queued store (Input.RetryStopped expected) packet shut =
+shut_holds same room buffers output queued store (Input.Ok expected) packet shut = absurd shut
+shut_holds true true buffers output queued store (Input.RetryStopped expected) packet shut =
     nothing_held output queued store expected expected refl
-shut_holds true false output queued store (Input.RetryStopped expected) packet shut =
+shut_holds true false buffers output queued store (Input.RetryStopped expected) packet shut =
     nothing_held output queued store expected expected refl
-shut_holds false room output queued store (Input.RetryStopped expected) packet shut =
+shut_holds false room buffers output queued store (Input.RetryStopped expected) packet shut =
     nothing_held output queued store expected expected refl
-shut_holds true true output queued store (Input.ErrorStopped expected) packet shut =
+shut_holds true true buffers output queued store (Input.ErrorStopped expected) packet shut =
     nothing_held output queued store expected expected refl
-shut_holds true false output queued store (Input.ErrorStopped expected) packet shut =
+shut_holds true false buffers output queued store (Input.ErrorStopped expected) packet shut =
     nothing_held output queued store expected expected refl
-shut_holds false room output queued store (Input.ErrorStopped expected) packet shut =
+shut_holds false room buffers output queued store (Input.ErrorStopped expected) packet shut =
     nothing_held output queued store expected expected refl
 
 dropped_holds :
     (output : Output) (queued : List (List (List ℕ))) (store : Buffered) (input : Input) (ack : ℕ)
-    (packet : List ℕ) (room : Bool) → expects input ack ≡ false
-    → PacketHolds output queued store input ack packet room
-dropped_holds output queued store (Input.Ok expected) ack packet room other =
+    (packet : List ℕ) (room : Bool) (buffers : ℕ) → expects input ack ≡ false
+    → PacketHolds output queued store input ack packet room buffers
+dropped_holds output queued store (Input.Ok expected) ack packet room buffers other =
     rw other (nothing_held output queued store expected expected refl)
-dropped_holds output queued store (Input.RetryStopped expected) ack packet room other =
-    shut_holds (ack == expected) room output queued store (Input.RetryStopped expected) packet tt
-dropped_holds output queued store (Input.ErrorStopped expected) ack packet room other =
-    shut_holds (ack == expected) room output queued store (Input.ErrorStopped expected) packet tt
+dropped_holds output queued store (Input.RetryStopped expected) ack packet room buffers other =
+    shut_holds (ack == expected) room buffers output queued store (Input.RetryStopped expected)
+    packet tt
+dropped_holds output queued store (Input.ErrorStopped expected) ack packet room buffers other =
+    shut_holds (ack == expected) room buffers output queued store (Input.ErrorStopped expected)
+    packet tt
 
 -- what is not acted on
 pub other_holds : (a b : PortState) (e : Event) → is_acted a e ≡ false
@@ -139,7 +149,7 @@ pub other_holds : (a b : PortState) (e : Event) → is_acted a e ≡ false
 other_holds a b (Ctl symbol) other = absurd cc
 other_holds a b (Pkt ack packet) other =
     dropped_holds b.output b.queued a.received a.input ack packet
-    (room_for a.received (prio_of packet)) other
+    (room_for a.received (prio_of packet)) _ other
 other_holds a b (Bad cause) other =
     nothing_held b.output b.queued a.received (expected_of a.input)
     (expected_of (receives (Damaged (number_of cause)) a.input).state)
@@ -150,7 +160,7 @@ pub acted_frees :
     → is_acted a e ≡ true
     → IsSound a b kept_a (e ∷ kept_b) → Frees a (acts a e).port b (acts a e).freed
 acted_frees a b kept_a kept_b (Ctl symbol) covers acted s =
-    heard_frees (stype0 symbol.s0) symbol.p0 a.output b.input a.queued _ _ covers s.a_to_b
+    symbol_frees symbol a.output b.input a.queued _ _ covers s.a_to_b
 acted_frees a b kept_a kept_b (Pkt ack packet) covers acted s = (refl, refl)
 acted_frees a b kept_a kept_b (Bad cause) covers acted s = absurd cc
 

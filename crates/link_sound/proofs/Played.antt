@@ -1,8 +1,8 @@
 -- Histories that are played: moves of two ports, one after another, of which each is a step.
-use Rattle.std.proofs.Common.{◌≡◌, ℕ, zero, suc, nat_lt, Bool, true, false, List, [], ◌∷◌, ◌++◌, length, refl, arith, if◌then◌else◌, ltb-true}
+use Rattle.std.proofs.Common.{◌≡◌, nat_lt, Bool, true, false, List, [], ◌∷◌, length, refl, arith, ltb-true}
 use Rattle.link_model.specs.Prelude.{BadPacket, start}
 use Rattle.link_buffers.specs.Queues.{no_packets, list_at}
-use Rattle.link_port.specs.Prelude.{Event, Bad, PortState, new_port, is_acted}
+use Rattle.link_port.specs.Prelude.{Event, Bad, is_acted}
 use Rattle.link_sound.specs.Histories.{Link, turned_round, after_turn, after_event, after_put, IsStep, Turns, Acts, Others, Puts, Loses, GoesOn, IsHistory, Rests, AtFirst, AtSecond}
 use Rattle.link_sound.specs.Worked.{packet}
 use Rattle.link_sound.proofs.PortBounds.{new_is_port}
@@ -89,7 +89,7 @@ step Misses l = missed_step l l.kept_b refl
 step MeetsError l = Others l (Bad BadPacket) refl
 step Empties l =
     GoesOn l (record { lists = no_packets; buffers = 4 }) start
-    (new_is_port 4 (omega arith, omega arith)).receives tt
+    (new_is_port false 4 (omega arith, omega arith)).receives tt
 
 -- the link after the moves
 unfoldable pub played : List Move → Link → Link

@@ -1,5 +1,5 @@
 -- After each step of a history both ends are ports again.
-use Rattle.std.proofs.Common.{◌≡◌, ℕ, zero, suc, ◌+◌, ◌-◌, ◌<◌, ◌≤◌, ◌==◌, Bool, true, false, Some, List, [], ◌∷◌, length, take, slice_get, inl, inr, refl, sym, ap, subst, if◌then◌else◌, arith}
+use Rattle.std.proofs.Common.{◌≡◌, ℕ, zero, suc, ◌+◌, ◌-◌, ◌<◌, ◌≤◌, ◌==◌, Bool, true, false, Some, None, List, [], ◌∷◌, length, take, slice_get, inl, inr, refl, sym, ap, subst, if◌then◌else◌, arith}
 use Rattle.std.proofs.lemmas.Bool.{eq-eqb, ltb-true, cases_lt}
 use Rattle.std.proofs.lemmas.List.Elements.{All-nil}
 use Rattle.std.proofs.lemmas.Option.{slice_get_within}
@@ -12,7 +12,6 @@ use Rattle.link_buffers.proofs.StoreLemmas.{IsInStore-appended, IsOutStore-appen
 use Rattle.link_buffers.proofs.PriorityLaws.{Covers-appended, Covers-take, IsOutStore-lists_without, length-lists_without}
 use Rattle.link_port.specs.Prelude.{Event, Ctl, Pkt, Bad, prios_of, expected_of, expects, PortState, IsPort, new_port, acts, is_acted, turns_to, timed_out}
 use Rattle.link_model.specs.Input.Arrival.{ExpectedWithRoom, ExpectedWithoutRoom, UnexpectedAck, RestartFromRetry, LinkRequest, OtherStype1}
-use Rattle.link_model.specs.Output.{stype0}
 use Rattle.link_port.specs.Steps.{heard}
 use Rattle.link_sound.specs.Marks.{Forward, Backward, Packet}
 use Rattle.link_sound.specs.Receiver.{IsShut}
@@ -21,19 +20,20 @@ use Rattle.link_sound.specs.Between.{IsBetween}
 use Rattle.link_sound.specs.Sound.{IsSound}
 use Rattle.link_sound.specs.Lent.{waiting_from}
 use Rattle.link_sound.specs.Histories.{AreBuffers}
-use Rattle.link_sound.proofs.Bounds.{covers_none, nothing_from, turn_sends, time_out_sends, heard_sends}
+use Rattle.link_sound.proofs.Bounds.{covers_none, nothing_from, turn_sends, time_out_sends, symbol_sends}
 use Rattle.link_sound.proofs.Plain.{held_is}
+use Rattle.link_sound.proofs.Ranged.{HasAck}
 use Rattle.link_sound.proofs.Steps.{is_expected}
 
 -- the expected ackID stays one of five bits
 pub expected_below : (what : Arrival) (input : Input) → expected_of input < 32
     → expected_of (receives what input).state < 32
-expected_below ExpectedWithRoom (Input.Ok expected) below = omega arith
-expected_below ExpectedWithRoom (Input.RetryStopped expected) below = below
-expected_below ExpectedWithRoom (Input.ErrorStopped expected) below = below
-expected_below ExpectedWithoutRoom (Input.Ok expected) below = below
-expected_below ExpectedWithoutRoom (Input.RetryStopped expected) below = below
-expected_below ExpectedWithoutRoom (Input.ErrorStopped expected) below = below
+expected_below (ExpectedWithRoom buffers) (Input.Ok expected) below = omega arith
+expected_below (ExpectedWithRoom buffers) (Input.RetryStopped expected) below = below
+expected_below (ExpectedWithRoom buffers) (Input.ErrorStopped expected) below = below
+expected_below (ExpectedWithoutRoom buffers) (Input.Ok expected) below = below
+expected_below (ExpectedWithoutRoom buffers) (Input.RetryStopped expected) below = below
+expected_below (ExpectedWithoutRoom buffers) (Input.ErrorStopped expected) below = below
 expected_below UnexpectedAck (Input.Ok expected) below = below
 expected_below UnexpectedAck (Input.RetryStopped expected) below = below
 expected_below UnexpectedAck (Input.ErrorStopped expected) below = below
@@ -72,11 +72,14 @@ roomy store packet few passes room is =
 expected_store :
     (output : Output) (queued : List (List (List ℕ))) (store : Buffered) (ack : ℕ) (packet : List ℕ)
     (kept_ahead : List Forward) (kept_back : List Backward) (room : Bool)
-    → room_for store (prio_of packet) ≡ room → Covers (prios_of output) queued → IsOutStore queued
+    (buffers : ℕ) → room_for store (prio_of packet) ≡ room → Covers (prios_of output) queued
+    → IsOutStore queued
     → IsBetween output (Input.Ok ack) queued (Packet ack packet ∷ kept_ahead) kept_back
     → IsInStore store
-    → IsInStore (stored (receives (packet_arrival ack ack room) (Input.Ok ack)).held store packet)
-expected_store output queued store ack packet kept_ahead kept_back true room covers four b is =
+    → IsInStore (stored (receives (packet_arrival ack ack room buffers) (Input.Ok ack)).held store
+    packet)
+expected_store output queued store ack packet kept_ahead kept_back true buffers room covers four
+    b is =
     let first = (held_is output ack queued packet kept_ahead kept_back covers four b).first in
     let long =
     length-lists_without (take (distance (oldest_of output) ack) (prios_of output)) queued in
@@ -89,54 +92,60 @@ expected_store output queued store ack packet kept_ahead kept_back true room cov
     rw (eq-eqb ack ack refl) (roomy store packet few
     (Passes-at (waiting_from output ack queued) (prio_of packet) 0 packet waits.packets few first)
     room is)
-expected_store output queued store ack packet kept_ahead kept_back false room covers four b is =
+expected_store output queued store ack packet kept_ahead kept_back false buffers room covers four
+    b is =
     rw (eq-eqb ack ack refl) is
 
 packet_store :
     (output : Output) (queued : List (List (List ℕ))) (store : Buffered) (input : Input) (ack : ℕ)
-    (packet : List ℕ) (kept_ahead : List Forward) (kept_back : List Backward)
+    (packet : List ℕ) (kept_ahead : List Forward) (kept_back : List Backward) (buffers : ℕ)
     → input ≡ Input.Ok ack → Covers (prios_of output) queued → IsOutStore queued
     → IsBetween output input queued (Packet ack packet ∷ kept_ahead) kept_back → IsInStore store
     → IsInStore (stored (receives
-    (packet_arrival (expected_of input) ack (room_for store (prio_of packet))) input).held store
+    (packet_arrival (expected_of input) ack (room_for store (prio_of packet)) buffers) input).held
+    store
     packet)
-packet_store output queued store input ack packet kept_ahead kept_back same covers four b is =
+packet_store output queued store input ack packet kept_ahead kept_back buffers same covers four
+    b is =
     subst (λ (i : Input). IsInStore (stored
-    (receives (packet_arrival (expected_of i) ack (room_for store (prio_of packet))) i).held store
+    (receives (packet_arrival (expected_of i) ack (room_for store (prio_of packet)) buffers) i).held
+    store
     packet)) (sym same)
     (expected_store output queued store ack packet kept_ahead kept_back
-    (room_for store (prio_of packet)) refl covers four
+    (room_for store (prio_of packet)) buffers refl covers four
     (subst (λ (i : Input). IsBetween output i queued (Packet ack packet ∷ kept_ahead) kept_back)
     same b) is)
 
 shut_store :
-    (same room : Bool) (store : Buffered) (input : Input) (packet : List ℕ)
+    (same room : Bool) (buffers : ℕ) (store : Buffered) (input : Input) (packet : List ℕ)
     → IsShut (receiver_of input)
     → stored (receives
-    (if same then (if room then ExpectedWithRoom else ExpectedWithoutRoom) else UnexpectedAck)
+    (if same then (if room then ExpectedWithRoom buffers else ExpectedWithoutRoom buffers)
+    else UnexpectedAck)
     input).held store packet ≡ store
-shut_store same room store (Input.Ok expected) packet shut = absurd shut
-shut_store true true store (Input.RetryStopped expected) packet shut = refl
-shut_store true false store (Input.RetryStopped expected) packet shut = refl
-shut_store false room store (Input.RetryStopped expected) packet shut = refl
-shut_store true true store (Input.ErrorStopped expected) packet shut = refl
-shut_store true false store (Input.ErrorStopped expected) packet shut = refl
-shut_store false room store (Input.ErrorStopped expected) packet shut = refl
+shut_store same room buffers store (Input.Ok expected) packet shut = absurd shut
+shut_store true true buffers store (Input.RetryStopped expected) packet shut = refl
+shut_store true false buffers store (Input.RetryStopped expected) packet shut = refl
+shut_store false room buffers store (Input.RetryStopped expected) packet shut = refl
+shut_store true true buffers store (Input.ErrorStopped expected) packet shut = refl
+shut_store true false buffers store (Input.ErrorStopped expected) packet shut = refl
+shut_store false room buffers store (Input.ErrorStopped expected) packet shut = refl
 
 dropped_store :
     (store : Buffered) (input : Input) (ack : ℕ) (packet : List ℕ) (room : Bool)
-    → expects input ack ≡ false
-    → stored (receives (packet_arrival (expected_of input) ack room) input).held store packet
+    (buffers : ℕ) → expects input ack ≡ false
+    → stored (receives (packet_arrival (expected_of input) ack room buffers) input).held store
+    packet
     ≡ store
-dropped_store store (Input.Ok expected) ack packet room other = rw other refl
-dropped_store store (Input.RetryStopped expected) ack packet room other =
-    shut_store (ack == expected) room store (Input.RetryStopped expected) packet tt
-dropped_store store (Input.ErrorStopped expected) ack packet room other =
-    shut_store (ack == expected) room store (Input.ErrorStopped expected) packet tt
+dropped_store store (Input.Ok expected) ack packet room buffers other = rw other refl
+dropped_store store (Input.RetryStopped expected) ack packet room buffers other =
+    shut_store (ack == expected) room buffers store (Input.RetryStopped expected) packet tt
+dropped_store store (Input.ErrorStopped expected) ack packet room buffers other =
+    shut_store (ack == expected) room buffers store (Input.ErrorStopped expected) packet tt
 
 pub turn_port : (a : PortState) → IsPort a → IsPort (turns_to a)
 turn_port a is =
-    let sends = turn_sends a.output a.queued (record {
+    let sends = turn_sends a.tells a.output a.queued (record {
       window_is = is.outstanding;
       covered = is.covered;
     }) in
@@ -192,10 +201,10 @@ read_port a received place store bounded is = record {
 
 pub acted_port :
     (a b : PortState) (kept_a kept_b : List Event) (e : Event) → IsPort a → IsPort b
-    → is_acted a e ≡ true → IsSound a b kept_a (e ∷ kept_b) → IsPort (acts a e).port
-acted_port a b kept_a kept_b (Ctl symbol) is far acted s =
+    → HasAck e → is_acted a e ≡ true → IsSound a b kept_a (e ∷ kept_b) → IsPort (acts a e).port
+acted_port a b kept_a kept_b (Ctl symbol) is far below acted s =
     let sends =
-    heard_sends (stype0 symbol.s0) symbol.p0 a.output b.input a.queued _ _ s.a_to_b (record {
+    symbol_sends symbol a.output b.input a.queued _ _ below s.a_to_b (record {
       window_is = is.outstanding;
       covered = is.covered;
     }) in
@@ -209,20 +218,17 @@ acted_port a b kept_a kept_b (Ctl symbol) is far acted s =
       receives = is.receives;
       bounded = is.bounded;
     }
-acted_port a b kept_a kept_b (Pkt ack packet) is far acted s = record {
+acted_port a b kept_a kept_b (Pkt ack packet) is far below acted s = record {
   outstanding = is.outstanding;
   covered = is.covered;
-  expected_ack =
-      expected_below
-      (packet_arrival (expected_of a.input) ack (room_for a.received (prio_of packet))) a.input
-      is.expected_ack;
+  expected_ack = expected_below _ a.input is.expected_ack;
   sends = is.sends;
   receives =
-      packet_store b.output b.queued a.received a.input ack packet _ _
+      packet_store b.output b.queued a.received a.input ack packet _ _ _
       (is_expected a.input ack acted) far.covered far.sends s.b_to_a is.receives;
   bounded = is.bounded;
 }
-acted_port a b kept_a kept_b (Bad cause) is far acted s = absurd cc
+acted_port a b kept_a kept_b (Bad cause) is far below acted s = absurd cc
 
 pub other_port : (a : PortState) (e : Event) → IsPort a → is_acted a e ≡ false
     → IsPort (acts a e).port
@@ -230,14 +236,11 @@ other_port a (Ctl symbol) is other = absurd cc
 other_port a (Pkt ack packet) is other = record {
   outstanding = is.outstanding;
   covered = is.covered;
-  expected_ack =
-      expected_below
-      (packet_arrival (expected_of a.input) ack (room_for a.received (prio_of packet))) a.input
-      is.expected_ack;
+  expected_ack = expected_below _ a.input is.expected_ack;
   sends = is.sends;
   receives =
       subst (λ (store : Buffered). IsInStore store) (sym (dropped_store a.received a.input ack
-      packet (room_for a.received (prio_of packet)) other)) is.receives;
+      packet (room_for a.received (prio_of packet)) _ other)) is.receives;
   bounded = is.bounded;
 }
 other_port a (Bad cause) is other = record {
@@ -272,9 +275,10 @@ none_within (suc (suc (suc zero))) few = omega arith
 none_within (suc (suc (suc (suc prio)))) few = absurd (omega arith)
 
 -- a new port
-pub new_is_port : (buffers : ℕ) → AreBuffers buffers → IsPort (new_port buffers)
-new_is_port buffers is = record {
-  outstanding = nothing_from 0 (omega arith);
+pub new_is_port : (tells : Bool) (buffers : ℕ) → AreBuffers buffers
+    → IsPort (new_port tells buffers)
+new_is_port tells buffers is = record {
+  outstanding = nothing_from 0 None (omega arith) tt;
   covered = covers_none no_packets;
   expected_ack = omega arith;
   sends = record { four = refl; sorted = none_sorted; packets = none_there; within = none_within };

@@ -1,5 +1,5 @@
 -- What soundness promises of a sender, and what is not sound.
-use Rattle.std.proofs.Common.{ap, ◌∙◌, [], ◌∷◌, drop, length-drop, ◌≡◌, ◌≢◌, ℕ, ◌≤◌, List, length, subst, arith, map}
+use Rattle.std.proofs.Common.{ap, ◌∙◌, [], ◌∷◌, drop, length-drop, ◌≡◌, ◌≢◌, ℕ, ◌≤◌, None, List, length, subst, arith, map}
 use Rattle.std.proofs.lemmas.Option.{slice_get_within}
 use Rattle.link_buffers.specs.Prelude.{no_packets, Covers}
 use Rattle.link_port.specs.Prelude.{Event, PortState, prios_of, expected_of}
@@ -55,7 +55,7 @@ none_lent_at_retry a b kept_a kept_b w is s =
 -- a new sender and a new receiver
 abbrev IsNew : List Forward → List Backward → Type 0
 IsNew kept_ahead kept_back =
-    IsBetween (Output.Ok (from_ack 0)) (Input.Ok 0) no_packets kept_ahead kept_back
+    IsBetween (Output.Ok (from_ack 0 None)) (Input.Ok 0) no_packets kept_ahead kept_back
 
 -- nothing was sent, so none is outstanding
 sent_none : (freed : ℕ) (sent : List (List ℕ)) → freed ≤ length sent → [] ≡ drop freed sent

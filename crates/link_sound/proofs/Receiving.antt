@@ -5,7 +5,6 @@ use Rattle.std.proofs.lemmas.List.{append-nil}
 use Rattle.link_model.specs.Prelude.{Input, Arrival, packet_arrival, symbol_arrival, receives, Damaged, Output}
 use Rattle.link_model.specs.Input.Arrival.{ExpectedWithRoom, ExpectedWithoutRoom, UnexpectedAck, RestartFromRetry, LinkRequest, OtherStype1}
 use Rattle.link_sound.specs.Marks.{Forward, Backward, Packet, Restart, Request, Other, Response, Neutral}
-use Rattle.link_sound.specs.Sender.{Sender}
 use Rattle.link_sound.specs.Receiver.{Receiver, IsShut}
 use Rattle.link_sound.specs.Direction.{IsDirection}
 use Rattle.link_sound.proofs.MoveLaws.{lost_front, other_sent}
@@ -160,13 +159,15 @@ next_expected expected held is = omega arith
 
 -- the packet that is expected comes
 pub expected_keeps :
-    (room : Bool) (ack : ℕ) (packet : List ℕ) (output : Output) (queued : List (List (List ℕ)))
+    (room : Bool) (buffers ack : ℕ) (packet : List ℕ) (output : Output)
+    (queued : List (List (List ℕ)))
     (kept_ahead : List Forward) (kept_back : List Backward)
     → IsBetween output (Input.Ok ack) queued (Packet ack packet ∷ kept_ahead) kept_back
-    → IsBetween output (receives (packet_arrival ack ack room) (Input.Ok ack)).state queued
+    → IsBetween output (receives (packet_arrival ack ack room buffers) (Input.Ok ack)).state queued
     kept_ahead
-    (kept_back ++ reply_backward (receives (packet_arrival ack ack room) (Input.Ok ack)).reply)
-expected_keeps true ack packet output queued kept_ahead kept_back b =
+    (kept_back ++ reply_backward (receives (packet_arrival ack ack room buffers)
+    (Input.Ok ack)).reply)
+expected_keeps true buffers ack packet output queued kept_ahead kept_back b =
     let does =
     packet_held (sender_of output) b.freed b.held ack b.sent packet kept_ahead kept_back
     b.expected b.is in
@@ -179,7 +180,7 @@ expected_keeps true ack packet output queued kept_ahead kept_back b =
       outstanding = b.outstanding;
       is = does.1;
     })
-expected_keeps false ack packet output queued kept_ahead kept_back b =
+expected_keeps false buffers ack packet output queued kept_ahead kept_back b =
     rw (eq-eqb ack ack refl) (record {
       sent = b.sent;
       freed = b.freed;
@@ -193,57 +194,67 @@ expected_keeps false ack packet output queued kept_ahead kept_back b =
     })
 
 dropped :
-    (same room : Bool) (output : Output) (input : Input) (queued : List (List (List ℕ)))
+    (same room : Bool) (buffers : ℕ) (output : Output) (input : Input)
+    (queued : List (List (List ℕ)))
     (kept_ahead : List Forward) (kept_back : List Backward)
     → IsBetween output input queued kept_ahead kept_back → IsShut (receiver_of input)
     → IsBetween output (receives
-    (if same then (if room then ExpectedWithRoom else ExpectedWithoutRoom) else UnexpectedAck)
+    (if same then (if room then ExpectedWithRoom buffers else ExpectedWithoutRoom buffers)
+    else UnexpectedAck)
     input).state queued kept_ahead
     (kept_back ++ reply_backward (receives
-    (if same then (if room then ExpectedWithRoom else ExpectedWithoutRoom) else UnexpectedAck)
+    (if same then (if room then ExpectedWithRoom buffers else ExpectedWithoutRoom buffers)
+    else UnexpectedAck)
     input).reply)
-dropped same room output (Input.Ok expected) queued kept_ahead kept_back b shut = absurd shut
-dropped true true output (Input.RetryStopped expected) queued kept_ahead kept_back b shut =
+dropped same room buffers output (Input.Ok expected) queued kept_ahead kept_back b shut = absurd
+    shut
+dropped true true buffers output (Input.RetryStopped expected) queued kept_ahead kept_back b shut =
     rw append-nil b
-dropped true false output (Input.RetryStopped expected) queued kept_ahead kept_back b shut =
+dropped true false buffers output (Input.RetryStopped expected) queued kept_ahead kept_back b shut =
     rw append-nil b
-dropped false room output (Input.RetryStopped expected) queued kept_ahead kept_back b shut =
+dropped false room buffers output (Input.RetryStopped expected) queued kept_ahead kept_back b shut =
     rw append-nil b
-dropped true true output (Input.ErrorStopped expected) queued kept_ahead kept_back b shut =
+dropped true true buffers output (Input.ErrorStopped expected) queued kept_ahead kept_back b shut =
     rw append-nil b
-dropped true false output (Input.ErrorStopped expected) queued kept_ahead kept_back b shut =
+dropped true false buffers output (Input.ErrorStopped expected) queued kept_ahead kept_back b shut =
     rw append-nil b
-dropped false room output (Input.ErrorStopped expected) queued kept_ahead kept_back b shut =
+dropped false room buffers output (Input.ErrorStopped expected) queued kept_ahead kept_back b shut =
     rw append-nil b
 
 -- a packet comes that is not expected, or while packets are dropped
 pub unexpected_keeps :
-    (room : Bool) (ack : ℕ) (output : Output) (input : Input) (queued : List (List (List ℕ)))
+    (room : Bool) (buffers ack : ℕ) (output : Output) (input : Input)
+    (queued : List (List (List ℕ)))
     (kept_ahead : List Forward) (kept_back : List Backward) → expects input ack ≡ false
     → IsBetween output input queued kept_ahead kept_back
-    → IsBetween output (receives (packet_arrival (expected_of input) ack room) input).state queued
+    → IsBetween output (receives (packet_arrival (expected_of input) ack room buffers) input).state
+    queued
     kept_ahead
     (kept_back
-    ++ reply_backward (receives (packet_arrival (expected_of input) ack room) input).reply)
-unexpected_keeps room ack output (Input.Ok expected) queued kept_ahead kept_back other b =
+    ++ reply_backward (receives (packet_arrival (expected_of input) ack room buffers) input).reply)
+unexpected_keeps room buffers ack output (Input.Ok expected) queued kept_ahead kept_back other b =
     rw other (error_keeps output (Input.Ok expected) queued kept_ahead kept_back b)
-unexpected_keeps room ack output (Input.RetryStopped expected) queued kept_ahead kept_back other b =
-    dropped (ack == expected) room output (Input.RetryStopped expected) queued kept_ahead kept_back
+unexpected_keeps room buffers ack output (Input.RetryStopped expected) queued kept_ahead kept_back
+    other b =
+    dropped (ack == expected) room buffers output (Input.RetryStopped expected) queued kept_ahead
+    kept_back
     b tt
-unexpected_keeps room ack output (Input.ErrorStopped expected) queued kept_ahead kept_back other b =
-    dropped (ack == expected) room output (Input.ErrorStopped expected) queued kept_ahead kept_back
+unexpected_keeps room buffers ack output (Input.ErrorStopped expected) queued kept_ahead kept_back
+    other b =
+    dropped (ack == expected) room buffers output (Input.ErrorStopped expected) queued kept_ahead
+    kept_back
     b tt
 
 -- a reply means nothing to the far receiver
 reply_is_other : (what : Arrival) (input : Input)
     → (reply_forward (receives what input).reply ≡ [])
     ⊎ (reply_forward (receives what input).reply ≡ Other ∷ [])
-reply_is_other ExpectedWithRoom (Input.Ok expected) = inr refl
-reply_is_other ExpectedWithRoom (Input.RetryStopped expected) = inl refl
-reply_is_other ExpectedWithRoom (Input.ErrorStopped expected) = inl refl
-reply_is_other ExpectedWithoutRoom (Input.Ok expected) = inr refl
-reply_is_other ExpectedWithoutRoom (Input.RetryStopped expected) = inl refl
-reply_is_other ExpectedWithoutRoom (Input.ErrorStopped expected) = inl refl
+reply_is_other (ExpectedWithRoom buffers) (Input.Ok expected) = inr refl
+reply_is_other (ExpectedWithRoom buffers) (Input.RetryStopped expected) = inl refl
+reply_is_other (ExpectedWithRoom buffers) (Input.ErrorStopped expected) = inl refl
+reply_is_other (ExpectedWithoutRoom buffers) (Input.Ok expected) = inr refl
+reply_is_other (ExpectedWithoutRoom buffers) (Input.RetryStopped expected) = inl refl
+reply_is_other (ExpectedWithoutRoom buffers) (Input.ErrorStopped expected) = inl refl
 reply_is_other UnexpectedAck (Input.Ok expected) = inr refl
 reply_is_other UnexpectedAck (Input.RetryStopped expected) = inl refl
 reply_is_other UnexpectedAck (Input.ErrorStopped expected) = inl refl

@@ -2,9 +2,9 @@
 use Rattle.std.proofs.Common.{◌≡◌, ℕ, Bool, true, false, Option, Some, None, List, [], ◌∷◌, ◌++◌, map, length, inl, refl, sym, ap, ◌∙◌, subst, arith, ◌<◌}
 use Rattle.std.proofs.lemmas.Bool.{eqb-true}
 use Rattle.std.proofs.lemmas.List.{map-append}
-use Rattle.link_model.specs.Prelude.{Fields, number_of, prio_of, Place, from_ack, Input, packet_arrival, symbol_arrival, receives, Damaged, times_out}
-use Rattle.link_buffers.specs.Prelude.{Buffered, room_for, appended, Covers}
-use Rattle.link_port.specs.Prelude.{Event, Ctl, Pkt, Bad, prios_of, expected_of, expects, PortState, acts, is_acted}
+use Rattle.link_model.specs.Prelude.{Fields, number_of, prio_of, Place, from_ack, Input, packet_arrival, symbol_arrival, receives, Damaged, times_out, hears_report}
+use Rattle.link_buffers.specs.Prelude.{Buffered, room_for, stored, appended, Covers}
+use Rattle.link_port.specs.Prelude.{Event, Ctl, Pkt, Bad, buffer_status, prios_of, expected_of, expects, PortState, acts, is_acted}
 use Rattle.link_buffers.proofs.PriorityLaws.{packets_of-appended}
 use Rattle.link_model.specs.Output as out
 use Rattle.link_model.specs.Output.{stype0}
@@ -17,8 +17,8 @@ use Rattle.link_port.specs.Turns as turn
 use Rattle.link_sound.specs.Meanings.{forward, backward, reply_forward, reply_backward, sender_of, receiver_of}
 use Rattle.link_sound.specs.Between.{IsBetween}
 use Rattle.link_sound.specs.Sound.{IsSound, reply_sent}
-use Rattle.link_sound.proofs.Turning.{own_turn, other_turn}
-use Rattle.link_sound.proofs.Hearing.{one_lost, heard_keeps}
+use Rattle.link_sound.proofs.Turning.{own_turn, other_turn, tell_ahead, tell_back}
+use Rattle.link_sound.proofs.Hearing.{one_lost, symbol_heard}
 use Rattle.link_sound.proofs.Receiving.{symbol_keeps, damaged_keeps, expected_keeps, unexpected_keeps, reply_keeps}
 
 -- the two ports in the other order
@@ -83,11 +83,25 @@ turn_keeps a b kept_a kept_b covers s = record {
   a_to_b =
       sent_ahead (turn.turn_of a).state b.input a.queued kept_a (turn.turn_sends a).sent
       (map backward kept_b)
-      (own_turn a.output b.input a.queued (expected_of a.input) (map forward kept_a)
+      (own_turn a.tells a.output b.input a.queued a (map forward kept_a)
       (map backward kept_b) covers s.a_to_b);
   b_to_a = sent_back b.output a.input b.queued (map forward kept_b) kept_a (turn.turn_sends a).sent
-      (other_turn b.output a.input b.queued (turn.turn_of a).sends (expected_of a.input)
+      (other_turn b.output a.input b.queued (turn.turn_of a).sends a
       (turn.waiting_in a) (map forward kept_b) (map backward kept_a) s.b_to_a);
+}
+
+-- a port tells its free buffers once more
+pub tell_keeps : (a b : PortState) (kept_a kept_b : List Event) → IsSound a b kept_a kept_b
+    → IsSound a b (kept_a ++ (turn.tell_sends a).sent) kept_b
+tell_keeps a b kept_a kept_b s = record {
+  a_to_b =
+      sent_ahead a.output b.input a.queued kept_a (turn.tell_sends a).sent (map backward kept_b)
+      (tell_ahead a.tells a a.output b.input a.queued (map forward kept_a)
+      (map backward kept_b) s.a_to_b);
+  b_to_a =
+      sent_back b.output a.input b.queued (map forward kept_b) kept_a (turn.tell_sends a).sent
+      (tell_back a.tells a b.output a.input b.queued (map forward kept_b)
+      (map backward kept_a) s.b_to_a);
 }
 
 -- a symbol that the far port sent
@@ -98,14 +112,14 @@ symbol_acted :
     kept_b
 symbol_acted a b kept_a kept_b symbol covers s =
     let what = symbol_arrival symbol.s1 symbol.cmd in
-    let out_half = out.hears (stype0 symbol.s0) a.output symbol.p0 in
+    let out_half = out.hears (stype0 symbol.s0) (hears_report symbol a.output) symbol.p0 in
     record {
       a_to_b =
           replied_ahead out_half.state b.input _ kept_a (receives what a.input).reply
           (map backward kept_b)
           (reply_keeps what a.input out_half.state b.input _ (map forward kept_a)
           (map backward kept_b)
-          (heard_keeps (stype0 symbol.s0) symbol.p0 a.output b.input a.queued (map forward kept_a)
+          (symbol_heard symbol a.output b.input a.queued (map forward kept_a)
           (map backward kept_b) covers s.a_to_b));
       b_to_a =
           replied_back b.output (receives what a.input).state b.queued (map forward kept_b) kept_a
@@ -120,20 +134,22 @@ is_expected (Input.RetryStopped expected) ack same = absurd cc
 is_expected (Input.ErrorStopped expected) ack same = absurd cc
 
 expected_there :
-    (input : Input) (room : Bool) (ack : ℕ) (packet : List ℕ) (output : out.Output)
+    (input : Input) (room : Bool) (buffers ack : ℕ) (packet : List ℕ) (output : out.Output)
     (queued : List (List (List ℕ))) (kept_ahead : List Forward) (kept_back : List Backward)
     → input ≡ Input.Ok ack
     → IsBetween output input queued (Packet ack packet ∷ kept_ahead) kept_back
-    → IsBetween output (receives (packet_arrival (expected_of input) ack room) input).state queued
+    → IsBetween output (receives (packet_arrival (expected_of input) ack room buffers) input).state
+    queued
     kept_ahead
     (kept_back
-    ++ reply_backward (receives (packet_arrival (expected_of input) ack room) input).reply)
-expected_there input room ack packet output queued kept_ahead kept_back same b =
+    ++ reply_backward (receives (packet_arrival (expected_of input) ack room buffers) input).reply)
+expected_there input room buffers ack packet output queued kept_ahead kept_back same b =
     subst (λ (i : Input). IsBetween output
-    (receives (packet_arrival (expected_of i) ack room) i).state queued kept_ahead
-    (kept_back ++ reply_backward (receives (packet_arrival (expected_of i) ack room) i).reply))
+    (receives (packet_arrival (expected_of i) ack room buffers) i).state queued kept_ahead
+    (kept_back ++ reply_backward (receives (packet_arrival (expected_of i) ack room buffers)
+    i).reply))
     (sym same)
-    (expected_keeps room ack packet output queued kept_ahead kept_back (subst
+    (expected_keeps room buffers ack packet output queued kept_ahead kept_back (subst
     (λ (i : Input). IsBetween output i queued (Packet ack packet ∷ kept_ahead) kept_back) same b))
 
 -- a packet that the far port sent
@@ -144,7 +160,8 @@ packet_acted :
     (kept_a ++ reply_sent (acts_packet a ack packet).reply) kept_b
 packet_acted a b kept_a kept_b ack packet same s =
     let room = room_for a.received (prio_of packet) in
-    let what = packet_arrival (expected_of a.input) ack room in
+    let buffers = buffer_status a.tells (stored room a.received packet) in
+    let what = packet_arrival (expected_of a.input) ack room buffers in
     record {
       a_to_b =
           replied_ahead a.output b.input a.queued kept_a (receives what a.input).reply
@@ -155,7 +172,7 @@ packet_acted a b kept_a kept_b ack packet same s =
       b_to_a =
           replied_back b.output (receives what a.input).state b.queued (map forward kept_b) kept_a
           (receives what a.input).reply
-          (expected_there a.input room ack packet b.output b.queued (map forward kept_b)
+          (expected_there a.input room buffers ack packet b.output b.queued (map forward kept_b)
           (map backward kept_a) (is_expected a.input ack same) s.b_to_a);
     }
 
@@ -177,7 +194,8 @@ pub other_keeps :
 other_keeps a b kept_a kept_b (Ctl symbol) other s = absurd cc
 other_keeps a b kept_a kept_b (Pkt ack packet) other s =
     let room = room_for a.received (prio_of packet) in
-    let what = packet_arrival (expected_of a.input) ack room in
+    let buffers = buffer_status a.tells (stored room a.received packet) in
+    let what = packet_arrival (expected_of a.input) ack room buffers in
     record {
       a_to_b =
           replied_ahead a.output b.input a.queued kept_a (receives what a.input).reply
@@ -187,7 +205,7 @@ other_keeps a b kept_a kept_b (Pkt ack packet) other s =
       b_to_a =
           replied_back b.output (receives what a.input).state b.queued (map forward kept_b) kept_a
           (receives what a.input).reply
-          (unexpected_keeps room ack b.output a.input b.queued (map forward kept_b)
+          (unexpected_keeps room buffers ack b.output a.input b.queued (map forward kept_b)
           (map backward kept_a) other s.b_to_a);
     }
 other_keeps a b kept_a kept_b (Bad cause) other s =
@@ -309,7 +327,8 @@ time_out_keeps a b kept_a kept_b s = record {
 
 -- two new ports, and nothing on its way
 pub begins : (output : out.Output) (input : Input) (queued : List (List (List ℕ)))
-    → output ≡ out.Output.Ok (from_ack 0) → input ≡ Input.Ok 0 → IsBetween output input queued [] []
+    → output ≡ out.Output.Ok (from_ack 0 None) → input ≡ Input.Ok 0
+    → IsBetween output input queued [] []
 begins output input queued first second = rw (first, second) (record {
   sent = [];
   freed = 0;

@@ -1,12 +1,13 @@
 -- What a turn does to the two directions of a link.
-use Rattle.std.proofs.Common.{◌≡◌, ℕ, zero, suc, ◌+◌, true, false, ◌%◌, ◌<◌, ◌≤◌, List, [], ◌∷◌, ◌++◌, length, take, drop, map, Option, Some, None, slice_get, inl, inr, refl, sym, ap, ◌∙◌, subst, arith, length-drop, append_assoc}
+use Rattle.std.proofs.Common.{◌≡◌, ℕ, zero, suc, ◌+◌, Bool, true, false, if◌then◌else◌, ◌%◌, ◌<◌, ◌≤◌, List, [], ◌∷◌, ◌++◌, length, take, drop, map, Option, Some, None, slice_get, inl, inr, refl, sym, ap, ◌∙◌, subst, arith, length-drop, append_assoc}
 use Rattle.std.proofs.lemmas.Bool.{cases_lt}
 use Rattle.std.proofs.lemmas.List.{append-nil, drop-append-le}
 use Rattle.link_buffers.specs.Prelude.{list_at, packets_of, lists_without, highest, Covers}
 use Rattle.link_buffers.proofs.PriorityLists.{slice_get-lists_without}
 use Rattle.link_buffers.proofs.PriorityLaws.{length-packets_of, packets_of-next, highest_below-some}
-use Rattle.link_model.specs.Prelude.{Input, Output, Sends, turns, Outstanding, window}
-use Rattle.link_model.specs.Output.{started, startable}
+use Rattle.link_model.specs.Prelude.{Input, Output, Sends, turns, Outstanding, window, status}
+use Rattle.link_model.specs.Output.{started, startable, credited, unstarted}
+use Rattle.link_model.specs.Reports.{has_credit}
 use Rattle.link_model.specs.Outstanding.{next_ack, with_next}
 use Rattle.link_model.proofs.WindowFacts.{startable-full, startable-open}
 use Rattle.link_sound.specs.Marks.{Forward, Backward, Packet, Other, Neutral}
@@ -15,7 +16,7 @@ use Rattle.link_sound.specs.Receiver.{Receiver}
 use Rattle.link_sound.specs.Direction.{IsDirection}
 use Rattle.link_sound.proofs.MoveLaws.{other_sent, neutral_sent}
 use Rattle.link_sound.proofs.TurnMoves.{packet_started, restarted, requested}
-use Rattle.link_port.specs.Prelude.{prios_of, burst_of, packet_burst}
+use Rattle.link_port.specs.Prelude.{PortState, standing, prios_of, burst_of, packet_burst, symbol_burst, no_burst}
 use Rattle.link_sound.specs.Meanings.{forward, backward, sender_of, receiver_of}
 use Rattle.link_sound.specs.Between.{IsBetween}
 
@@ -59,16 +60,69 @@ first_there : (packets : List (List ℕ)) → 0 < length packets
 first_there [] some = absurd (omega arith)
 first_there (packet ∷ packets) some = (packet, refl)
 
+-- something that means nothing for the direction goes ahead
+pub other_ahead :
+    (output : Output) (input : Input) (queued : List (List (List ℕ))) (kept_ahead : List Forward)
+    (kept_back : List Backward)
+    → IsBetween output input queued kept_ahead kept_back
+    → IsBetween output input queued (kept_ahead ++ Other ∷ []) kept_back
+other_ahead output input queued kept_ahead kept_back b = record {
+  sent = b.sent;
+  freed = b.freed;
+  held = b.held;
+  oldest = b.oldest;
+  expected = b.expected;
+  outstanding = b.outstanding;
+  is =
+      other_sent (sender_of output) (receiver_of input) b.freed b.held b.sent kept_ahead kept_back
+      b.is;
+}
+
+-- a status of a port that tells its free buffers
+pub tell_ahead :
+    (tells : Bool) (p : PortState) (output : Output) (input : Input)
+    (queued : List (List (List ℕ))) (kept_ahead : List Forward) (kept_back : List Backward)
+    → IsBetween output input queued kept_ahead kept_back
+    → IsBetween output input queued (kept_ahead ++ map forward
+    (if tells then symbol_burst (status (standing p).expected (standing p).buffers)
+    else no_burst).sent) kept_back
+tell_ahead true p output input queued kept_ahead kept_back b =
+    other_ahead output input queued kept_ahead kept_back b
+tell_ahead false p output input queued kept_ahead kept_back b = rw append-nil b
+
+-- no packet starts
+unstarted_is :
+    (tells : Bool) (w : Outstanding) (input : Input) (queued waiting : List (List (List ℕ)))
+    (p : PortState) (kept_ahead : List Forward) (kept_back : List Backward)
+    → IsBetween (Output.Ok w) input queued kept_ahead kept_back
+    → IsBetween (Output.Ok w) input queued
+    (kept_ahead ++ map forward (burst_of (unstarted tells) (standing p) waiting).sent) kept_back
+unstarted_is true w input queued waiting p kept_ahead kept_back b =
+    other_ahead (Output.Ok w) input queued kept_ahead kept_back b
+unstarted_is false w input queued waiting p kept_ahead kept_back b = rw append-nil b
+
+-- what there is credit for is what waits
+credit_some : (credit : Bool) (waiting prio : ℕ)
+    → (if credit then Some waiting else None) ≡ Some prio → Some waiting ≡ Some prio
+credit_some true waiting prio is = is
+credit_some false waiting prio is = absurd cc
+
+pub credited_some : (w : Outstanding) (waiting : Option ℕ) (prio : ℕ)
+    → credited w waiting ≡ Some prio → waiting ≡ Some prio
+credited_some w None prio is = is
+credited_some w (Some first) prio is =
+    credit_some (has_credit w.report (next_ack w) first) first prio is
+
 -- a packet starts
 turn_started :
-    (w : Outstanding) (input : Input) (queued : List (List (List ℕ))) (expected : ℕ)
+    (w : Outstanding) (input : Input) (queued : List (List (List ℕ))) (p : PortState)
     (kept_ahead : List Forward) (kept_back : List Backward) (prio : ℕ) → Covers w.prios queued
     → length w.prios < window → highest (lists_without w.prios queued) ≡ Some prio
     → IsBetween (Output.Ok w) input queued kept_ahead kept_back
     → IsBetween (Output.Ok (with_next w prio)) input queued (kept_ahead
-    ++ map forward (packet_burst expected (next_ack w)
+    ++ map forward (packet_burst (standing p) (next_ack w)
     (slice_get (list_at (lists_without w.prios queued) prio) 0)).sent) kept_back
-turn_started w input queued expected kept_ahead kept_back prio covers room waits b =
+turn_started w input queued p kept_ahead kept_back prio covers room waits b =
     let there =
     first_there (list_at (lists_without w.prios queued) prio)
     (highest_below-some 4 prio (lists_without w.prios queued) waits).1 in
@@ -99,32 +153,37 @@ turn_started w input queued expected kept_ahead kept_back prio covers room waits
     })
 
 started_is :
-    (w : Outstanding) (input : Input) (queued : List (List (List ℕ))) (expected : ℕ)
-    (kept_ahead : List Forward) (kept_back : List Backward) (waiting : Option ℕ)
-    → Covers w.prios queued
-    → length w.prios < window → highest (lists_without w.prios queued) ≡ waiting
+    (tells : Bool) (w : Outstanding) (input : Input) (queued : List (List (List ℕ))) (p : PortState)
+    (kept_ahead : List Forward) (kept_back : List Backward) (starts : Option ℕ)
+    → Covers w.prios queued → length w.prios < window
+    → ((prio : ℕ) → starts ≡ Some prio → highest (lists_without w.prios queued) ≡ Some prio)
     → IsBetween (Output.Ok w) input queued kept_ahead kept_back
-    → IsBetween (started w waiting).state input queued (kept_ahead
+    → IsBetween (started tells w starts).state input queued (kept_ahead
     ++ map forward
-    (burst_of (started w waiting).sends expected (lists_without w.prios queued)).sent) kept_back
-started_is w input queued expected kept_ahead kept_back None covers room waits b = rw append-nil b
-started_is w input queued expected kept_ahead kept_back (Some prio) covers room waits b =
-    turn_started w input queued expected kept_ahead kept_back prio covers room waits b
+    (burst_of (started tells w starts).sends (standing p) (lists_without w.prios queued)).sent)
+    kept_back
+started_is tells w input queued p kept_ahead kept_back None covers room waits b =
+    unstarted_is tells w input queued (lists_without w.prios queued) p kept_ahead kept_back b
+started_is tells w input queued p kept_ahead kept_back (Some prio) covers room waits b =
+    turn_started w input queued p kept_ahead kept_back prio covers room (waits prio refl) b
 
 ok_is :
-    (w : Outstanding) (input : Input) (queued : List (List (List ℕ))) (expected : ℕ)
+    (tells : Bool) (w : Outstanding) (input : Input) (queued : List (List (List ℕ))) (p : PortState)
     (kept_ahead : List Forward) (kept_back : List Backward) (waiting : Option ℕ)
     → Covers w.prios queued
     → highest (lists_without w.prios queued) ≡ waiting
     → IsBetween (Output.Ok w) input queued kept_ahead kept_back
-    → IsBetween (started w (startable w waiting)).state input queued (kept_ahead
-    ++ map forward (burst_of (started w (startable w waiting)).sends expected
+    → IsBetween (started tells w (startable w waiting)).state input queued (kept_ahead
+    ++ map forward (burst_of (started tells w (startable w waiting)).sends (standing p)
     (lists_without w.prios queued)).sent) kept_back
-ok_is w input queued expected kept_ahead kept_back waiting covers waits b =
+ok_is tells w input queued p kept_ahead kept_back waiting covers waits b =
     elim (cases_lt (length w.prios) window) [
       | inl few ↦ rw (startable-open w waiting few)
-          (started_is w input queued expected kept_ahead kept_back waiting covers few waits b)
-      | inr full ↦ rw (startable-full w waiting full) (rw append-nil b)
+          (started_is tells w input queued p kept_ahead kept_back (credited w waiting) covers few
+          (λ prio is. waits ∙ credited_some w waiting prio is) b)
+      | inr full ↦ rw (startable-full w waiting full)
+          (unstarted_is tells w input queued (lists_without w.prios queued) p kept_ahead kept_back
+          b)
     ]
 
 pub drop_taken : (count : ℕ) (packets : List (List ℕ)) → drop count (take count packets) ≡ []
@@ -134,17 +193,19 @@ drop_taken (suc count) (packet ∷ packets) = drop_taken count packets
 
 -- the direction of the port that takes its turn
 pub own_turn :
-    (output : Output) (input : Input) (queued : List (List (List ℕ))) (expected : ℕ)
+    (tells : Bool) (output : Output) (input : Input) (queued : List (List (List ℕ)))
+    (p : PortState)
     (kept_ahead : List Forward) (kept_back : List Backward) → Covers (prios_of output) queued
     → IsBetween output input queued kept_ahead kept_back
-    → IsBetween (turns output (highest (lists_without (prios_of output) queued))).state input queued
+    → IsBetween (turns tells output (highest (lists_without (prios_of output) queued))).state input
+    queued
     (kept_ahead ++ map forward (burst_of
-    (turns output (highest (lists_without (prios_of output) queued))).sends expected
+    (turns tells output (highest (lists_without (prios_of output) queued))).sends (standing p)
     (lists_without (prios_of output) queued)).sent) kept_back
-own_turn (Output.Ok w) input queued expected kept_ahead kept_back covers b =
-    ok_is w input queued expected kept_ahead kept_back (highest (lists_without w.prios queued))
+own_turn tells (Output.Ok w) input queued p kept_ahead kept_back covers b =
+    ok_is tells w input queued p kept_ahead kept_back (highest (lists_without w.prios queued))
     covers refl b
-own_turn (Output.RetryStopped w) input queued expected kept_ahead kept_back covers b = record {
+own_turn tells (Output.RetryStopped w) input queued p kept_ahead kept_back covers b = record {
   sent = take b.freed b.sent;
   freed = b.freed;
   held = b.held;
@@ -153,7 +214,7 @@ own_turn (Output.RetryStopped w) input queued expected kept_ahead kept_back cove
   outstanding = sym (drop_taken b.freed b.sent);
   is = restarted (receiver_of input) b.freed b.held b.sent kept_ahead kept_back b.is;
 }
-own_turn (Output.ErrorStopped false w) input queued expected kept_ahead kept_back covers b =
+own_turn tells (Output.ErrorStopped false w) input queued p kept_ahead kept_back covers b =
     record {
       sent = b.sent;
       freed = b.freed;
@@ -163,9 +224,9 @@ own_turn (Output.ErrorStopped false w) input queued expected kept_ahead kept_bac
       outstanding = b.outstanding;
       is = requested (receiver_of input) b.freed b.held b.sent kept_ahead kept_back b.is;
     }
-own_turn (Output.ErrorStopped true w) input queued expected kept_ahead kept_back covers b =
+own_turn tells (Output.ErrorStopped true w) input queued p kept_ahead kept_back covers b =
     rw append-nil b
-own_turn Output.Failed input queued expected kept_ahead kept_back covers b = rw append-nil b
+own_turn tells Output.Failed input queued p kept_ahead kept_back covers b = rw append-nil b
 
 -- something that means nothing for the direction comes on the way back
 pub neutral_back :
@@ -186,13 +247,13 @@ neutral_back output input queued kept_ahead kept_back b = record {
 }
 
 packet_back :
-    (output : Output) (input : Input) (queued : List (List (List ℕ))) (expected ack : ℕ)
+    (output : Output) (input : Input) (queued : List (List (List ℕ))) (p : PortState) (ack : ℕ)
     (packet : Option (List ℕ)) (kept_ahead : List Forward) (kept_back : List Backward)
     → IsBetween output input queued kept_ahead kept_back
     → IsBetween output input queued kept_ahead
-    (kept_back ++ map backward (packet_burst expected ack packet).sent)
-packet_back output input queued expected ack None kept_ahead kept_back b = rw append-nil b
-packet_back output input queued expected ack (Some packet) kept_ahead kept_back b =
+    (kept_back ++ map backward (packet_burst (standing p) ack packet).sent)
+packet_back output input queued p ack None kept_ahead kept_back b = rw append-nil b
+packet_back output input queued p ack (Some packet) kept_ahead kept_back b =
     let one = kept_back ++ Neutral ∷ [] in
     let two = one ++ Neutral ∷ [] in
     subst (λ (bs : List Backward). IsBetween output input queued kept_ahead bs) (append_assoc one
@@ -202,17 +263,32 @@ packet_back output input queued expected ack (Some packet) kept_ahead kept_back 
 
 -- the other direction, whose receiver's port takes its turn
 pub other_turn :
-    (output : Output) (input : Input) (queued : List (List (List ℕ))) (sends : Sends) (expected : ℕ)
+    (output : Output) (input : Input) (queued : List (List (List ℕ))) (sends : Sends)
+    (p : PortState)
     (waiting : List (List (List ℕ))) (kept_ahead : List Forward) (kept_back : List Backward)
     → IsBetween output input queued kept_ahead kept_back
     → IsBetween output input queued kept_ahead
-    (kept_back ++ map backward (burst_of sends expected waiting).sent)
-other_turn output input queued (Sends.Packet ack prio) expected waiting kept_ahead kept_back b =
-    packet_back output input queued expected ack (slice_get (list_at waiting prio) 0) kept_ahead
+    (kept_back ++ map backward (burst_of sends (standing p) waiting).sent)
+other_turn output input queued (Sends.Packet ack prio) p waiting kept_ahead kept_back b =
+    packet_back output input queued p ack (slice_get (list_at waiting prio) 0) kept_ahead
     kept_back b
-other_turn output input queued Sends.Restart expected waiting kept_ahead kept_back b =
+other_turn output input queued Sends.Restart p waiting kept_ahead kept_back b =
     neutral_back output input queued kept_ahead kept_back b
-other_turn output input queued Sends.Request expected waiting kept_ahead kept_back b =
+other_turn output input queued Sends.Request p waiting kept_ahead kept_back b =
     neutral_back output input queued kept_ahead kept_back b
-other_turn output input queued Sends.Nothing expected waiting kept_ahead kept_back b =
+other_turn output input queued Sends.Status p waiting kept_ahead kept_back b =
+    neutral_back output input queued kept_ahead kept_back b
+other_turn output input queued Sends.Nothing p waiting kept_ahead kept_back b =
     rw append-nil b
+
+-- it tells its free buffers
+pub tell_back :
+    (tells : Bool) (p : PortState) (output : Output) (input : Input)
+    (queued : List (List (List ℕ))) (kept_ahead : List Forward) (kept_back : List Backward)
+    → IsBetween output input queued kept_ahead kept_back
+    → IsBetween output input queued kept_ahead (kept_back ++ map backward
+    (if tells then symbol_burst (status (standing p).expected (standing p).buffers)
+    else no_burst).sent)
+tell_back true p output input queued kept_ahead kept_back b =
+    neutral_back output input queued kept_ahead kept_back b
+tell_back false p output input queued kept_ahead kept_back b = rw append-nil b

@@ -1,5 +1,5 @@
 -- A packet's way between two ports, step by step.
-use Rattle.std.proofs.Common.{◌≡◌, ℕ, true, List, [], ◌∷◌, refl, subst, arith}
+use Rattle.std.proofs.Common.{◌≡◌, ℕ, true, false, None, List, [], ◌∷◌, refl, subst, arith}
 use Rattle.link_model.specs.Prelude.{Passes, start, start_of_packet, end_of_packet, packet_accepted, Outstanding, from_ack, window}
 use Rattle.rio_packets.specs.Carries.{passes}
 use Rattle.rio_packets.specs.Register.{shifted, shifted_times, fed}
@@ -17,16 +17,17 @@ abbrev one : List (List (List ℕ))
 one = (packet ∷ []) ∷ [] ∷ [] ∷ [] ∷ []
 
 abbrev sent_one : Outstanding
-sent_one = record { oldest = 0; prios = 0 ∷ [] }
+sent_one = record { oldest = 0; prios = 0 ∷ []; report = None }
 
 -- the near port with the packet put, and with it sent
 abbrev near_put : PortState
 near_put = record {
   place = start;
-  output = out.Output.Ok (from_ack 0);
+  output = out.Output.Ok (from_ack 0 None);
   input = in_half.Input.Ok 0;
   queued = one;
   received = record { lists = no_packets; buffers = 4 };
+  tells = false;
 }
 
 abbrev near_sent : PortState
@@ -36,20 +37,21 @@ near_sent = record {
   input = in_half.Input.Ok 0;
   queued = one;
   received = record { lists = no_packets; buffers = 4 };
+  tells = false;
 }
 
 -- what is sent for it, and what comes back
 abbrev start_sent : Event
-start_sent = Ctl (start_of_packet 0)
+start_sent = Ctl (start_of_packet 0 31)
 
 abbrev packet_sent : Event
 packet_sent = Pkt 0 packet
 
 abbrev end_sent : Event
-end_sent = Ctl (end_of_packet 0)
+end_sent = Ctl (end_of_packet 0 31)
 
 abbrev accepted : Event
-accepted = Ctl (packet_accepted 0)
+accepted = Ctl (packet_accepted 0 31)
 
 -- a turn of the near port
 turns : turns_to near_put ≡ near_sent
@@ -62,7 +64,7 @@ sends = refl
 
 -- the link after each step
 abbrev new_one : Link
-new_one = new_link 4 4
+new_one = new_link false false 4 4
 
 abbrev put_one : Link
 put_one = after_put new_one packet
@@ -70,7 +72,7 @@ put_one = after_put new_one packet
 abbrev sent_link : Link
 sent_link = record {
   a = near_sent;
-  b = new_port 4;
+  b = new_port false 4;
   kept_a = start_sent ∷ packet_sent ∷ end_sent ∷ [];
   kept_b = [];
   of_a = record { put = packet ∷ []; held = []; freed = [] };
@@ -80,7 +82,7 @@ sent_link = record {
 turned_is : after_turn put_one ≡ sent_link
 turned_is = λ i. record {
   a = turns i;
-  b = new_port 4;
+  b = new_port false 4;
   kept_a = sends i;
   kept_b = [];
   of_a = record { put = packet ∷ []; held = []; freed = [] };

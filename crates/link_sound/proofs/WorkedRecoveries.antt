@@ -1,5 +1,5 @@
 -- A history with a retry, and one with a recovery past ackID 31, played.
-use Rattle.std.proofs.Common.{◌≡◌, ℕ, zero, suc, true, List, [], ◌∷◌, ◌++◌, refl}
+use Rattle.std.proofs.Common.{◌≡◌, ℕ, zero, suc, true, false, None, List, [], ◌∷◌, ◌++◌, refl}
 use Rattle.link_buffers.specs.Priorities.{highest_below}
 use Rattle.link_model.specs.Output as out
 use Rattle.link_model.specs.Prelude.{from_ack, window}
@@ -31,18 +31,22 @@ after_retry =
     First TakesTurn ∷ Second Hears ∷ Second Empties ∷ First TakesTurn ∷ reaches ++ First Hears ∷ []
 
 abbrev pub stopped : Link
-stopped = played until_retry (new_link 4 4)
+stopped = played until_retry (new_link false false 4 4)
 
 abbrev pub retried : Link
 retried = played after_retry stopped
 
-pub retry_comes : IsHistory (new_link 4 4) stopped
-retry_comes = is_history until_retry (new_link 4 4)
+pub retry_comes : IsHistory (new_link false false 4 4) stopped
+retry_comes = is_history until_retry (new_link false false 4 4)
 
 pub retry_ends : IsHistory stopped retried
 retry_ends = is_history after_retry stopped
 
-pub is_stopped : stopped.a.output ≡ out.Output.RetryStopped (record { oldest = 1; prios = 0 ∷ [] })
+pub is_stopped : stopped.a.output ≡ out.Output.RetryStopped (record {
+  oldest = 1;
+  prios = 0 ∷ [];
+  report = None;
+})
 unfolding highest_below window played
 is_stopped = refl
 
@@ -65,13 +69,13 @@ after_asking =
     ∷ reaches ++ Second Empties ∷ reaches ++ First Hears ∷ First Hears ∷ []
 
 abbrev pub asked : Link
-asked = played until_asked (new_link 4 4)
+asked = played until_asked (new_link false false 4 4)
 
 abbrev pub recovered : Link
 recovered = played after_asking asked
 
-pub recovery_comes : IsHistory (new_link 4 4) asked
-recovery_comes = is_history until_asked (new_link 4 4)
+pub recovery_comes : IsHistory (new_link false false 4 4) asked
+recovery_comes = is_history until_asked (new_link false false 4 4)
 
 pub recovery_ends : IsHistory asked recovered
 recovery_ends = is_history after_asking asked
@@ -79,11 +83,12 @@ recovery_ends = is_history after_asking asked
 pub is_asked : asked.a.output ≡ out.Output.ErrorStopped true (record {
   oldest = 31;
   prios = 0 ∷ 0 ∷ [];
+  report = None;
 })
 unfolding highest_below window played
 is_asked = refl
 
-pub is_recovered : recovered.a.output ≡ out.Output.Ok (from_ack 1)
+pub is_recovered : recovered.a.output ≡ out.Output.Ok (from_ack 1 None)
 unfolding highest_below window played
 is_recovered = refl
 

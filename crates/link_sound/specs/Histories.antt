@@ -1,8 +1,8 @@
 -- Whole histories of two ports of a link, whatever is lost between them.
-use Rattle.std.specs.Prelude.{◌≡◌, ℕ, ◌<◌, ◌≤◌, length, true, false, List, [], ◌∷◌, ◌++◌, option_to_list}
+use Rattle.std.specs.Prelude.{◌≡◌, ℕ, ◌<◌, ◌≤◌, length, Bool, true, false, List, [], ◌∷◌, ◌++◌, option_to_list}
 use Rattle.link_model.specs.Prelude.{prio_of, Passes, Place, IsBounded}
 use Rattle.link_buffers.specs.Queues.{Buffered, list_at, appended, of_prio, IsInStore}
-use Rattle.link_port.specs.Prelude.{Event, PortState, new_port, acts, is_acted, turns_to, turn_sends, timed_out}
+use Rattle.link_port.specs.Prelude.{Event, PortState, new_port, acts, is_acted, turns_to, turn_sends, tell_sends, timed_out}
 use Rattle.link_sound.specs.Lent.{lent, waiting}
 use Rattle.link_sound.specs.Sound.{reply_sent}
 
@@ -29,12 +29,12 @@ no_journeys = record { put = []; held = []; freed = [] }
 abbrev pub AreBuffers : ℕ → Type 0
 AreBuffers n = (4 ≤ n) × (n ≤ 30)
 
--- two new ports
-abbrev pub new_link : ℕ → ℕ → Link
-new_link m n =
+-- two new ports, of which each tells its free buffers or does not
+abbrev pub new_link : (tells_a tells_b : Bool) (m n : ℕ) → Link
+new_link tells_a tells_b m n =
     record {
-      a = new_port m;
-      b = new_port n;
+      a = new_port tells_a m;
+      b = new_port tells_b n;
       kept_a = [];
       kept_b = [];
       of_a = no_journeys;
@@ -49,6 +49,10 @@ turned_round l =
 -- the first port takes a turn
 abbrev pub after_turn : Link → Link
 after_turn l = record l { a = turns_to l.a; kept_a = l.kept_a ++ (turn_sends l.a).sent }
+
+-- the first port tells its free buffers, if it does
+abbrev pub after_telling : Link → Link
+after_telling l = record l { kept_a = l.kept_a ++ (tell_sends l.a).sent }
 
 -- an event comes to the first port, and this is left of what the other has sent
 abbrev pub after_event : Link → Event → List Event → Link
@@ -75,6 +79,7 @@ after_put l packet = record l {
 -- what may happen at the first port
 pub data IsStep : Link → Link → Type 0 where
   Turns : (l : Link) → IsStep l (after_turn l)
+  Tells : (l : Link) → IsStep l (after_telling l)
   -- an event that the other port sent; what it sent before it is lost already
   Acts : (l : Link) (e : Event) (rest : List Event) → l.kept_b ≡ e ∷ rest → is_acted l.a e ≡ true
       → IsStep l (after_event l e rest)

@@ -6,6 +6,9 @@ pub mod Direction
 pub mod Meanings
 pub mod Between
 pub mod Sound
+pub mod Told
+pub mod Credits
 pub mod Lent
 pub mod Histories
+pub mod InTime
 pub mod Worked

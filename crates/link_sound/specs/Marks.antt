@@ -25,6 +25,12 @@ pub data Backward : Type 0 where
   -- on its way
   Neutral : Backward
 
+abbrev pub is_packet : Forward → Bool
+is_packet (Packet ack packet) = true
+is_packet Restart = false
+is_packet Request = false
+is_packet Other = false
+
 abbrev pub is_restart : Forward → Bool
 is_restart (Packet ack packet) = false
 is_restart Restart = true

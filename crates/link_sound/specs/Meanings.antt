@@ -11,8 +11,8 @@ use Rattle.link_sound.specs.Sender.{Sender}
 use Rattle.link_sound.specs.Receiver.{Receiver}
 
 abbrev pub asks : in_half.Arrival → Forward
-asks in_half.Arrival.ExpectedWithRoom = Other
-asks in_half.Arrival.ExpectedWithoutRoom = Other
+asks (in_half.Arrival.ExpectedWithRoom buffers) = Other
+asks (in_half.Arrival.ExpectedWithoutRoom buffers) = Other
 asks in_half.Arrival.UnexpectedAck = Other
 asks (in_half.Arrival.Damaged cause) = Other
 asks in_half.Arrival.RestartFromRetry = Restart

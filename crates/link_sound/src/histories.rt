@@ -1,6 +1,6 @@
 //! Whole histories of two ports of a link.
 
-ghost use Rattle.std.specs.Prelude.{◌≡◌, ◌≢◌, ℕ, true, [], ◌∷◌};
+ghost use Rattle.std.specs.Prelude.{◌≡◌, ◌≢◌, ℕ, Bool, true, false, None, [], ◌∷◌};
 ghost use Rattle.link_model.specs.Output as out;
 ghost use Rattle.link_model.specs.Outstanding.{from_ack};
 ghost use Rattle.link_port.specs.Ports.{IsPort};
@@ -15,28 +15,32 @@ ghost use Rattle.link_sound.specs.Worked.{arrived, arrivals};
 /// wait; and those held are the packets that the first has freed, in order, and then those lent. So
 /// no packet is held twice, none is lost, and none is freed before it is held.
 pub fn every_history_carries_packets()
-    ensures carried { (m n : ℕ) (l : Link) → AreBuffers m → AreBuffers n
-        → IsHistory (new_link m n) l
+    ensures carried { (tells_a tells_b : Bool) (m n : ℕ) (l : Link)
+        → AreBuffers m → AreBuffers n → IsHistory (new_link tells_a tells_b m n) l
         → AreCarried l.of_a l.a l.b × AreCarried l.of_b l.b l.a }
-    ensures sound { (m n : ℕ) (l : Link) → AreBuffers m → AreBuffers n → IsHistory (new_link m n) l
+    ensures sound { (tells_a tells_b : Bool) (m n : ℕ) (l : Link)
+        → AreBuffers m → AreBuffers n → IsHistory (new_link tells_a tells_b m n) l
         → IsSound l.a l.b l.kept_a l.kept_b }
-    ensures ports { (m n : ℕ) (l : Link) → AreBuffers m → AreBuffers n → IsHistory (new_link m n) l
+    ensures ports { (tells_a tells_b : Bool) (m n : ℕ) (l : Link)
+        → AreBuffers m → AreBuffers n → IsHistory (new_link tells_a tells_b m n) l
         → IsPort l.a × IsPort l.b }
-    ensures failed { (m n : ℕ) (l : Link) → AreBuffers m → AreBuffers n → IsHistory (new_link m n) l
+    ensures failed { (tells_a tells_b : Bool) (m n : ℕ) (l : Link)
+        → AreBuffers m → AreBuffers n → IsHistory (new_link tells_a tells_b m n) l
         → (l.a.output ≢ out.Output.Failed) × (l.b.output ≢ out.Output.Failed) }
 {}
 
 /// A history of two new ports, so that the law above is not empty: a packet is put at the one, sent
 /// between its two symbols, held by the other and accepted, and freed.
 pub fn worked_history()
-    ensures { (end : Link) × IsHistory (new_link 4 4) end × (end.of_a ≡ arrived) }
+    ensures { (end : Link) × IsHistory (new_link false false 4 4) end × (end.of_a ≡ arrived) }
 {}
 
 /// A history with a retry. The second of two packets finds no buffer and is asked for again: it is
 /// sent again after a restart-from-retry, held and freed.
 pub fn worked_retry()
-    ensures { (stopped end : Link) × IsHistory (new_link 4 4) stopped
-        × (stopped.a.output ≡ out.Output.RetryStopped (record { oldest = 1; prios = 0 ∷ [] }))
+    ensures { (stopped end : Link) × IsHistory (new_link false false 4 4) stopped
+        × (stopped.a.output
+        ≡ out.Output.RetryStopped (record { oldest = 1; prios = 0 ∷ []; report = None }))
         × IsHistory stopped end × (end.of_a ≡ arrivals 2) }
 {}
 
@@ -44,9 +48,9 @@ pub fn worked_retry()
 /// corrupted: after a link-request and its link-response both are sent again, held and freed, as
 /// the 31 packets before them.
 pub fn worked_recovery()
-    ensures { (asked end : Link) × IsHistory (new_link 4 4) asked
+    ensures { (asked end : Link) × IsHistory (new_link false false 4 4) asked
         × (asked.a.output
-        ≡ out.Output.ErrorStopped true (record { oldest = 31; prios = 0 ∷ 0 ∷ [] }))
-        × IsHistory asked end × (end.a.output ≡ out.Output.Ok (from_ack 1))
+        ≡ out.Output.ErrorStopped true (record { oldest = 31; prios = 0 ∷ 0 ∷ []; report = None }))
+        × IsHistory asked end × (end.a.output ≡ out.Output.Ok (from_ack 1 None))
         × (end.of_a ≡ arrivals 33) }
 {}

@@ -8,6 +8,9 @@
 //!   them;
 //! - `Between`: the direction from one port's output half to the other's input half;
 //! - `Sound`: `IsSound`, which is both directions;
+//! - `Told`: what a port has told of its free buffers;
+//! - `Credits` and `InTime`: that it has told of none that is not there, and that the packets of a
+//!   sender that was told in time find room;
 //! - `Lent`: which of the packets to be sent the far port holds, and what becomes of them where one
 //!   is held or freed;
 //! - `Histories`: what may happen at either port, one thing after another, and what became of the
@@ -22,13 +25,17 @@
 //! Left out: wires and the characters on them, which events are lost, and when a time-out fires.
 #![tactic(auto)]
 
+mod credits;
 mod histories;
 mod laws;
 mod queues;
 
+pub use credits::{
+    each_step_keeps_what_was_told, told_in_time_means_no_retry, what_was_told_stays_true,
+};
 pub use histories::{every_history_carries_packets, worked_history, worked_recovery, worked_retry};
 pub use laws::{
-    events_may_be_lost, links_begin_sound, no_sender_fails, steps_keep_it,
+    events_may_be_lost, links_begin_sound, no_sender_fails, only_telling_ports_tell, steps_keep_it,
     the_layer_above_keeps_it, what_is_not_sound,
 };
 pub use queues::{

@@ -1,8 +1,11 @@
-use Rattle.link_sound.proofs.Steps.{turn_keeps, acted_keeps, other_keeps, time_out_keeps}
+use Rattle.link_sound.proofs.Steps.{turn_keeps, tell_keeps, acted_keeps, other_keeps, time_out_keeps}
 use Rattle.link_sound.proofs.laws.steps_keep_it.Goals as goal
 
 pub returns-clause-turn : goal.returns-clause-turn
 returns-clause-turn c = turn_keeps
+
+pub returns-clause-tell : goal.returns-clause-tell
+returns-clause-tell c = tell_keeps
 
 pub returns-clause-acted : goal.returns-clause-acted
 returns-clause-acted c = acted_keeps

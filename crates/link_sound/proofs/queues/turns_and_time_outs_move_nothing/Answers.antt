@@ -8,7 +8,7 @@ use Rattle.link_sound.proofs.queues.turns_and_time_outs_move_nothing.Goals as go
 pub returns-clause-turn : goal.returns-clause-turn
 returns-clause-turn c a b kept_a kept_b covers s =
     let stays =
-    turn_stays a.output (highest (waiting_in a)) b.input a.queued (map forward kept_a)
+    turn_stays a.tells a.output (highest (waiting_in a)) b.input a.queued (map forward kept_a)
     (map backward kept_b) covers s.a_to_b in
     (stays.0, stays.1, refl, refl)
 

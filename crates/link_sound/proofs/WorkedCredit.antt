@@ -1,0 +1,78 @@
+-- A link in which a port is told of free buffers before it starts a packet, and one in which it is
+-- not.
+use Rattle.std.proofs.Common.{true, false, [], refl, arith, ◌≡◌, List, ◌∷◌}
+use Rattle.link_model.specs.Prelude.{status}
+use Rattle.link_port.specs.Prelude.{Event, Ctl, new_port}
+use Rattle.link_buffers.specs.Priorities.{highest_below}
+use Rattle.link_model.specs.Window.{window}
+use Rattle.link_sound.specs.Receiver.{Receiver}
+use Rattle.link_sound.specs.Meanings.{receiver_of}
+use Rattle.link_sound.proofs.Played.{Move, First, Second, PutsOne, TakesTurn, Hears, played, is_history}
+use Rattle.link_sound.specs.Credits.{HasTold}
+use Rattle.link_sound.specs.Histories.{Link, AreBuffers, new_link, turned_round, after_telling, after_event, Tells, Acts, IsHistory, Rests, AtFirst, AtSecond}
+use Rattle.link_sound.specs.InTime.{IsToldInTime}
+use Rattle.link_sound.proofs.CreditSteps.{all_linked, new_linked}
+use Rattle.link_sound.proofs.CreditHistory.{told_stays}
+
+-- the second port tells of 4 free buffers
+abbrev telling : Link
+telling = turned_round (after_telling (turned_round (new_link false true 4 4)))
+
+abbrev told : Event
+told = Ctl (status 0 4)
+
+-- the first hears it
+abbrev pub hearing : Link
+hearing = after_event telling told []
+
+pub hearing_history : IsHistory (new_link false true 4 4) hearing
+hearing_history =
+    AtSecond (new_link false true 4 4) (Tells (turned_round (new_link false true 4 4)))
+    (AtFirst telling (Acts telling told [] refl refl) (Rests hearing))
+
+four : AreBuffers 4
+four = (omega arith, omega arith)
+
+new_told : HasTold (new_port false 4) (new_port true 4) []
+new_told = record {
+  tells = refl;
+  freed = 0;
+  held = 0;
+  counted = record {
+    oldest_is = refl;
+    expected_is = refl;
+    held_first = omega arith;
+    sent_first = omega arith;
+    words_are = tt;
+    report_is = tt;
+  };
+}
+
+pub hearing_in_time : IsToldInTime hearing
+unfolding hearing_history
+hearing_in_time = record {
+  linked = all_linked false true 4 4 hearing four four hearing_history;
+  told =
+      told_stays (new_link false true 4 4) hearing hearing_history (tt, tt)
+      (new_linked false true 4 4 four four) new_told;
+  report = refl;
+  none_outstanding = refl;
+  none_comes = tt;
+  takes = refl;
+}
+
+-- of two packets of a port that was told of nothing the second finds no buffer
+abbrev untold : List Move
+untold =
+    First PutsOne ∷ First PutsOne ∷ First TakesTurn ∷ First TakesTurn ∷ Second Hears
+    ∷ Second Hears ∷ Second Hears ∷ Second Hears ∷ Second Hears ∷ Second Hears ∷ []
+
+abbrev pub refused : Link
+refused = played untold (new_link false true 4 4)
+
+pub refused_history : IsHistory (new_link false true 4 4) refused
+refused_history = is_history untold (new_link false true 4 4)
+
+pub is_refused : receiver_of refused.b.input ≡ Receiver.RetryStopped
+unfolding highest_below window played
+is_refused = refl
