@@ -1,18 +1,18 @@
 -- Loops of the schedule, and a drain.
 use Rattle.std.proofs.Common.{◌≡◌, ℕ, suc, ◌+◌, ◌-◌, ◌<◌, ◌≤◌, true, false, List, [], ◌++◌, refl, sym, ap, ◌∙◌, subst, append_assoc, arith}
 use Rattle.link_model.specs.declared.event.Event.{Event}
-use Rattle.link_machine.specs.Prelude.{Note, Side, A, B, NoteEnd, LinkState, pumped, pump_notes, timed_out_at, time_out_notes, IsSoundLink, Stopped}
+use Rattle.link_machine.specs.Prelude.{Note, Side, A, B, NoteEnd, LinkState, pumped, pump_notes, told_from, tell_notes, timed_out_at, time_out_notes, IsSoundLink, Stopped}
 use Rattle.link_watch.specs.declared.watch.NoteEnd.TheVariants as Stop
 use Rattle.link_law.specs.declared.answers.LinkEnd.{LinkEnd}
 use Rattle.link_law.specs.declared.answers.LinkEnd.TheVariants.{Undetected, Failed, NoMemory}
 use Rattle.link_rest.specs.Schedules.{NextOf}
 use Rattle.link_rest.specs.Schedules.LoopOf.{Rests, GoesOn}
-use Rattle.link_rest.specs.Acts.{Act, Pump, Fire, Reached, At, Found, goes, acts_notes, OnState}
+use Rattle.link_rest.specs.Acts.{Act, Pump, Tell, Fire, Reached, At, Found, goes, acts_notes, OnState}
 use Rattle.link_rest.specs.Settling.{Part, Empties, Drains, TakesTurn, TimesOut, Requests, may_fire, of_end, is_busy}
 use Rattle.link_rest.proofs.Drains.{goes-append, goes_none, rounds, round_goes, rested_is_idle, three_rounds}
 use Rattle.link_rest.proofs.DrainCounts.{drain_exists}
 use Rattle.link_rest.proofs.Ends.{acts_keep, found_none, turn_can, requests_can}
-use Rattle.link_law.specs.Does.{Comes, Stops, Ends, Pumps, end_of}
+use Rattle.link_law.specs.Does.{Comes, Stops, Ends, TellsOnce, Pumps, end_of}
 use Rattle.link_law.proofs.DoesLaws.{IsWatch, Follows, comes_where, stops_where, notes-append, comes_next, ends_next, ends_early}
 use Rattle.link_law.proofs.DeliverLaws.{Only, one_comes, one_stops}
 
@@ -251,6 +251,24 @@ pump_ends grew cut side before old new Stop.Failed stopped =
 pump_ends grew cut side before old new Stop.NoMemory stopped =
     stops_map (Only (Pump side 1)) (Pumps side) before old new (λ all part. part)
     (one_stops (Pump side 1) before old new stopped)
+
+-- ---- a status
+
+pub tell_comes : {W : Type 0} (grew : W → List Note → W → Type 0) (side : Side)
+    (before next : LinkState) (old new : W) → next ≡ told_from side before
+    → grew old (tell_notes side before) new
+    → Comes grew (TellsOnce side) before old (At next) new
+tell_comes grew side before next old new is noted =
+    one_comes (Tell side) before old new (At next) (ap At (sym is)) noted
+
+pub tell_ends : {W : Type 0} (grew : W → List Note → W → Type 0) (cut : W → Note → W → Type 0)
+    (side : Side) (before : LinkState) (old new : W) (end : NoteEnd)
+    → Stopped grew cut old (tell_notes side before) new
+    → Ends grew cut (TellsOnce side) before old (end_of end) new
+tell_ends grew cut side before old new Stop.Failed stopped =
+    one_stops (Tell side) before old new stopped
+tell_ends grew cut side before old new Stop.NoMemory stopped =
+    one_stops (Tell side) before old new stopped
 
 -- ---- what follows in the schedule
 

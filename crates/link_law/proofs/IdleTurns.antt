@@ -1,7 +1,7 @@
 -- A link of which a port has nothing to send is left by its turns as it is.
-use Rattle.std.proofs.Common.{◌≡◌, ℕ, List, [], refl, ap}
+use Rattle.std.proofs.Common.{◌≡◌, ℕ, [], ap}
 use Rattle.link_port.specs.Prelude.{PortState, turn_sends}
-use Rattle.link_wires.specs.Wires.{turned, bursts}
+use Rattle.link_wires.specs.Wires.{bursts}
 use Rattle.link_wires.proofs.PumpLaws.{sent_nothing}
 use Rattle.link_wires.proofs.QuietTurns.{quiet_turn, turned_quiet, bursts_quiet}
 use Rattle.link_machine.specs.Prelude.{Side, A, B, LinkState, from_end, turned_round, pumped}

@@ -1,19 +1,19 @@
 -- A link that has nothing to do is left as it is: its ports send nothing, and it settles by nothing.
-use Rattle.std.proofs.Common.{◌≡◌, ◌&&◌, ◌||◌, ◌∙◌, ℕ, nat_lt, length, Bool, true, false, not, if◌then◌else◌, MatchBool, List, [], ◌∷◌, Option, Some, None, refl, sym, ap, subst}
-use Rattle.rio_chars.specs.declared.chars.Char.{Char}
+use Rattle.std.proofs.Common.{◌≡◌, ◌&&◌, ◌||◌, ◌∙◌, ℕ, nat_lt, length, Bool, true, false, not, if◌then◌else◌, MatchBool, List, [], Option, Some, None, refl, sym, ap, subst}
 use Rattle.link_buffers.specs.Priorities.{highest}
 use Rattle.link_model.specs.Output as out
 use Rattle.link_model.specs.Prelude.{window}
 use Rattle.link_model.specs.Outstanding.{Outstanding}
-use Rattle.link_port.specs.Prelude.{PortState, burst_of, expected_of, waiting_in, turn_sends}
-use Rattle.link_wires.specs.Wires.{bursts}
+use Rattle.link_port.specs.Prelude.{PortState, burst_of, standing, waiting_in, turn_sends, is_ready}
+use Rattle.link_port.specs.Turns.{turn_of}
 use Rattle.link_machine.specs.Prelude.{Side, A, B, LinkState, from_end, turned_round, pumped, pump_notes, sent_notes, has_none, is_silent}
 use Rattle.link_rest.specs.Acts.{Act, At, goes}
 use Rattle.link_rest.specs.Schedules.{NextOf}
 use Rattle.link_rest.specs.Schedules.LoopOf.{Rests}
-use Rattle.link_rest.specs.Settling.{Part, is_retry_stopped, has_failed, is_done, is_some, waits, rests_to, first_rests, is_busy, Drains, Restarts, Requests, Recovers, SendsAll, Settles}
+use Rattle.link_rest.specs.Settling.{Part, is_retry_stopped, has_failed, is_done, is_some, waits, rests_to, first_rests, is_busy, Drains, Restarts, Requests, Recovers, Tells, SendsAll, Settles}
 use Rattle.link_rest.proofs.Drains.{goes_none}
-use Rattle.link_law.specs.Resting.{rest_both, none_waits, are_idle, has_no_work}
+use Rattle.link_rest.proofs.Settled.{FromSending, FromTelling, FromRecovering}
+use Rattle.link_law.specs.Resting.{rest_both, none_waits, none_tells, are_idle, has_no_work}
 use Rattle.link_law.proofs.IdleTurns.{idle_pumped, idle_chars}
 
 both : (a b : Bool) → (a && b) ≡ true → (a ≡ true) × (b ≡ true)
@@ -31,19 +31,25 @@ pub record IsIdle (s : LinkState) : Type 0 where
   pub rests_b : rests_to s.b s.a ≡ true
   pub none_a : waits s.a ≡ false
   pub none_b : waits s.b ≡ false
+  pub quiet_a : s.a.tells ≡ false
+  pub quiet_b : s.b.tells ≡ false
 
 pub idle_by : (s : LinkState) → has_no_work s ≡ true → IsIdle s
 idle_by s is =
     let parts = both (is_silent s) (are_idle s.a s.b) is in
-    let more = both (rest_both s.a s.b) (none_waits s.a s.b) parts.1 in
+    let more = both (rest_both s.a s.b) (none_waits s.a s.b && none_tells s.a s.b) parts.1 in
     let rest = both (rests_to s.a s.b) (rests_to s.b s.a) more.0 in
-    let none = both (not (waits s.a)) (not (waits s.b)) more.1 in
+    let last = both (none_waits s.a s.b) (none_tells s.a s.b) more.1 in
+    let none = both (not (waits s.a)) (not (waits s.b)) last.0 in
+    let quiet = both (not s.a.tells) (not s.b.tells) last.1 in
     record {
       silent = parts.0;
       rests_a = rest.0;
       rests_b = rest.1;
       none_a = neither (waits s.a) none.0;
       none_b = neither (waits s.b) none.1;
+      quiet_a = neither s.a.tells quiet.0;
+      quiet_b = neither s.b.tells quiet.1;
     }
 
 -- ---- turns
@@ -57,25 +63,39 @@ none_startable : (w : Outstanding) (first : Option ℕ) → is_some first ≡ fa
 none_startable w None is = no_room_or_none (nat_lt (length w.prios) window)
 none_startable w (Some prio) is = absurd cc
 
-done_sends : (o : out.Output) (waiting : List (List (List ℕ))) (expected : ℕ) → is_done o ≡ true
-    → is_some (highest waiting) ≡ false
-    → (burst_of (out.turns o (highest waiting)).sends expected waiting).sent ≡ []
-done_sends (out.Output.Ok w) waiting expected done none =
-    ap (λ (first : Option ℕ). (burst_of (out.started w first).sends expected waiting).sent)
-    (none_startable w (highest waiting) none)
-done_sends (out.Output.RetryStopped w) waiting expected done none = absurd cc
-done_sends (out.Output.ErrorStopped asked w) waiting expected done none = absurd cc
-done_sends out.Output.Failed waiting expected done none = absurd cc
+-- of a port that has nothing outstanding, and for which no packet waits
+done_sends : (tells : Bool) (o : out.Output) (first : Option ℕ) → is_done o ≡ true
+    → is_some first ≡ false
+    → (out.turns tells o first).sends ≡ out.unstarted tells
+done_sends tells (out.Output.Ok w) first done none =
+    ap (λ (o : Option ℕ). (out.started tells w o).sends) (none_startable w first none)
+done_sends tells (out.Output.RetryStopped w) first done none = absurd cc
+done_sends tells (out.Output.ErrorStopped asked w) first done none = absurd cc
+done_sends tells out.Output.Failed first done none = absurd cc
 
-port_sends : (port far : PortState) → rests_to port far ≡ true → waits port ≡ false
-    → (turn_sends port).sent ≡ []
-port_sends port far rests none =
-    done_sends port.output (waiting_in port) (expected_of port.input)
+port_turns : (port far : PortState) → rests_to port far ≡ true → waits port ≡ false
+    → (turn_of port).sends ≡ out.unstarted port.tells
+port_turns port far rests none =
+    done_sends port.tells port.output (highest (waiting_in port))
     (both (is_done port.output) _ rests).0 none
 
+port_sends : (port far : PortState) → rests_to port far ≡ true → waits port ≡ false
+    → port.tells ≡ false → (turn_sends port).sent ≡ []
+port_sends port far rests none quiet =
+    ap (λ (sends : out.Sends). (burst_of sends (standing port) (waiting_in port)).sent)
+    (port_turns port far rests none ∙ ap out.unstarted quiet)
+
+port_starts : (port far : PortState) → rests_to port far ≡ true → waits port ≡ false
+    → is_ready port ≡ false
+port_starts port far rests none = ap out.starts (port_turns port far rests none) ∙ by port.tells
+  where
+    by : (tells : Bool) → out.starts (out.unstarted tells) ≡ false
+    by true = refl
+    by false = refl
+
 end_sends : (side : Side) (s : LinkState) → IsIdle s → (turn_sends (from_end side s).a).sent ≡ []
-end_sends A s idle = port_sends s.a s.b idle.rests_a idle.none_a
-end_sends B s idle = port_sends s.b s.a idle.rests_b idle.none_b
+end_sends A s idle = port_sends s.a s.b idle.rests_a idle.none_a idle.quiet_a
+end_sends B s idle = port_sends s.b s.a idle.rests_b idle.none_b idle.quiet_b
 
 pub idle_stays : (side : Side) (n : ℕ) (s : LinkState) → IsIdle s → pumped side n s ≡ s
 idle_stays side n s idle = idle_pumped side n s (end_sends side s idle)
@@ -116,9 +136,13 @@ module _ (s : LinkState) (idle : IsIdle s) where
   end_rests A = idle.rests_a
   end_rests B = idle.rests_b
 
-  end_none : (side : Side) → waits (from_end side s).a ≡ false
-  end_none A = idle.none_a
-  end_none B = idle.none_b
+  end_none : (side : Side) → is_ready (from_end side s).a ≡ false
+  end_none A = port_starts s.a s.b idle.rests_a idle.none_a
+  end_none B = port_starts s.b s.a idle.rests_b idle.none_b
+
+  end_quiet : (side : Side) → (from_end side s).a.tells ≡ false
+  end_quiet A = idle.quiet_a
+  end_quiet B = idle.quiet_b
 
   restarts : (side : Side) → Restarts side (At s) []
   restarts side =
@@ -139,19 +163,20 @@ module _ (s : LinkState) (idle : IsIdle s) where
       held (not (has_failed (from_end side s).a.output)) _
       (none_then (Restarts side) (Requests side) (restarts side) (requests side))
 
+  tells_none : (side : Side) → Tells side (At s) []
+  tells_none side = skipped (from_end side s).a.tells _ (end_quiet side)
+
   sends_all : (side : Side) → SendsAll side (At s) []
   sends_all side = held (first_rests (from_end side s)) _ (Rests (end_none side) refl)
 
   pub idle_settles : Settles (At s) []
   idle_settles =
       let sends = none_then (SendsAll A) (SendsAll B) (sends_all A) (sends_all B) in
-      let second = none_then (Recovers B) (NextOf goes (SendsAll A) (SendsAll B)) (recovers B) sends
-      in
-      none_then Drains
-      (NextOf goes (Recovers A) (NextOf goes (Recovers B) (NextOf goes (SendsAll A) (SendsAll B))))
-      drains
-      (none_then (Recovers A) (NextOf goes (Recovers B) (NextOf goes (SendsAll A) (SendsAll B)))
-      (recovers A) second)
+      let told = none_then (Tells B) FromSending (tells_none B) sends in
+      let telling = none_then (Tells A) (NextOf goes (Tells B) FromSending) (tells_none A) told in
+      let second = none_then (Recovers B) FromTelling (recovers B) telling in
+      none_then Drains FromRecovering drains
+      (none_then (Recovers A) (NextOf goes (Recovers B) FromTelling) (recovers A) second)
 
 -- the same with the ends in the other order
 pub idle_round : (s : LinkState) → IsIdle s → IsIdle (turned_round s)
@@ -163,4 +188,6 @@ idle_round s idle =
       rests_b = idle.rests_a;
       none_a = idle.none_b;
       none_b = idle.none_a;
+      quiet_a = idle.quiet_b;
+      quiet_b = idle.quiet_a;
     }

@@ -3,12 +3,13 @@ use Rattle.std.proofs.Common.{◌≡◌, ◌↔◌, ℕ, ◌<◌, Bool, true, fa
 use Rattle.link_buffers.specs.Prelude.{packet_count, highest}
 use Rattle.link_buffers.proofs.PriorityLaws.{packet_count-highest}
 use Rattle.link_model.specs.declared.event.Event.{Event}
+use Rattle.link_port.specs.Prelude.{is_ready}
 use Rattle.link_machine.specs.Prelude.{Note, Side, LinkState, from_end, IsSoundLink}
 use Rattle.link_law.specs.declared.answers.LinkEnd.{LinkEnd}
 use Rattle.link_rest.specs.Schedules.{NextOf}
 use Rattle.link_rest.specs.Schedules.LoopOf.{Rests, GoesOn, Leaves}
 use Rattle.link_rest.specs.Acts.{Act, Reached, At, Found, goes, acts_notes, OnState}
-use Rattle.link_rest.specs.Settling.{Part, is_some, is_retry_stopped, first_rests, waits, of_end, TakesTurn, SendsAll}
+use Rattle.link_rest.specs.Settling.{Part, is_some, is_retry_stopped, first_rests, of_end, TakesTurn, SendsAll}
 use Rattle.link_rest.specs.Rest.{IsQuiet}
 use Rattle.link_rest.proofs.Drains.{goes_none}
 use Rattle.link_rest.proofs.Rounds.{quiet_at}
@@ -46,7 +47,7 @@ after_can near s r quiet round =
     (fewer_after near s (left_at near s) r (quiet, omega arith) round on))
 
 pub after_follows : (near : Side) (s : LinkState) → Quiet near s
-    → of_end near (λ link. waits link.a) (At s) ≡ true → Follows (TakesTurn near) (After near) s
+    → of_end near (λ link. is_ready link.a) (At s) ≡ true → Follows (TakesTurn near) (After near) s
 after_follows near s quiet busy = record {
   found = after_found near;
   can =
@@ -56,7 +57,7 @@ after_follows near s quiet busy = record {
 
 -- a round, and what follows it, are the loop
 joined : (near : Side) (s : LinkState) (all first rest : List Act)
-    → of_end near (λ link. waits link.a) (At s) ≡ true → TakesTurn near (At s) first
+    → of_end near (λ link. is_ready link.a) (At s) ≡ true → TakesTurn near (At s) first
     → all ≡ first ++ rest
     → (b : Bool) → Leaving near (goes (At s) first) ≡ b
     → MatchBool b (TakesTurn near (goes (At s) first) rest)
@@ -66,7 +67,7 @@ joined near s all first rest busy turn split true is last =
 joined near s all first rest busy turn split false is more =
     GoesOn first rest busy turn split is more
 
-pub loop_of : (near : Side) (s : LinkState) → of_end near (λ link. waits link.a) (At s) ≡ true
+pub loop_of : (near : Side) (s : LinkState) → of_end near (λ link. is_ready link.a) (At s) ≡ true
     → (all : List Act) → NextOf goes (TakesTurn near) (After near) (At s) all
     → Sending near (At s) all
 loop_of near s busy all (first, rest, split, turn, more) =
@@ -91,7 +92,7 @@ sent_none watch near before old quiet = record {
 -- what a round that was done leads to
 round_done : {W : Type 0} {grew : W → List Note → W → Type 0}
     → (near : Side) (now mid : LinkState) (w new : W) → Quiet near now
-    → of_end near (λ link. waits link.a) (At now) ≡ true
+    → of_end near (λ link. is_ready link.a) (At now) ≡ true
     → Comes grew (TakesTurn near) now w (At mid) new → AfterRound near now mid
 round_done near now mid w new quiet busy h =
     subst (λ (r : Reached). OnState (AfterRound near now) r) h.reached
@@ -99,7 +100,7 @@ round_done near now mid w new quiet busy h =
 
 pub sent_on : {W : Type 0} {grew : W → List Note → W → Type 0} {cut : W → Note → W → Type 0}
     → IsWatch grew cut → (near : Side) (before now mid : LinkState) (old w new : W)
-    → of_end near (λ link. waits link.a) (At now) ≡ true → Leaving near (At mid) ≡ false
+    → of_end near (λ link. is_ready link.a) (At now) ≡ true → Leaving near (At mid) ≡ false
     → Sent grew near before old now w → Comes grew (TakesTurn near) now w (At mid) new
     → Sent grew near before old mid new × (left_at near mid < left_at near now)
 sent_on watch near before now mid old w new busy on s h =
@@ -117,7 +118,7 @@ sent_on watch near before now mid old w new busy on s h =
 
 pub sent_over : {W : Type 0} {grew : W → List Note → W → Type 0} {cut : W → Note → W → Type 0}
     → IsWatch grew cut → (near : Side) (before now : LinkState) (old w : W)
-    → of_end near (λ link. waits link.a) (At now) ≡ false → Sent grew near before old now w
+    → of_end near (λ link. is_ready link.a) (At now) ≡ false → Sent grew near before old now w
     → Comes grew (Sending near) before old (At now) w
 unfolding acts_notes
 sent_over watch near before now old w none s =
@@ -137,7 +138,7 @@ as_after near mid is all turn =
 
 last_comes : {W : Type 0} {grew : W → List Note → W → Type 0} {cut : W → Note → W → Type 0}
     → IsWatch grew cut → (near : Side) (before now mid next : LinkState) (old w v new : W)
-    → of_end near (λ link. waits link.a) (At now) ≡ true → Leaving near (At mid) ≡ true
+    → of_end near (λ link. is_ready link.a) (At now) ≡ true → Leaving near (At mid) ≡ true
     → Sent grew near before old now w → Comes grew (TakesTurn near) now w (At mid) v
     → Comes grew (TakesTurn near) mid v (At next) new
     → Comes grew (Sending near) before old (At next) new
@@ -151,7 +152,7 @@ last_comes watch near before now mid next old w v new busy last s first again =
 last_ends : {W : Type 0} (grew : W → List Note → W → Type 0) (cut : W → Note → W → Type 0)
     → IsWatch grew cut
     → (near : Side) (before now mid : LinkState) (old w v new : W) (end : LinkEnd)
-    → of_end near (λ link. waits link.a) (At now) ≡ true → Leaving near (At mid) ≡ true
+    → of_end near (λ link. is_ready link.a) (At now) ≡ true → Leaving near (At mid) ≡ true
     → Sent grew near before old now w → Comes grew (TakesTurn near) now w (At mid) v
     → Ends grew cut (TakesTurn near) mid v end new
     → Ends grew cut (Sending near) before old end new
@@ -165,7 +166,7 @@ last_ends grew cut watch near before now mid old w v new end busy last s first a
 pub last_did : {W : Type 0} (grew : W → List Note → W → Type 0) (cut : W → Note → W → Type 0)
     → IsWatch grew cut → (near : Side) (before now mid : LinkState) (old w v new : W)
     (result : Result (Unit {0}) LinkEnd) (next : LinkState)
-    → of_end near (λ link. waits link.a) (At now) ≡ true → Leaving near (At mid) ≡ true
+    → of_end near (λ link. is_ready link.a) (At now) ≡ true → Leaving near (At mid) ≡ true
     → Sent grew near before old now w → Comes grew (TakesTurn near) now w (At mid) v
     → Did grew cut (TakesTurn near) mid v result next new
     → Did grew cut (Sending near) before old result next new
@@ -177,7 +178,7 @@ last_did grew cut watch near before now mid old w v new (Err end) next busy last
 -- a round that ended
 pub sent_ends : {W : Type 0} (grew : W → List Note → W → Type 0) (cut : W → Note → W → Type 0)
     → IsWatch grew cut → (near : Side) (before now : LinkState) (old w new : W) (end : LinkEnd)
-    → of_end near (λ link. waits link.a) (At now) ≡ true → Sent grew near before old now w
+    → of_end near (λ link. is_ready link.a) (At now) ≡ true → Sent grew near before old now w
     → Ends grew cut (TakesTurn near) now w end new
     → Ends grew cut (Sending near) before old end new
 sent_ends grew cut watch near before now old w new end busy s h =
@@ -189,7 +190,7 @@ sent_ends grew cut watch near before now old w new end busy s h =
 
 pub sound_round : {W : Type 0} {grew : W → List Note → W → Type 0}
     → (near : Side) (now mid : LinkState) (w new : W) → Quiet near now
-    → of_end near (λ link. waits link.a) (At now) ≡ true
+    → of_end near (λ link. is_ready link.a) (At now) ≡ true
     → Comes grew (TakesTurn near) now w (At mid) new → IsSoundLink mid
 sound_round near now mid w new quiet busy h = (round_done near now mid w new quiet busy h).sound
 

@@ -4,25 +4,23 @@ use Rattle.link_model.specs.declared.event.Event.{Event}
 use Rattle.link_machine.specs.Prelude.{Note, Side, A, B, LinkState, IsSoundLink}
 use Rattle.link_rest.specs.Schedules.{NextOf}
 use Rattle.link_rest.specs.Acts.{Reached, At, Found, goes, OnState}
-use Rattle.link_rest.specs.Settling.{Part, Drains, Recovers, SendsAll, Settles}
+use Rattle.link_rest.specs.Settling.{Part, Drains, Recovers, Tells, SendsAll, Settles}
 use Rattle.link_rest.specs.Rest.{IsQuiet, IsSettled}
 use Rattle.link_rest.proofs.Drains.{goes_none}
-use Rattle.link_rest.proofs.Settled.{Drained, FirstRests, BothRest, FirstDone, go_on, drains_lead, first_recovers, second_recovers, first_sends, settling_rests}
+use Rattle.link_rest.proofs.Settled.{Drained, FirstRests, BothRest, FirstTold, BothTold, FirstDone, FromSending, FromTelling, FromRecovering, go_on, drains_lead, first_recovers, second_recovers, first_tells, second_tells, first_sends, settling_rests}
 use Rattle.link_rest.proofs.SendingRounds.{Quiet}
-use Rattle.link_rest.proofs.Ends.{Can, next_can, recovers_can, sends_can, sound_in, first_sound, second_quiet}
+use Rattle.link_rest.proofs.Rounds.{quiet_at}
+use Rattle.link_rest.proofs.Ends.{Can, next_can, recovers_can, tells_can, sends_can, telling_can, sound_by, first_quiet, second_quiet}
 use Rattle.link_law.specs.declared.answers.LinkEnd.{LinkEnd}
 use Rattle.link_law.specs.Does.{Comes, Ends, Did}
 use Rattle.link_law.proofs.DoesLaws.{Follows}
 
--- what is left of settling, from each part on
-abbrev pub Sends : Part
-Sends = NextOf goes (SendsAll A) (SendsAll B)
+-- what is left of settling, from each part on; the others are those of `Settled`
+abbrev pub SecondTells : Part
+SecondTells = NextOf goes (Tells B) FromSending
 
-abbrev pub SecondOn : Part
-SecondOn = NextOf goes (Recovers B) Sends
-
-abbrev pub FirstOn : Part
-FirstOn = NextOf goes (Recovers A) SecondOn
+abbrev pub SecondRecovers : Part
+SecondRecovers = NextOf goes (Recovers B) FromTelling
 
 -- ---- what a part that was done leads to
 
@@ -50,8 +48,20 @@ pub second_at : {W : Type 0} {grew : W → List Note → W → Type 0}
 second_at before next old new f h =
     leads_to BothRest (Recovers B) before next old new h (second_recovers before h.acts f h.part)
 
-pub sent_at : {W : Type 0} {grew : W → List Note → W → Type 0}
+pub told_at : {W : Type 0} {grew : W → List Note → W → Type 0}
     → (before next : LinkState) (old new : W) → BothRest before
+    → Comes grew (Tells A) before old (At next) new → FirstTold next
+told_at before next old new q h =
+    leads_to FirstTold (Tells A) before next old new h (first_tells before h.acts q h.part)
+
+pub both_told_at : {W : Type 0} {grew : W → List Note → W → Type 0}
+    → (before next : LinkState) (old new : W) → FirstTold before
+    → Comes grew (Tells B) before old (At next) new → BothTold next
+both_told_at before next old new q h =
+    leads_to BothTold (Tells B) before next old new h (second_tells before h.acts q h.part)
+
+pub sent_at : {W : Type 0} {grew : W → List Note → W → Type 0}
+    → (before next : LinkState) (old new : W) → BothTold before
     → Comes grew (SendsAll A) before old (At next) new → FirstDone next
 sent_at before next old new q h =
     leads_to FirstDone (SendsAll A) before next old new h (first_sends before h.acts q h.part)
@@ -66,6 +76,9 @@ is_quiet s q = (
     b_to_a = q.into;
   },
 )
+
+pub quiet_of : (s : LinkState) → IsSoundLink s × IsQuiet s → Quiet A s
+quiet_of s h = quiet_at A s h.0 h.1
 
 settled_at : {W : Type 0} {grew : W → List Note → W → Type 0}
     → (before next : LinkState) (old new : W) → IsSoundLink before
@@ -104,55 +117,79 @@ next_found : (P Q : Part) (side : Side) (e : Event) → P (Found side e) [] → 
 next_found P Q side e p q =
     ([], [], refl, p, subst (λ (r : Reached). Q r []) (sym (goes_none (Found side e))) q)
 
-sends_found : (side : Side) (e : Event) → Sends (Found side e) []
+sends_found : (side : Side) (e : Event) → FromSending (Found side e) []
 sends_found side e = next_found (SendsAll A) (SendsAll B) side e refl refl
 
-second_found : (side : Side) (e : Event) → SecondOn (Found side e) []
-second_found side e = next_found (Recovers B) Sends side e refl (sends_found side e)
+second_tells_found : (side : Side) (e : Event) → SecondTells (Found side e) []
+second_tells_found side e = next_found (Tells B) FromSending side e refl (sends_found side e)
 
-first_found : (side : Side) (e : Event) → FirstOn (Found side e) []
-first_found side e = next_found (Recovers A) SecondOn side e refl (second_found side e)
+tells_found : (side : Side) (e : Event) → FromTelling (Found side e) []
+tells_found side e = next_found (Tells A) SecondTells side e refl (second_tells_found side e)
+
+second_found : (side : Side) (e : Event) → SecondRecovers (Found side e) []
+second_found side e = next_found (Recovers B) FromTelling side e refl (tells_found side e)
+
+first_found : (side : Side) (e : Event) → FromRecovering (Found side e) []
+first_found side e = next_found (Recovers A) SecondRecovers side e refl (second_found side e)
 
 send_can : (r : Reached) → OnState FirstDone r → Can (SendsAll B) r
 send_can r h = sends_can B r (second_quiet r h)
 
-both_can : (r : Reached) → OnState BothRest r → Can Sends r
+both_can : (r : Reached) → OnState BothTold r → Can FromSending r
 both_can r h =
-    let first = sends_can A r h in
+    let first = sends_can A r (first_quiet r h) in
     next_can (SendsAll A) (SendsAll B) r first (send_can (goes r first.0)
-    (go_on BothRest (SendsAll A) FirstDone first_sends r first.0 h first.1))
+    (go_on BothTold (SendsAll A) FirstDone first_sends r first.0 h first.1))
 
-second_can : (r : Reached) → OnState FirstRests r → Can SecondOn r
+second_tell_can : (r : Reached) → OnState FirstTold r → Can SecondTells r
+second_tell_can r h =
+    let first = tells_can B r (sound_by (λ s q. q.0.sound) r h) in
+    next_can (Tells B) FromSending r first (both_can (goes r first.0)
+    (go_on FirstTold (Tells B) BothTold second_tells r first.0 h first.1))
+
+second_can : (r : Reached) → OnState FirstRests r → Can SecondRecovers r
 second_can r h =
-    let first = recovers_can B r (first_sound r h) in
-    next_can (Recovers B) Sends r first (both_can (goes r first.0)
+    let first = recovers_can B r (sound_by (λ s q. q.0.0) r h) in
+    next_can (Recovers B) FromTelling r first (telling_can (goes r first.0)
     (go_on FirstRests (Recovers B) BothRest second_recovers r first.0 h first.1))
 
-first_can : (r : Reached) → OnState Drained r → Can FirstOn r
+first_can : (r : Reached) → OnState Drained r → Can FromRecovering r
 first_can r h =
-    let first = recovers_can A r (sound_in r h) in
-    next_can (Recovers A) SecondOn r first (second_can (goes r first.0)
+    let first = recovers_can A r (sound_by (λ s q. q.0) r h) in
+    next_can (Recovers A) SecondRecovers r first (second_can (goes r first.0)
     (go_on Drained (Recovers A) FirstRests first_recovers r first.0 h first.1))
 
-pub first_follows : (s : LinkState) → IsSoundLink s → Follows Drains FirstOn s
+pub first_follows : (s : LinkState) → IsSoundLink s → Follows Drains FromRecovering s
 first_follows s l = record {
   found = first_found;
   can = λ acts part. first_can (goes (At s) acts) (drains_lead s acts l part);
 }
 
-pub second_follows : (s : LinkState) → Drained s → Follows (Recovers A) SecondOn s
+pub second_follows : (s : LinkState) → Drained s → Follows (Recovers A) SecondRecovers s
 second_follows s d = record {
   found = second_found;
   can = λ acts part. second_can (goes (At s) acts) (first_recovers s acts d part);
 }
 
-pub sends_follow : (s : LinkState) → FirstRests s → Follows (Recovers B) Sends s
-sends_follow s f = record {
-  found = sends_found;
-  can = λ acts part. both_can (goes (At s) acts) (second_recovers s acts f part);
+pub finish_follows : (s : LinkState) → FirstRests s → Follows (Recovers B) FromTelling s
+finish_follows s f = record {
+  found = tells_found;
+  can = λ acts part. telling_can (goes (At s) acts) (second_recovers s acts f part);
 }
 
-pub send_follows : (s : LinkState) → BothRest s → Follows (SendsAll A) (SendsAll B) s
+pub tells_follow : (s : LinkState) → BothRest s → Follows (Tells A) SecondTells s
+tells_follow s q = record {
+  found = second_tells_found;
+  can = λ acts part. second_tell_can (goes (At s) acts) (first_tells s acts q part);
+}
+
+pub sends_follow : (s : LinkState) → FirstTold s → Follows (Tells B) FromSending s
+sends_follow s q = record {
+  found = sends_found;
+  can = λ acts part. both_can (goes (At s) acts) (second_tells s acts q part);
+}
+
+pub send_follows : (s : LinkState) → BothTold s → Follows (SendsAll A) (SendsAll B) s
 send_follows s q = record {
   found = λ side e. refl;
   can = λ acts part. send_can (goes (At s) acts) (first_sends s acts q part);

@@ -4,7 +4,7 @@ use Rattle.rio_chars.specs.Faults.{Rose}
 use Rattle.link_machine.specs.Prelude.{Stopped, Note, Side, LinkState, NoteEnd}
 use Rattle.link_law.specs.declared.answers.LinkEnd.{LinkEnd}
 use Rattle.link_law.specs.declared.answers.LinkEnd.TheVariants.{Undetected, Failed, NoMemory}
-use Rattle.link_rest.specs.Acts.{Act, Pump, Reached, At, Found, goes, acts_notes, holds}
+use Rattle.link_rest.specs.Acts.{Act, Pump, Tell, Reached, At, Found, goes, acts_notes, holds}
 use Rattle.link_rest.specs.Settling.{Part}
 use Rattle.link_rest.specs.Schedules.{WhereOf, Is}
 use Rattle.link_watch.specs.declared.watch.NoteEnd.TheVariants as Stop
@@ -44,6 +44,10 @@ abbrev pub Counted : Result (Unit {0}) LinkEnd → ℕ → ℕ → Type 0
 Counted result old new =
     (IsErrOf result Failed → Rose old new)
     × (¬ IsErrOf result Failed → new ≡ old) × (old ≤ new)
+
+-- a status of a port that tells its free buffers
+abbrev pub TellsOnce : Side → Part
+TellsOnce side = Is (λ reached. Tell side ∷ [])
 
 -- a turn of a port
 abbrev pub Pumps : Side → Part

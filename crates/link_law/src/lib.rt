@@ -26,6 +26,7 @@ mod draining;
 mod link;
 mod port_states;
 mod settling;
+mod telling;
 
 pub use answers::{Fired, LinkEnd};
 pub use link::Link;

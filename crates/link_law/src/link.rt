@@ -62,8 +62,8 @@ impl Link {
         self.a.length() == 0 && self.b.length() == 0
     }
 
-    /// Whether the link has nothing to do: its wires are empty, both directions are at rest, and no
-    /// packet waits. Then turns and settling do nothing.
+    /// Whether the link has nothing to do: its wires are empty, both directions are at rest, no
+    /// packet waits, and no port tells its free buffers. Then turns and settling do nothing.
     pub fn has_no_work(&self, a: &Port, b: &Port) -> bool
         ensures { result ≡ has_no_work (link self.now a.now b.now) }
     {

@@ -1,9 +1,9 @@
 //! What settling asks of the ports at the ends of a link.
 ghost use Rattle.std.specs.Prelude.{◌≡◌, [], IsTrue};
 ghost use Rattle.link_machine.specs.States.{Wires, link, from_end};
-ghost use Rattle.link_port.specs.Turns.{turn_sends};
+ghost use Rattle.link_port.specs.Turns.{turn_sends, is_ready as starts_packet};
 ghost use Rattle.link_rest.specs.Settling.{waits, is_retry_stopped, has_failed, may_fire, is_done as done, is_ok, rests_to};
-ghost use Rattle.link_law.specs.Resting.{rest_both as both_rest, none_waits as no_packet_waits, are_idle as idle_ports};
+ghost use Rattle.link_law.specs.Resting.{rest_both as both_rest, none_waits as no_packet_waits, none_tells as no_port_tells, are_idle as idle_ports};
 
 use link_port::{InKind, OutKind, Port};
 use link_watch::Side;
@@ -98,11 +98,18 @@ pub(crate) fn is_waiting(port: &Port) -> bool
     port.waiting()
 }
 
+/// Whether a turn would start a packet.
+pub(crate) fn is_ready(port: &Port) -> bool
+    ensures { result ≡ starts_packet port.now }
+{
+    port.ready()
+}
+
 /// Whether neither port has anything to do, if nothing comes.
 pub(crate) fn are_idle(a: &Port, b: &Port) -> bool
     ensures { result ≡ idle_ports a.now b.now }
 {
-    rest_both(a, b) && none_waits(a, b)
+    rest_both(a, b) && (none_waits(a, b) && none_tells(a, b))
 }
 
 /// Whether both directions are at rest.
@@ -119,13 +126,20 @@ fn none_waits(a: &Port, b: &Port) -> bool
     !is_waiting(a) && !is_waiting(b)
 }
 
-/// Whether it is plain without a turn that a port has nothing to send: it is OK, and no packet
-/// waits.
+/// Whether no port tells its free buffers.
+fn none_tells(a: &Port, b: &Port) -> bool
+    ensures { result ≡ no_port_tells a.now b.now }
+{
+    !a.tells() && !b.tells()
+}
+
+/// Whether it is plain without a turn that a port has nothing to send: it is OK, no packet waits,
+/// and it does not tell its free buffers.
 pub(crate) fn has_no_turn(port: &Port) -> bool
     ensures { IsTrue result → (turn_sends port.now).sent ≡ [] }
 {
     match port.out_kind() {
-        OutKind::Ok => !is_waiting(port),
+        OutKind::Ok => !is_waiting(port) && !port.tells(),
         _ => false,
     }
 }

@@ -1,16 +1,17 @@
 //! Settling: the schedule that brings a link to rest.
 ghost use Rattle.std.specs.Prelude.{◌≡◌, ◌≤◌, IsErrOf, OnOk, IfErr};
 ghost use Rattle.rio_chars.specs.Faults.{Rose};
-ghost use Rattle.link_machine.specs.Prelude.{IsSoundLink, link};
-ghost use Rattle.link_rest.specs.Acts.{At};
+ghost use Rattle.link_machine.specs.Prelude.{A, B, IsSoundLink, link};
+ghost use Rattle.link_rest.specs.Acts.{At, goes};
 ghost use Rattle.link_rest.specs.Rest.{IsQuiet, IsSettled};
-ghost use Rattle.link_rest.specs.Settling.{Restarts, TimesOut, Requests, Recovers, SendsAll, Settles};
+ghost use Rattle.link_rest.specs.Schedules.{NextOf};
+ghost use Rattle.link_rest.specs.Settling.{Restarts, TimesOut, Requests, Recovers, Tells, SendsAll, Settles};
 ghost use Rattle.link_law.specs.Does.{Comes, Ends, Did, Counted};
 
 use crate::answers::LinkEnd;
 use crate::draining::given_up;
 use crate::link::Link;
-use crate::port_states::{failed, far, fires, is_quiet, is_waiting, near, stands_back};
+use crate::port_states::{failed, far, fires, is_quiet, is_ready, near, stands_back};
 use link_port::Port;
 use link_watch::{Side, Watch};
 use std::alloc::Global;
@@ -18,9 +19,10 @@ use std::alloc::Global;
 impl Link {
     /// Brings a sound link to rest. Both wires are drained; each side recovers, with a
     /// restart-from-retry if one is owed, and a time-out and a link-request if its direction is not
-    /// at rest then; and what waits is sent, as far as it has room. Each turn is noted as `pump` of
-    /// one, each delivery as `deliver`. Undetected comes as for `deliver`. A wire of more than
-    /// `u32::MAX` characters ends it with `NoMemory`.
+    /// at rest then; each side tells its free buffers, if it does so at all; and what waits is
+    /// sent, as far as it has room. Each turn and each status is noted as `pump` of one, each
+    /// delivery as `deliver`. Undetected comes as for `deliver`. A wire of more than `u32::MAX`
+    /// characters ends it with `NoMemory`.
     pub fn settle<W: Watch>(
         &mut self,
         alloc: Global,
@@ -44,8 +46,7 @@ impl Link {
         self.drain(alloc, a, b, watch)?;
         self.recover(alloc, Side::A, a, b, watch)?;
         self.recover(alloc, Side::B, a, b, watch)?;
-        self.send_all(alloc, Side::A, a, b, watch)?;
-        self.send_all(alloc, Side::B, a, b, watch)
+        self.finish(alloc, a, b, watch)
     }
 
     /// Sends a restart-from-retry, if one is owed.
@@ -132,8 +133,29 @@ impl Link {
         self.request(alloc, side, a, b, watch)
     }
 
-    /// Sends what waits at a side, packet by packet, of a link at rest. If one has no room, the
-    /// port restarts and sends no more.
+    /// Of a link at rest, each side tells its free buffers, if it does, and then what waits is
+    /// sent.
+    fn finish<W: Watch>(
+        &mut self,
+        alloc: Global,
+        a: &mut Port,
+        b: &mut Port,
+        watch: &mut W,
+    ) -> Result<(), LinkEnd>
+        requires { IsSoundLink (link self.old a.old b.old) × IsQuiet (link self.old a.old b.old) }
+        ensures does { Did W.grew W.cut (NextOf goes (Tells A) (NextOf goes (Tells B)
+            (NextOf goes (SendsAll A) (SendsAll B)))) (link self.old a.old b.old) watch.old
+            result (link self.new a.new b.new) watch.new }
+        ensures counts { Counted result (W.faults watch.old) (W.faults watch.new) }
+    {
+        self.tell_if_due(alloc, Side::A, a, b, watch)?;
+        self.tell_if_due(alloc, Side::B, a, b, watch)?;
+        self.send_all(alloc, Side::A, a, b, watch)?;
+        self.send_all(alloc, Side::B, a, b, watch)
+    }
+
+    /// Sends what waits at a side of a link at rest, packet by packet, as long as a turn starts
+    /// one. If one has no room, the port restarts and sends no more.
     fn send_all<W: Watch>(
         &mut self,
         alloc: Global,
@@ -147,7 +169,7 @@ impl Link {
             result (link self.new a.new b.new) watch.new }
         ensures counts { Counted result (W.faults watch.old) (W.faults watch.new) }
     {
-        while is_waiting(near(side, a, b)) {
+        while is_ready(near(side, a, b)) {
             self.take_turn(alloc, side, a, b, watch)?;
             if stands_back(near(side, a, b)) {
                 return self.take_turn(alloc, side, a, b, watch);

@@ -1,6 +1,7 @@
 -- A delivery keeps a link sound, and what is held and freed are steps of plain queues.
-use Rattle.std.proofs.Common.{◌≡◌, ℕ, ◌++◌, true, false, List, [], ◌∷◌, map, Option, Some, None, option_to_list, refl, sym, ap, ◌∙◌, subst, if◌then◌else◌, append_assoc}
+use Rattle.std.proofs.Common.{◌≡◌, ℕ, ◌++◌, true, false, List, All, [], ◌∷◌, map, Option, Some, None, option_to_list, refl, sym, ap, ◌∙◌, subst, if◌then◌else◌, append_assoc}
 use Rattle.std.proofs.lemmas.List.{append-nil, map-append}
+use Rattle.std.proofs.lemmas.List.Elements.{All-head, All-tail}
 use Rattle.link_model.specs.Prelude.{Char, Fields, Place, IsBounded, step, run, place_after}
 use Rattle.link_port.specs.Prelude.{Event, Ctl, PortState, IsPort, acts, is_acted}
 use Rattle.link_model.specs.Events.{same_event}
@@ -10,8 +11,10 @@ use Rattle.link_sound.specs.Sound.{IsSound, reply_sent}
 use Rattle.link_sound.proofs.Steps.{acted_keeps, other_keeps, lost_keeps}
 use Rattle.link_sound.proofs.Moves.{acted_holds, other_holds, acted_frees, other_frees}
 use Rattle.link_sound.proofs.PortBounds.{acted_port, other_port, read_port}
+use Rattle.link_sound.proofs.Ranged.{HasAck}
 use Rattle.link_wires.specs.Prelude.{behind, Flow, Delivered, Through, Undetected, begun, done, met, comes, goes_on, come, ended, delivered}
 use Rattle.link_machine.specs.Queues.{Queues, queues_between}
+use Rattle.link_machine.proofs.Arriving.{HasAckAt, run_has}
 use Rattle.link_machine.proofs.Walking.{FirstWalks, Stays, walks_on, event_walks}
 
 -- what is kept is what stands behind the event, which stands behind what is lost
@@ -46,7 +49,7 @@ AreFlowing b kept_a start (Through flow) = IsFlowing b kept_a start flow
 AreFlowing b kept_a start (Undetected told e) = (end : Queues) × FirstWalks start told.moves end
 
 -- an answer more
-answer_more : (kept : List Event) (replies : List Fields) (reply : Option Fields)
+pub answer_more : (kept : List Event) (replies : List Fields) (reply : Option Fields)
     → (kept ++ map (λ symbol. Ctl symbol) replies) ++ reply_sent reply
     ≡ kept ++ map (λ symbol. Ctl symbol) (replies ++ option_to_list reply)
 answer_more kept replies None =
@@ -77,16 +80,17 @@ other_flowing b kept_a start flow e other f = record {
 -- one that is, and was sent
 acted_flowing :
     (b : PortState) (kept_a : List Event) (start : Queues) (flow : Flow) (e : Event)
-    (rest : List Event) → IsPort b → is_acted flow.port e ≡ true → behind e flow.kept ≡ Some rest
+    (rest : List Event) → IsPort b → HasAck e → is_acted flow.port e ≡ true
+    → behind e flow.kept ≡ Some rest
     → IsFlowing b kept_a start flow → IsFlowing b kept_a start (done e (e ∷ []) rest flow)
-acted_flowing b kept_a start flow e rest far acted found f =
+acted_flowing b kept_a start flow e rest far has acted found f =
     let sent = kept_a ++ map (λ symbol. Ctl symbol) flow.told.replies in
     let parts = behind_parts e flow.kept rest found in
     let sound : IsSound flow.port b sent (e ∷ rest) =
     lost_keeps flow.port b [] sent parts.0 (e ∷ rest)
     (subst (λ (l : List Event). IsSound flow.port b sent l) parts.1 f.sound) in
     record {
-      port = acted_port flow.port b sent rest e f.port far acted sound;
+      port = acted_port flow.port b sent rest e f.port far has acted sound;
       sound =
           subst (λ (l : List Event). IsSound (acts flow.port e).port b l rest)
           (answer_more kept_a flow.told.replies (acts flow.port e).reply)
@@ -101,22 +105,24 @@ acted_flowing b kept_a start flow e rest far acted found f =
 -- by what stands behind it
 met_flowing :
     (b : PortState) (kept_a : List Event) (start : Queues) (flow : Flow) (at : ℕ) (e : Event)
-    (kept : Option (List Event)) → IsPort b → is_acted flow.port e ≡ true
+    (kept : Option (List Event)) → IsPort b → HasAck e → is_acted flow.port e ≡ true
     → behind e flow.kept ≡ kept
     → IsFlowing b kept_a start flow → AreFlowing b kept_a start (met at e kept flow)
-met_flowing b kept_a start flow at e None far acted found f = (queues_between flow.port b, f.walks)
-met_flowing b kept_a start flow at e (Some rest) far acted found f =
-    acted_flowing b kept_a start flow e rest far acted found f
+met_flowing b kept_a start flow at e None far has acted found f =
+    (queues_between flow.port b, f.walks)
+met_flowing b kept_a start flow at e (Some rest) far has acted found f =
+    acted_flowing b kept_a start flow e rest far has acted found f
 
 pub comes_flowing :
     (b : PortState) (kept_a : List Event) (start : Queues) (flow : Flow) (placed : ℕ × Event)
-    → IsPort b → IsFlowing b kept_a start flow → AreFlowing b kept_a start (comes flow placed)
-comes_flowing b kept_a start flow placed far f =
+    → IsPort b → HasAckAt placed → IsFlowing b kept_a start flow
+    → AreFlowing b kept_a start (comes flow placed)
+comes_flowing b kept_a start flow placed far has f =
     elim (is_acted flow.port placed.1) as (λ t. is_acted flow.port placed.1 ≡ t
     → AreFlowing b kept_a start (if t then met placed.0 placed.1 (behind placed.1 flow.kept) flow
     else Through (done placed.1 [] flow.kept flow))) [
       | true ↦ λ (acted : is_acted flow.port placed.1 ≡ true). met_flowing b kept_a start flow
-          placed.0 placed.1 (behind placed.1 flow.kept) far acted refl f
+          placed.0 placed.1 (behind placed.1 flow.kept) far has acted refl f
       | false ↦ λ (other : is_acted flow.port placed.1 ≡ false). other_flowing b kept_a start flow
           placed.1 other f
     ] refl
@@ -130,13 +136,14 @@ on_flowing b kept_a start more (Undetected told e) next h = h
 
 come_flowing :
     (b : PortState) (kept_a : List Event) (start : Queues) (events : List (ℕ × Event)) (flow : Flow)
-    → IsPort b → IsFlowing b kept_a start flow → AreFlowing b kept_a start (come events flow)
+    → IsPort b → All HasAckAt events → IsFlowing b kept_a start flow
+    → AreFlowing b kept_a start (come events flow)
 unfolding come
-come_flowing b kept_a start [] flow far f = f
-come_flowing b kept_a start (placed ∷ events) flow far f =
+come_flowing b kept_a start [] flow far has f = f
+come_flowing b kept_a start (placed ∷ events) flow far has f =
     on_flowing b kept_a start (come events) (comes flow placed)
-    (λ next h. come_flowing b kept_a start events next far h)
-    (comes_flowing b kept_a start flow placed far f)
+    (λ next h. come_flowing b kept_a start events next far (All-tail HasAckAt placed events has) h)
+    (comes_flowing b kept_a start flow placed far (All-head HasAckAt placed events has) f)
 
 after_bounded : (from : Place) (chars : List Char) → IsBounded from.text
     → IsBounded (place_after from chars).text
@@ -163,7 +170,8 @@ pub delivered_flowing :
 delivered_flowing a b kept_a kept_b chars near far sound =
     ended_flowing b kept_a (queues_between a b) (place_after a.place chars) _
     (come (run a.place 0 chars) (begun a kept_b)) (after_bounded a.place chars near.bounded)
-    (come_flowing b kept_a (queues_between a b) (run a.place 0 chars) (begun a kept_b) far (record {
+    (come_flowing b kept_a (queues_between a b) (run a.place 0 chars) (begun a kept_b) far
+    (run_has a.place 0 chars) (record {
       port = near;
       sound = subst (λ (l : List Event). IsSound a b l kept_b) (sym (append-nil kept_a)) sound;
       walks = Stays;

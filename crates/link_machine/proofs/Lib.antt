@@ -1,5 +1,7 @@
 pub mod Walking
+pub mod Arriving
 pub mod Flowing
+pub mod Telling
 pub mod Turning
 pub mod Machine
 pub mod Serving

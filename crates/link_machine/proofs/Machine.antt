@@ -1,12 +1,14 @@
 -- Each call of a link keeps it sound, and its notes are steps of plain queues.
-use Rattle.std.proofs.Common.{◌≡◌, ◌≢◌, ℕ, ◌++◌, true, false, List, [], ◌∷◌, map, take, None, refl, sym, ap, ◌∙◌, subst, if◌then◌else◌}
+use Rattle.std.proofs.Common.{◌≡◌, ◌≢◌, ℕ, ◌++◌, Bool, true, false, List, [], ◌∷◌, map, take, None, refl, sym, ap, ◌∙◌, subst, if◌then◌else◌}
 use Rattle.std.proofs.lemmas.List.{append-nil}
 use Rattle.rio_chars.specs.declared.chars.Char.{Char}
 use Rattle.link_port.specs.Prelude.{Event, PortState, IsPort, new_port}
 use Rattle.link_model.specs.Output as out
 use Rattle.link_sound.specs.Histories.{AreBuffers}
 use Rattle.link_sound.specs.Sound.{IsSound}
-use Rattle.link_sound.proofs.Steps.{exchanged, begins, time_out_keeps}
+use Rattle.link_sound.proofs.Steps.{exchanged, begins, tell_keeps, time_out_keeps}
+use Rattle.link_sound.specs.Told.{IsTold}
+use Rattle.link_sound.proofs.Told as telling
 use Rattle.link_sound.proofs.PortBounds.{time_out_port, new_is_port}
 use Rattle.link_sound.proofs.Promises.{not_failed}
 use Rattle.link_watch.specs.Sides.{other_side}
@@ -18,15 +20,16 @@ use Rattle.link_wires.specs.declared.edits.Edit.{Edit}
 use Rattle.link_wires.specs.declared.moves.Move.{Move}
 use Rattle.link_wires.specs.declared.moves.Move.TheVariants.{Held, Freed}
 use Rattle.link_machine.specs.States.{LinkState, link, empty_wires, turned_round, at_end, from_end}
-use Rattle.link_machine.specs.Calls.{sent_notes, first_turns, pumped, delivery, after_delivery, first_takes, has_chars, delivery_from, delivered_from, move_note, told_notes, delivery_notes, first_edited, edited_from, is_silent, first_fires, timed_out_at}
+use Rattle.link_machine.specs.Calls.{sent_notes, first_turns, pumped, first_tells, told_from, delivery, after_delivery, first_takes, has_chars, delivery_from, delivered_from, move_note, told_notes, delivery_notes, first_edited, edited_from, is_silent, first_fires, timed_out_at}
 use Rattle.link_machine.specs.Layer.{IsServed, with_port}
 use Rattle.link_machine.specs.Queues.{Queues, queues_of, queues_between, queues_round, Step, steps_at, Walks, steps_of}
 use Rattle.link_machine.specs.Queues.Walks.{Ends}
 use Rattle.link_machine.specs.Runs.{IsRun}
-use Rattle.link_machine.specs.Runs.IsRun.{Rests, Pumps, Delivers, Edits, TimesOut, Serves}
+use Rattle.link_machine.specs.Runs.IsRun.{Rests, Pumps, Tells, Delivers, Edits, TimesOut, Serves}
 use Rattle.link_machine.specs.Sound.{IsSoundLink}
 use Rattle.link_machine.proofs.Flowing.{AreFlowing, delivered_flowing}
-use Rattle.link_machine.proofs.Turning.{turned_port, turned_keeps, turned_stays, time_out_moves_none, edit_keeps, served_keeps}
+use Rattle.link_machine.proofs.Telling.{AreTelling, delivered_telling}
+use Rattle.link_machine.proofs.Turning.{turned_port, turned_keeps, turned_told, turned_stays, time_out_moves_none, edit_keeps, served_keeps, served_told}
 use Rattle.link_machine.proofs.Walking.{FirstWalks, walks_at}
 
 pub round_keeps : (s : LinkState) → IsSoundLink s → IsSoundLink (turned_round s)
@@ -34,6 +37,8 @@ round_keeps s l = record {
   port_a = l.port_b;
   port_b = l.port_a;
   sound = exchanged s.a s.b s.wire_a.kept s.wire_b.kept l.sound;
+  told_b = l.told_a;
+  told_a = l.told_b;
 }
 
 pub from_end_keeps : (side : Side) (s : LinkState) → IsSoundLink s → IsSoundLink (from_end side s)
@@ -58,11 +63,15 @@ at_end_stays B does s stays l = ap queues_round (stays (turned_round s) (round_k
 -- ---- turns
 
 turns_keep : (n : ℕ) (s : LinkState) → IsSoundLink s → IsSoundLink (first_turns n s)
-turns_keep n s l = record {
-  port_a = turned_port n s.a l.port_a;
-  port_b = l.port_b;
-  sound = turned_keeps n s.a s.b s.wire_a.kept s.wire_b.kept l.port_a l.sound;
-}
+turns_keep n s l =
+    let told = turned_told n s.a s.b s.wire_a.kept s.wire_b.kept l.port_a l.told_b l.told_a in
+    record {
+      port_a = turned_port n s.a l.port_a;
+      port_b = l.port_b;
+      sound = turned_keeps n s.a s.b s.wire_a.kept s.wire_b.kept l.port_a l.sound;
+      told_b = told.0;
+      told_a = told.1;
+    }
 
 pub pump_keeps : (from : Side) (n : ℕ) (s : LinkState) → IsSoundLink s
     → IsSoundLink (pumped from n s)
@@ -74,6 +83,24 @@ pump_moves_none from n s l =
     at_end_stays from (first_turns n) s
     (λ t is. turned_stays n t.a t.b t.wire_a.kept t.wire_b.kept is.port_a is.sound) l
 
+-- ---- statuses
+
+tells_keep : (s : LinkState) → IsSoundLink s → IsSoundLink (first_tells s)
+tells_keep s l = record {
+  port_a = l.port_a;
+  port_b = l.port_b;
+  sound = tell_keeps s.a s.b s.wire_a.kept s.wire_b.kept l.sound;
+  told_b = telling.tell_keeps s.a s.b s.wire_a.kept l.port_a l.told_b;
+  told_a = l.told_a;
+}
+
+pub told_keeps : (from : Side) (s : LinkState) → IsSoundLink s → IsSoundLink (told_from from s)
+told_keeps from s l = at_end_keeps from first_tells s tells_keep l
+
+pub told_moves_none : (from : Side) (s : LinkState) → queues_of (told_from from s) ≡ queues_of s
+told_moves_none A s = refl
+told_moves_none B s = refl
+
 -- ---- deliveries
 
 flowing : (count : ℕ) (s : LinkState) → IsSoundLink s
@@ -83,12 +110,21 @@ flowing count s l =
     l.port_b l.sound
 
 takes_keep : (count : ℕ) (s : LinkState) → IsSoundLink s → IsSoundLink (first_takes count s)
-takes_keep count s l = by_delivery (delivery count s) (flowing count s l)
+takes_keep count s l =
+    by_delivery (delivery count s) (flowing count s l)
+    (delivered_telling s.a s.b s.wire_a.kept s.wire_b.kept (take count s.wire_b.chars) l.port_a
+    l.port_b l.sound l.told_b l.told_a)
   where
     by_delivery : (d : Delivered) → AreFlowing s.b s.wire_a.kept (queues_of s) d
-        → IsSoundLink (after_delivery count d s)
-    by_delivery (Through flow) f = record { port_a = f.port; port_b = l.port_b; sound = f.sound }
-    by_delivery (Undetected told e) f = l
+        → AreTelling s.b s.wire_a.kept d → IsSoundLink (after_delivery count d s)
+    by_delivery (Through flow) f t = record {
+      port_a = f.port;
+      port_b = l.port_b;
+      sound = f.sound;
+      told_b = t.told_b;
+      told_a = t.told_a;
+    }
+    by_delivery (Undetected told e) f t = l
 
 pub delivery_keeps : (from : Side) (count : ℕ) (s : LinkState) → IsSoundLink s
     → IsSoundLink (delivered_from from count s)
@@ -201,6 +237,9 @@ edit_first edit s l = record {
   sound =
       subst (λ (kept : List Event). IsSound s.a s.b kept s.wire_b.kept)
       (sym (edit_keeps edit s.wire_a)) l.sound;
+  told_b =
+      subst (λ (kept : List Event). IsTold s.b s.a kept) (sym (edit_keeps edit s.wire_a)) l.told_b;
+  told_a = l.told_a;
 }
 
 pub edited_keeps : (from : Side) (edit : Edit) (s : LinkState) → IsSoundLink s
@@ -213,11 +252,15 @@ edit_moves_none A edit s = refl
 edit_moves_none B edit s = refl
 
 fires_keep : (s : LinkState) → IsSoundLink s → IsSoundLink (first_fires s)
-fires_keep s l = record {
-  port_a = time_out_port s.a l.port_a;
-  port_b = l.port_b;
-  sound = time_out_keeps s.a s.b s.wire_a.kept s.wire_b.kept l.sound;
-}
+fires_keep s l =
+    let told = telling.time_out_keeps s.a s.b s.wire_a.kept s.wire_b.kept l.told_b l.told_a in
+    record {
+      port_a = time_out_port s.a l.port_a;
+      port_b = l.port_b;
+      sound = time_out_keeps s.a s.b s.wire_a.kept s.wire_b.kept l.sound;
+      told_b = told.0;
+      told_a = told.1;
+    }
 
 pub fired_keeps : (side : Side) (s : LinkState) → IsSoundLink s → IsSoundLink (timed_out_at side s)
 fired_keeps side s l =
@@ -236,30 +279,35 @@ fire_moves_none side s =
     (λ b. queues_of (if b then at_end side first_fires s else s) ≡ queues_of s)
     [ true ↦ fire_stays side s | false ↦ refl ]
 
+served_first : (next : PortState) (s : LinkState) → IsPort next → IsServed s.a next
+    → IsSoundLink s → IsSoundLink (record s { a = next })
+served_first next s is served l =
+    let told = served_told s.a next s.b s.wire_a.kept s.wire_b.kept served l.told_b l.told_a in
+    record {
+      port_a = is;
+      port_b = l.port_b;
+      sound = served_keeps s.a next s.b s.wire_a.kept s.wire_b.kept l.port_a.covered served l.sound;
+      told_b = told.0;
+      told_a = told.1;
+    }
+
 pub layer_keeps : (side : Side) (next : PortState) (s : LinkState) → IsPort next
     → IsServed (from_end side s).a next → IsSoundLink s → IsSoundLink (with_port side next s)
-layer_keeps A next s is served l = record {
-  port_a = is;
-  port_b = l.port_b;
-  sound = served_keeps s.a next s.b s.wire_a.kept s.wire_b.kept l.port_a.covered served l.sound;
-}
+layer_keeps A next s is served l = served_first next s is served l
 layer_keeps B next s is served l =
-    let t = turned_round s in
-    let m = round_keeps s l in
-    round_keeps (record t { a = next }) (record {
-      port_a = is;
-      port_b = m.port_b;
-      sound = served_keeps t.a next t.b t.wire_a.kept t.wire_b.kept m.port_a.covered served m.sound;
-    })
+    round_keeps (record (turned_round s) { a = next })
+    (served_first next (turned_round s) is served (round_keeps s l))
 
 -- ---- new links, and what never happens
 
-pub new_sound : (m n : ℕ) → AreBuffers m → AreBuffers n
-    → IsSoundLink (link empty_wires (new_port m) (new_port n))
-new_sound m n first second = record {
-  port_a = new_is_port m first;
-  port_b = new_is_port n second;
+pub new_sound : (tells_a tells_b : Bool) (m n : ℕ) → AreBuffers m → AreBuffers n
+    → IsSoundLink (link empty_wires (new_port tells_a m) (new_port tells_b n))
+new_sound tells_a tells_b m n first second = record {
+  port_a = new_is_port tells_a m first;
+  port_b = new_is_port tells_b n second;
   sound = record { a_to_b = begins _ _ _ refl refl; b_to_a = begins _ _ _ refl refl };
+  told_b = telling.new_told tells_b tells_a n m;
+  told_a = telling.new_told tells_a tells_b m n;
 }
 
 pub none_failed : (s : LinkState) → IsSoundLink s
@@ -276,6 +324,7 @@ pub run_keeps : {s end : LinkState} {notes : List Note} → IsRun s notes end �
     → IsSoundLink end
 run_keeps Rests l = l
 run_keeps (Pumps {s = s} from turns run) l = run_keeps run (pump_keeps from turns s l)
+run_keeps (Tells {s = s} from run) l = run_keeps run (told_keeps from s l)
 run_keeps (Delivers {s = s} from count sent run) l = run_keeps run (delivery_keeps from count s l)
 run_keeps (Edits {s = s} from edit run) l = run_keeps run (edited_keeps from edit s l)
 run_keeps (TimesOut {s = s} side run) l = run_keeps run (fired_keeps side s l)

@@ -1,6 +1,6 @@
 -- Turns, time-outs, edits and the layer above keep a link sound, and none of them but the layer
 -- above moves a packet.
-use Rattle.std.proofs.Common.{◌≡◌, ℕ, zero, suc, ◌<◌, ◌≤◌, ◌==◌, ◌++◌, cond, true, false, List, [], ◌∷◌, map, length, take, drop, inl, inr, refl, sym, ap, ◌∙◌, subst, if◌then◌else◌, append_assoc, arith}
+use Rattle.std.proofs.Common.{◌≡◌, ℕ, zero, suc, ◌<◌, ◌≤◌, ◌==◌, ◌++◌, cond, true, false, IfSome, List, All, [], ◌∷◌, map, length, take, drop, inl, inr, refl, sym, ap, ◌∙◌, subst, if◌then◌else◌, append_assoc, arith}
 use Rattle.std.proofs.lemmas.Bool.Decides.{eqb_tells}
 use Rattle.std.proofs.lemmas.List.{append-nil, take-append-le, drop-append-le}
 use Rattle.link_buffers.specs.Prelude.{list_at, popped, Covers, packets_of, highest}
@@ -10,6 +10,8 @@ use Rattle.link_port.specs.Prelude.{Event, PortState, IsPort, turns_to, turn_sen
 use Rattle.link_sound.specs.Meanings.{forward, backward}
 use Rattle.link_sound.specs.Between.{IsBetween}
 use Rattle.link_sound.specs.Sound.{IsSound}
+use Rattle.link_sound.specs.Told.{last_report, TellsAs, IsTold}
+use Rattle.link_sound.proofs.Told as telling
 use Rattle.link_sound.proofs.Freed.{turn_stays, time_out_stays}
 use Rattle.link_sound.proofs.Steps.{turn_keeps}
 use Rattle.link_sound.proofs.PortBounds.{turn_port}
@@ -34,13 +36,31 @@ turned_keeps (suc n) a b kept_a kept_b is s =
     (turned_keeps n (turns_to a) b (kept_a ++ (turn_sends a).sent) kept_b (turn_port a is)
     (turn_keeps a b kept_a kept_b is.covered s))
 
+-- and what either port tells of its free buffers
+pub turned_told :
+    (n : ℕ) (a b : PortState) (kept_a kept_b : List Event) → IsPort a
+    → IsTold b a kept_a → IsTold a b kept_b
+    → IsTold b (turned n a) (kept_a ++ (bursts n a).sent) × IsTold (turned n a) b kept_b
+unfolding turned bursts
+turned_told zero a b kept_a kept_b is ahead back =
+    (subst (λ (l : List Event). IsTold b a l) (sym (append-nil kept_a)) ahead, back)
+turned_told (suc n) a b kept_a kept_b is ahead back =
+    let first = telling.turn_keeps a b kept_a kept_b is ahead back in
+    let rest =
+    turned_told n (turns_to a) b (kept_a ++ (turn_sends a).sent) kept_b (turn_port a is) first.0
+    first.1 in (
+      subst (λ (l : List Event). IsTold b (turned n (turns_to a)) l)
+          (append_assoc kept_a (turn_sends a).sent (bursts n (turns_to a)).sent) rest.0,
+      rest.1,
+    )
+
 pub turned_stays : (n : ℕ) (a b : PortState) (kept_a kept_b : List Event) → IsPort a
     → IsSound a b kept_a kept_b → queues_between (turned n a) b ≡ queues_between a b
 unfolding turned
 turned_stays zero a b kept_a kept_b is s = refl
 turned_stays (suc n) a b kept_a kept_b is s =
     let stays =
-    turn_stays a.output (highest (waiting_in a)) b.input a.queued (map forward kept_a)
+    turn_stays a.tells a.output (highest (waiting_in a)) b.input a.queued (map forward kept_a)
     (map backward kept_b) is.covered s.a_to_b in
     turned_stays n (turns_to a) b (kept_a ++ (turn_sends a).sent) kept_b (turn_port a is)
     (turn_keeps a b kept_a kept_b is.covered s)
@@ -119,3 +139,21 @@ served_keeps a next b kept_a kept_b covers served s =
           subst (λ i. IsBetween b.output i b.queued (map forward kept_b) (map backward kept_a))
           served.alike.3 s.b_to_a;
     }
+
+pub served_told :
+    (a next b : PortState) (kept_a kept_b : List Event) → IsServed a next → IsTold b a kept_a
+    → IsTold a b kept_b → IsTold b next kept_a × IsTold next b kept_b
+served_told a next b kept_a kept_b served ahead back =
+    let same = served.alike.4 in (
+      record {
+        coming = subst (λ t. All (TellsAs t) kept_a) same ahead.coming;
+        keeps =
+            subst (λ t. IfSome (last_report b.output) (λ report. t ≡ true)) same ahead.keeps;
+      },
+      record {
+        coming = back.coming;
+        keeps =
+            subst (λ o. IfSome (last_report o) (λ report. b.tells ≡ true)) served.alike.2
+            back.keeps;
+      },
+    )

@@ -1,7 +1,7 @@
 -- What each call of a link does to it, and what it notes.
 use Rattle.std.specs.Prelude.{ℕ, nat_le, Bool, true, false, ◌&&◌, ◌++◌, List, [], ◌∷◌, length, map, take, if◌then◌else◌}
 use Rattle.rio_chars.specs.declared.chars.Char.{Char}
-use Rattle.link_port.specs.Turns.{timed_out}
+use Rattle.link_port.specs.Turns.{tell_sends, timed_out}
 use Rattle.link_watch.specs.Sides.{other_side}
 use Rattle.link_watch.specs.declared.note.Note.{Note}
 use Rattle.link_watch.specs.declared.note.Note.TheVariants.{Sent, Got, Hold, Free, Fire}
@@ -29,6 +29,18 @@ pumped from n = at_end from (first_turns n)
 
 abbrev pub pump_notes : Side → ℕ → LinkState → List Note
 pump_notes from n s = sent_notes from (bursts n (from_end from s).a).chars
+
+-- ---- statuses
+
+-- the first port tells its free buffers, if it does, and its status goes on its wire
+abbrev pub first_tells : LinkState → LinkState
+first_tells s = record s { wire_a = with_sent s.wire_a (tell_sends s.a) }
+
+abbrev pub told_from : Side → LinkState → LinkState
+told_from from = at_end from first_tells
+
+abbrev pub tell_notes : Side → LinkState → List Note
+tell_notes from s = sent_notes from (tell_sends (from_end from s).a).chars
 
 -- ---- deliveries
 

@@ -13,4 +13,4 @@ pub use Rattle.link_wires.specs.declared.moves.Move.TheVariants.{Held, Freed}
 pub use Rattle.link_machine.specs.States.{LinkState, Wires, link, from_end, at_end, turned_round}
 pub use Rattle.link_machine.specs.Sound.{IsSoundLink}
 pub use Rattle.link_machine.specs.Queues.{Queues, Walks, queues_of}
-pub use Rattle.link_machine.specs.Calls.{has_none, has_chars, is_silent, first_takes, pumped, delivery_from, delivered_from, timed_out_at, sent_notes, pump_notes, delivery_notes, told_notes, move_note, time_out_notes}
+pub use Rattle.link_machine.specs.Calls.{has_none, has_chars, is_silent, first_takes, pumped, told_from, tell_notes, delivery_from, delivered_from, timed_out_at, sent_notes, pump_notes, delivery_notes, told_notes, move_note, time_out_notes}

@@ -6,7 +6,7 @@ use Rattle.link_watch.specs.declared.side.Side.{Side}
 use Rattle.link_wires.specs.Deliveries.{undetected}
 use Rattle.link_wires.specs.declared.edits.Edit.{Edit}
 use Rattle.link_machine.specs.States.{LinkState, from_end}
-use Rattle.link_machine.specs.Calls.{pumped, pump_notes, delivery_from, delivered_from, delivery_notes, edited_from, timed_out_at, time_out_notes}
+use Rattle.link_machine.specs.Calls.{pumped, pump_notes, told_from, tell_notes, delivery_from, delivered_from, delivery_notes, edited_from, timed_out_at, time_out_notes}
 use Rattle.link_machine.specs.Layer.{IsServed, with_port}
 
 -- From a link on, with the notes of the calls in order. Nothing follows a delivery with an event
@@ -15,6 +15,8 @@ pub data IsRun : LinkState → List Note → LinkState → Type 0 where
   Rests : {s : LinkState} → IsRun s [] s
   Pumps : {s end : LinkState} {notes : List Note} (from : Side) (turns : ℕ)
       → IsRun (pumped from turns s) notes end → IsRun s (pump_notes from turns s ++ notes) end
+  Tells : {s end : LinkState} {notes : List Note} (from : Side)
+      → IsRun (told_from from s) notes end → IsRun s (tell_notes from s ++ notes) end
   Delivers : {s end : LinkState} {notes : List Note} (from : Side) (count : ℕ)
       → undetected (delivery_from from count s) ≡ None
       → IsRun (delivered_from from count s) notes end

@@ -1,5 +1,5 @@
 //! The law of a link, of its states alone. The calls do nothing: their clauses are the laws.
-ghost use Rattle.std.specs.Prelude.{◌≡◌, ◌≢◌, ◌<◌, ℕ, List, None};
+ghost use Rattle.std.specs.Prelude.{◌≡◌, ◌≢◌, ◌<◌, ℕ, Bool, List, None};
 ghost use Rattle.link_buffers.specs.Queues.{appended, popped};
 ghost use Rattle.link_model.specs.Output as out;
 ghost use Rattle.link_port.specs.Ports.{PortState, IsPort, AreAlike, new_port};
@@ -8,7 +8,7 @@ ghost use Rattle.link_watch.specs.declared.note.Note.{Note};
 ghost use Rattle.link_watch.specs.declared.side.Side.{Side};
 ghost use Rattle.link_wires.specs.Deliveries.{undetected};
 ghost use Rattle.link_wires.specs.declared.edits.Edit.{Edit};
-ghost use Rattle.link_machine.specs.Calls.{pumped, delivery_from, delivered_from, delivery_notes, edited_from, timed_out_at};
+ghost use Rattle.link_machine.specs.Calls.{pumped, told_from, delivery_from, delivered_from, delivery_notes, edited_from, timed_out_at};
 ghost use Rattle.link_machine.specs.Layer.{IsServed, with_port};
 ghost use Rattle.link_machine.specs.OnTheWay.{reached_within};
 ghost use Rattle.link_machine.specs.Queues.{Queues, queues_of, Walks, steps_of};
@@ -18,14 +18,15 @@ ghost use Rattle.link_machine.specs.States.{LinkState, link, empty_wires, from_e
 
 /// A new link with two new ports is sound.
 pub fn links_begin_sound()
-    ensures { (m n : ℕ) → AreBuffers m → AreBuffers n
-        → IsSoundLink (link empty_wires (new_port m) (new_port n)) }
+    ensures { (tells_a tells_b : Bool) (m n : ℕ) → AreBuffers m → AreBuffers n
+        → IsSoundLink (link empty_wires (new_port tells_a m) (new_port tells_b n)) }
 {}
 
 /// Each call keeps a link sound, whatever is lost, altered, inserted or late.
 pub fn calls_keep_it()
     ensures pump { (from : Side) (turns : ℕ) (s : LinkState) → IsSoundLink s
         → IsSoundLink (pumped from turns s) }
+    ensures tell { (from : Side) (s : LinkState) → IsSoundLink s → IsSoundLink (told_from from s) }
     ensures deliver { (from : Side) (count : ℕ) (s : LinkState) → IsSoundLink s
         → IsSoundLink (delivered_from from count s) }
     ensures edit { (from : Side) (edit : Edit) (s : LinkState) → IsSoundLink s
@@ -72,10 +73,12 @@ pub fn deliveries_hold_and_free_in_order()
         → (end : Queues) × Walks (queues_of s) (steps_of (delivery_notes from count s)) end }
 {}
 
-/// Turns, edits and time-outs move no packet: what is to be sent again has waited all the time.
+/// Turns, statuses, edits and time-outs move no packet: what is to be sent again has waited all the
+/// time.
 pub fn nothing_else_moves()
     ensures pump { (from : Side) (turns : ℕ) (s : LinkState) → IsSoundLink s
         → queues_of (pumped from turns s) ≡ queues_of s }
+    ensures tell { (from : Side) (s : LinkState) → queues_of (told_from from s) ≡ queues_of s }
     ensures edit { (from : Side) (edit : Edit) (s : LinkState)
         → queues_of (edited_from from edit s) ≡ queues_of s }
     ensures time_out { (side : Side) (s : LinkState)

@@ -4,8 +4,8 @@
 //! The crate has no running code. `specs` has the definitions:
 //!
 //! - `States`: a link and its ports;
-//! - `Calls`: what turns, a delivery, an edit and a time-out make of it, and what they are noted
-//!   as; `OnTheWay`: a port between the events of a delivery;
+//! - `Calls`: what turns, a status, a delivery, an edit and a time-out make of it, and what they
+//!   are noted as; `OnTheWay`: a port between the events of a delivery;
 //! - `Sound`: what stays true;
 //! - `Queues`: packets as plain first-in first-out queues;
 //! - `Layer`: what the layer above does to a port;

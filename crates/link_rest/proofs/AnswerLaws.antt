@@ -1,8 +1,8 @@
 -- What ports answer says nothing to a receiver: answers have no answer.
-use Rattle.std.proofs.Common.{◌≡◌, ℕ, ◌<◌, Option, Some, None, option_to_list, List, [], ◌∷◌, ◌++◌, refl, ap, ◌∙◌, arith, append_assoc}
-use Rattle.link_model.specs.Prelude.{Fields, number_of, prio_of, Input, Arrival, packet_arrival, symbol_arrival, receives, run, place, place_after, Text, Plain, Skipped, Within}
-use Rattle.link_buffers.specs.Queues.{room_for}
-use Rattle.link_port.specs.Prelude.{Event, Ctl, Pkt, Bad, Pending, Nothing, Opened, One, Two, PortState, expected_of, acts, replies}
+use Rattle.std.proofs.Common.{◌≡◌, ℕ, ◌<◌, Bool, true, false, Option, Some, None, option_to_list, List, [], ◌∷◌, ◌++◌, refl, sym, ap, ◌∙◌, subst, arith, append_assoc}
+use Rattle.link_model.specs.Prelude.{Fields, number_of, Input, Arrival, symbol_arrival, receives, run, place, place_after, Text, Plain, Skipped, Within}
+use Rattle.link_buffers.specs.Queues.{Buffered, stored}
+use Rattle.link_port.specs.Prelude.{Event, Ctl, Pkt, Bad, Pending, Nothing, Opened, One, Two, PortState, IsPort, expected_of, acts, replies}
 use Rattle.link_model.specs.Input as in_half
 use Rattle.link_model.specs.Places.{broken_off, begins_in, opened}
 use Rattle.link_model.specs.Reading.{text_after, told}
@@ -14,14 +14,34 @@ use Rattle.link_rest.proofs.SaidLaws.{reads, prepended, symbol_reads}
 
 -- ---- what a port answers
 
--- the expected ackID stays one of five bits
-pub acts_below : (p : PortState) (e : Event) → expected_of p.input < 32
+-- the expected ackID and the number of buffers have five bits
+abbrev pub IsNarrow : PortState → Type 0
+IsNarrow p = (expected_of p.input < 32) × (p.received.buffers < 32)
+
+pub port_narrow : (p : PortState) → IsPort p → IsNarrow p
+port_narrow p is = let most = is.receives.most in (is.expected_ack, omega arith)
+
+acts_below : (p : PortState) (e : Event) → expected_of p.input < 32
     → expected_of (acts p e).port.input < 32
 acts_below p (Ctl s) below = expected_below (symbol_arrival s.s1 s.cmd) p.input below
 acts_below p (Pkt ack packet) below =
-    expected_below (packet_arrival (expected_of p.input) ack (room_for p.received (prio_of packet)))
-    p.input below
+    expected_below _ p.input below
 acts_below p (Bad cause) below = expected_below (Arrival.Damaged (number_of cause)) p.input below
+
+stored_buffers : (held : Bool) (store : Buffered) (packet : List ℕ)
+    → (stored held store packet).buffers ≡ store.buffers
+stored_buffers true store packet = refl
+stored_buffers false store packet = refl
+
+acts_buffers : (p : PortState) (e : Event) → (acts p e).port.received.buffers ≡ p.received.buffers
+acts_buffers p (Ctl s) = refl
+acts_buffers p (Pkt ack packet) = stored_buffers _ p.received packet
+acts_buffers p (Bad cause) = refl
+
+-- they stay so
+pub acts_narrow : (p : PortState) (e : Event) → IsNarrow p → IsNarrow (acts p e).port
+acts_narrow p e narrow =
+    (acts_below p e narrow.0, subst (λ (n : ℕ). n < 32) (sym (acts_buffers p e)) narrow.1)
 
 one_more : (o : Option Fields) (ss : List Fields) → IsReply o → AreAnswers ss
     → AreAnswers (option_to_list o ++ ss)
@@ -30,13 +50,12 @@ one_more None ss is are = are
 one_more (Some s) ss is are = (is, are)
 
 -- Whatever comes, a port answers with answers.
-pub replies_answer : (p : PortState) (es : List Event) → expected_of p.input < 32
-    → AreAnswers (replies p es)
+pub replies_answer : (p : PortState) (es : List Event) → IsNarrow p → AreAnswers (replies p es)
 unfolding replies AreAnswers
-replies_answer p [] below = tt
-replies_answer p (e ∷ es) below =
-    one_more (acts p e).reply (replies (acts p e).port es) (reply_answers p e below)
-    (replies_answer (acts p e).port es (acts_below p e below))
+replies_answer p [] narrow = tt
+replies_answer p (e ∷ es) narrow =
+    one_more (acts p e).reply (replies (acts p e).port es) (reply_answers p e narrow.0 narrow.1)
+    (replies_answer (acts p e).port es (acts_narrow p e narrow))
 
 pub AreAnswers-append : (xs ys : List Fields) → AreAnswers xs → AreAnswers ys
     → AreAnswers (xs ++ ys)

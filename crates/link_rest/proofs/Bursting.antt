@@ -1,15 +1,15 @@
 -- What a port sends, read by a receiver at rest, is what was sent, also if the receiver skips data.
-use Rattle.std.proofs.Common.{◌≡◌, ℕ, zero, suc, true, List, [], ◌∷◌, ◌++◌, map, Option, Some, None, slice_get, refl, ap, ◌∙◌}
+use Rattle.std.proofs.Common.{◌≡◌, ℕ, zero, suc, Bool, true, false, if◌then◌else◌, List, [], ◌∷◌, ◌++◌, map, Option, Some, None, slice_get, refl, ap, ◌∙◌}
 use Rattle.rio_symbols.specs.Delimiters.{delimiter_of}
 use Rattle.link_model.specs.Places.{Step, rests_by}
-use Rattle.link_model.specs.Prelude.{Char, Fields, Delimiter, Sc, Pd, Place, place, start, step, at_rest, placed, run, place_after, said, Text, Plain, Skipped, Within, Sends, symbol_bytes, data_chars, symbol_chars_of, packet_chars_of, start_of_packet, end_of_packet}
+use Rattle.link_model.specs.Prelude.{Char, Fields, Delimiter, Sc, Pd, Place, place, start, step, at_rest, placed, run, place_after, said, Text, Plain, Skipped, Within, Sends, symbol_bytes, data_chars, symbol_chars_of, packet_chars_of, status, start_of_packet, end_of_packet}
 use Rattle.link_model.specs.ReadingKinds.{kind}
 use Rattle.link_model.specs.ReadingSpelt.{delimiter_char, bytes_with_ack}
 use Rattle.link_model.proofs.PlacesLaws.{place_after-append}
 use Rattle.link_buffers.specs.Queues.{list_at}
-use Rattle.link_port.specs.Prelude.{Event, Pending, Nothing, Opened, One, Two, PortState, IsPort, expected_of}
+use Rattle.link_port.specs.Prelude.{Event, Pending, Nothing, Opened, One, Two, PortState, IsPort, standing, symbol_burst, tell_sends}
 use Rattle.link_port.specs.Turns.{Burst, IsRead, no_burst, packet_burst, burst_of, turn_of, turn_sends, turns_to, waiting_in}
-use Rattle.link_port.proofs.SentReads.{turn_read}
+use Rattle.link_port.proofs.SentReads.{none_read, standing_range, status_read, turn_read}
 use Rattle.link_sound.proofs.PortBounds.{turn_port}
 use Rattle.link_wires.specs.Wires.{both_bursts, turned, bursts, answers}
 use Rattle.link_rest.specs.Led.{AreAnswers, chars_of, controls}
@@ -30,10 +30,6 @@ both_read first next one two = record {
       ∙ two.rests;
 }
 
-none_read : IsRead no_burst
-unfolding run place_after
-none_read = record { says = refl; rests = refl }
-
 -- what turns send
 pub turns_read : (n : ℕ) (port : PortState) → IsPort port → IsRead (bursts n port)
 unfolding bursts
@@ -41,6 +37,16 @@ turns_read zero port is = none_read
 turns_read (suc n) port is =
     both_read (turn_sends port) (bursts n (turns_to port)) (turn_read port is)
     (turns_read n (turns_to port) (turn_port port is))
+
+-- what a port sends that tells its free buffers
+pub tell_read : (port : PortState) → IsPort port → IsRead (tell_sends port)
+tell_read port is = by port.tells
+  where
+    by : (b : Bool) → IsRead (if b
+        then symbol_burst (status (standing port).expected (standing port).buffers)
+        else no_burst)
+    by true = status_read (standing port) (standing_range port is)
+    by false = none_read
 
 -- what answers send
 pub answers_are_read : (replies : List Fields) → AreAnswers replies → IsRead (answers replies)
@@ -74,26 +80,36 @@ symbol_delimited : (symbol : Fields) → IsDelimited (symbol_chars_of symbol)
 unfolding symbol_chars_of
 symbol_delimited symbol = BeginsWith (delimiter_of symbol) (data_chars (symbol_bytes symbol))
 
-packet_delimited : (expected ack : ℕ) (found : Option (List ℕ))
-    → IsDelimited (packet_burst expected ack found).chars
+packet_delimited : (port : PortState) (ack : ℕ) (found : Option (List ℕ))
+    → IsDelimited (packet_burst (standing port) ack found).chars
 unfolding packet_chars_of symbol_chars_of
-packet_delimited expected ack None = IsEmpty
-packet_delimited expected ack (Some packet) =
-    let first = start_of_packet expected in
+packet_delimited port ack None = IsEmpty
+packet_delimited port ack (Some packet) =
+    let first = start_of_packet (standing port).expected (standing port).buffers in
+    let last = end_of_packet (standing port).expected (standing port).buffers in
     BeginsWith (delimiter_of first) (data_chars (symbol_bytes first)
-    ++ (data_chars (bytes_with_ack ack packet) ++ symbol_chars_of (end_of_packet expected)))
+    ++ (data_chars (bytes_with_ack ack packet) ++ symbol_chars_of last))
 
-burst_delimited : (sends : Sends) (expected : ℕ) (waiting : List (List (List ℕ)))
-    → IsDelimited (burst_of sends expected waiting).chars
-burst_delimited (Sends.Packet ack prio) expected waiting =
-    packet_delimited expected ack (slice_get (list_at waiting prio) 0)
-burst_delimited Sends.Restart expected waiting = symbol_delimited _
-burst_delimited Sends.Request expected waiting = symbol_delimited _
-burst_delimited Sends.Nothing expected waiting = IsEmpty
+burst_delimited : (sends : Sends) (port : PortState) (waiting : List (List (List ℕ)))
+    → IsDelimited (burst_of sends (standing port) waiting).chars
+burst_delimited (Sends.Packet ack prio) port waiting =
+    packet_delimited port ack (slice_get (list_at waiting prio) 0)
+burst_delimited Sends.Restart port waiting = symbol_delimited _
+burst_delimited Sends.Request port waiting = symbol_delimited _
+burst_delimited Sends.Status port waiting = symbol_delimited _
+burst_delimited Sends.Nothing port waiting = IsEmpty
 
 turn_delimited : (port : PortState) → IsDelimited (turn_sends port).chars
-turn_delimited port =
-    burst_delimited (turn_of port).sends (expected_of port.input) (waiting_in port)
+turn_delimited port = burst_delimited (turn_of port).sends port (waiting_in port)
+
+pub tell_delimited : (port : PortState) → IsDelimited (tell_sends port).chars
+tell_delimited port = by port.tells
+  where
+    by : (b : Bool) → IsDelimited (if b
+        then symbol_burst (status (standing port).expected (standing port).buffers)
+        else no_burst).chars
+    by true = symbol_delimited _
+    by false = IsEmpty
 
 pub turns_delimited : (n : ℕ) (port : PortState) → IsDelimited (bursts n port).chars
 unfolding bursts

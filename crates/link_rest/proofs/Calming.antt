@@ -1,10 +1,10 @@
 -- Turns, deliveries and time-outs of a calm link act on nothing that was not sent, and leave it
 -- calm.
-use Rattle.std.proofs.Common.{◌≡◌, ℕ, ◌+◌, ◌++◌, ◌&&◌, Bool, true, false, if◌then◌else◌, List, [], ◌∷◌, map, length, take, drop, Option, Some, refl, sym, ap, ◌∙◌, subst}
+use Rattle.std.proofs.Common.{◌≡◌, ℕ, ◌+◌, ◌++◌, ◌&&◌, Bool, true, false, if◌then◌else◌, List, [], ◌∷◌, map, length, take, drop, Some, refl, sym, ap, ◌∙◌, subst}
 use Rattle.std.proofs.lemmas.List.{take-append-drop}
-use Rattle.link_model.specs.Prelude.{Char, Fields, Place, at_rest, run, place_after, said}
+use Rattle.link_model.specs.Prelude.{Char, Place, at_rest, run, place_after, said}
 use Rattle.link_model.proofs.PlacesLaws.{place_after-append}
-use Rattle.link_port.specs.Prelude.{Event, PortState, IsPort, is_acted}
+use Rattle.link_port.specs.Prelude.{Event, PortState, IsPort, is_acted, tell_sends}
 use Rattle.link_port.specs.Ports.{new_port}
 use Rattle.link_port.specs.Turns.{Burst, IsRead, timed_out}
 use Rattle.link_wires.specs.Deliveries.{Flow, Delivered, Through, begun, done, met, comes, goes_on, come, ended, delivered}
@@ -12,18 +12,18 @@ use Rattle.link_wires.specs.Kept.{behind, IsSubsequence}
 use Rattle.link_wires.specs.Wires.{WireState, with_sent, turned, bursts, answers, silenced}
 use Rattle.link_wires.proofs.Subsequences.{sub_none, sub_drop, sub-append, sub_behind}
 use Rattle.link_wires.proofs.Throughs.{through_place}
-use Rattle.link_machine.specs.Calls.{first_turns, pumped, delivery, after_delivery, first_takes, has_chars, has_none, is_silent, first_fires, timed_out_at}
+use Rattle.link_machine.specs.Calls.{first_turns, pumped, first_tells, told_from, delivery, after_delivery, first_takes, has_chars, has_none, is_silent, first_fires, timed_out_at}
 use Rattle.link_machine.specs.Layer.{IsServed, with_port}
 use Rattle.link_machine.specs.Prelude.{Side, A, B, IsSoundLink, LinkState, turned_round, at_end, from_end}
 use Rattle.link_machine.specs.States.{link, empty_wires}
-use Rattle.link_rest.specs.Acts.{Act, Pump, Deliver, Fire, Reached, At, OnState, reached_by, after, goes}
+use Rattle.link_rest.specs.Acts.{Act, Pump, Tell, Deliver, Fire, Reached, At, OnState, reached_by, after, goes}
 use Rattle.link_rest.specs.Calm.{IsCalmWay, IsCalm, IsStillCalm}
 use Rattle.link_rest.specs.Led.{AreAnswers, answered}
 use Rattle.link_rest.specs.Rest.{IsQuiet}
-use Rattle.link_rest.proofs.AnswerLaws.{replies_answer}
-use Rattle.link_rest.proofs.Bursting.{IsDelimited, turned_is, turns_read, turns_delimited, answers_are_read, answers_delimited, read_at_rest}
+use Rattle.link_rest.proofs.AnswerLaws.{port_narrow, replies_answer}
+use Rattle.link_rest.proofs.Bursting.{IsDelimited, turned_is, turns_read, turns_delimited, tell_read, tell_delimited, answers_are_read, answers_delimited, read_at_rest}
 use Rattle.link_rest.proofs.Ends.{acts_keep}
-use Rattle.link_rest.proofs.Lines.{OnFlow, IsFed, by_tables, goes_one, round_sound}
+use Rattle.link_rest.proofs.Lines.{OnFlow, IsFed, by_tables, goes_one}
 use Rattle.link_rest.proofs.SaidLaws.{said-append}
 
 -- ---- a delivery
@@ -147,6 +147,13 @@ turns_calm n s is calm = record {
       calm.to_a;
 }
 
+tells_calm : (s : LinkState) → IsPort s.a → IsCalm s → IsCalm (first_tells s)
+tells_calm s is calm = record {
+  to_b =
+      calm_sent s.b s.wire_a (tell_sends s.a) (tell_read s.a is) (tell_delimited s.a) calm.to_b;
+  to_a = calm.to_a;
+}
+
 -- ---- deliveries
 
 record TakesCalm (n : ℕ) (s : LinkState) : Type 0 where
@@ -160,7 +167,8 @@ flow_answers :
 unfolding answered
 flow_answers port kept chars flow is through =
     let fed = subst (OnFlow (IsFed port chars)) through (by_tables port kept chars) in
-    subst AreAnswers (sym fed.1) (replies_answer port (said port.place chars) is.expected_ack)
+    subst AreAnswers (sym fed.1)
+    (replies_answer port (said port.place chars) (port_narrow port is))
 
 takes_calm : (n : ℕ) (s : LinkState) → IsPort s.a → IsCalm s → TakesCalm n s
 takes_calm n s is calm =
@@ -275,6 +283,13 @@ act_calm (Pump B n) s sound calm = record {
   there = refl;
   calm = calm_round (turns_calm n (turned_round s) sound.port_b (calm_round calm));
 }
+act_calm (Tell A) s sound calm =
+    record { m = told_from A s; there = refl; calm = tells_calm s sound.port_a calm }
+act_calm (Tell B) s sound calm = record {
+  m = told_from B s;
+  there = refl;
+  calm = calm_round (tells_calm (turned_round s) sound.port_b (calm_round calm));
+}
 act_calm (Deliver from n) s sound calm = deliver_calm from n s sound calm
 act_calm (Fire side) s sound calm =
     record { m = timed_out_at side s; there = refl; calm = fire_calm side s calm }
@@ -312,10 +327,11 @@ quiet_calm s quiet = record {
   to_a = calm_empty s.a s.wire_b quiet.wire_b quiet.b_to_a.place;
 }
 
-pub new_calm : (m n : ℕ) → IsCalm (link empty_wires (new_port m) (new_port n))
-new_calm m n = record {
-  to_b = calm_empty (new_port n) empty_wires.a refl refl;
-  to_a = calm_empty (new_port m) empty_wires.b refl refl;
+pub new_calm : (tells_a tells_b : Bool) (m n : ℕ)
+    → IsCalm (link empty_wires (new_port tells_a m) (new_port tells_b n))
+new_calm tells_a tells_b m n = record {
+  to_b = calm_empty (new_port tells_b n) empty_wires.a refl refl;
+  to_a = calm_empty (new_port tells_a m) empty_wires.b refl refl;
 }
 
 served_calm : (next : PortState) (s : LinkState) → IsServed s.a next → IsCalm s

@@ -3,8 +3,8 @@ use Rattle.std.proofs.Common.{◌≡◌, ℕ, ◌+◌, ◌≤◌, ◌++◌, Bool
 use Rattle.link_machine.specs.Prelude.{Side, A, B}
 use Rattle.link_rest.specs.Schedules.{NextOf, WhereOf, Is, LoopOf}
 use Rattle.link_rest.specs.Schedules.LoopOf.{Rests, GoesOn, Leaves}
-use Rattle.link_rest.specs.Acts.{Act, Pump, Fire, Reached, At, Found, goes}
-use Rattle.link_rest.specs.Settling.{Part, all_chars, Empties, Drains, TakesTurn, Restarts, TimesOut, Requests, Recovers, SendsAll, Settles}
+use Rattle.link_rest.specs.Acts.{Act, Pump, Tell, Fire, Reached, At, Found, goes}
+use Rattle.link_rest.specs.Settling.{Part, all_chars, Empties, Drains, TakesTurn, Restarts, TimesOut, Requests, Recovers, Tells, SendsAll, Settles}
 use Rattle.link_rest.specs.Counts.{same_side, fires}
 
 fires-append : (side : Side) (xs ys : List Act)
@@ -102,10 +102,28 @@ recovery_counts side near =
     (next_at_most side (if same_side side near then 1 else 0) 0 (TimesOut near) (TakesTurn near)
     (fire_counts side near) (turn_none side near))))
 
+tells_none : (side near : Side) → AtMost 0 side (Tells near)
+unfolding fires
+tells_none side near =
+    where_at_most side 0 _ (NextOf goes (Is (λ reached. Tell near ∷ [])) Drains)
+    (next_at_most side 0 0 (Is (λ reached. Tell near ∷ [])) Drains
+    (λ r all is. let none = ap (fires side) is in omega arith) (drains_none side))
+
 sends_none : (side near : Side) → AtMost 0 side (SendsAll near)
 sends_none side near =
     where_at_most side 0 _ _ (loop_at_most side _ _ (TakesTurn near) (TakesTurn near)
     (turn_none side near) (turn_none side near))
+
+-- what comes after recovery
+abbrev Later : Part
+Later = NextOf goes (Tells A) (NextOf goes (Tells B) (NextOf goes (SendsAll A) (SendsAll B)))
+
+later_none : (side : Side) → AtMost (0 + (0 + (0 + 0))) side Later
+later_none side =
+    next_at_most side 0 _ (Tells A) (NextOf goes (Tells B) (NextOf goes (SendsAll A) (SendsAll B)))
+    (tells_none side A)
+    (next_at_most side 0 _ (Tells B) (NextOf goes (SendsAll A) (SendsAll B)) (tells_none side B)
+    (next_at_most side 0 0 (SendsAll A) (SendsAll B) (sends_none side A) (sends_none side B)))
 
 -- Settling fires at most one time-out of each side.
 pub settling_fires : (side : Side) (r : Reached) (all : List Act) → Settles r all
@@ -116,18 +134,16 @@ settling_fires side r all does =
   where
     by_side : (side : Side) {n : ℕ}
         → n ≤ 0 + ((0 + ((if same_side side A then 1 else 0) + 0))
-        + ((0 + ((if same_side side B then 1 else 0) + 0)) + (0 + 0))) → n ≤ 1
+        + ((0 + ((if same_side side B then 1 else 0) + 0)) + (0 + (0 + (0 + 0))))) → n ≤ 1
     by_side A h = omega arith
     by_side B h = omega arith
 
     whole : (side : Side) → AtMost (0
         + ((0 + ((if same_side side A then 1 else 0) + 0))
-        + ((0 + ((if same_side side B then 1 else 0) + 0)) + (0 + 0)))) side Settles
+        + ((0 + ((if same_side side B then 1 else 0) + 0)) + (0 + (0 + (0 + 0)))))) side Settles
     whole side =
-        next_at_most side 0 _ Drains (NextOf goes (Recovers A)
-        (NextOf goes (Recovers B) (NextOf goes (SendsAll A) (SendsAll B)))) (drains_none side)
-        (next_at_most side _ _ (Recovers A)
-        (NextOf goes (Recovers B) (NextOf goes (SendsAll A) (SendsAll B))) (recovery_counts side A)
-        (next_at_most side _ _ (Recovers B) (NextOf goes (SendsAll A) (SendsAll B))
-        (recovery_counts side B)
-        (next_at_most side 0 0 (SendsAll A) (SendsAll B) (sends_none side A) (sends_none side B))))
+        next_at_most side 0 _ Drains (NextOf goes (Recovers A) (NextOf goes (Recovers B) Later))
+        (drains_none side)
+        (next_at_most side _ _ (Recovers A) (NextOf goes (Recovers B) Later)
+        (recovery_counts side A)
+        (next_at_most side _ _ (Recovers B) Later (recovery_counts side B) (later_none side)))

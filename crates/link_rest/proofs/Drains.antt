@@ -1,15 +1,15 @@
 -- A drain is at most three rounds, and of its six deliveries the last has nothing to deliver.
-use Rattle.std.proofs.Common.{◌≡◌, ◌||◌, inl, inr, ℕ, zero, suc, ◌+◌, ◌-◌, ◌<◌, ◌≤◌, ◌++◌, Bool, true, false, not, MatchBool, List, [], ◌∷◌, refl, sym, ap, ◌∙◌, subst, if◌then◌else◌, arith}
+use Rattle.std.proofs.Common.{◌≡◌, ◌||◌, inl, inr, ℕ, zero, suc, ◌+◌, ◌-◌, ◌≤◌, ◌++◌, Bool, true, false, not, MatchBool, List, [], ◌∷◌, refl, sym, ap, ◌∙◌, subst, if◌then◌else◌, arith}
 use Rattle.std.proofs.lemmas.Bool.{or_parts, cases_lt}
 use Rattle.link_model.specs.Prelude.{Char, Fields, place, said}
-use Rattle.link_port.specs.Prelude.{Event, Pending, Nothing, PortState, expected_of}
+use Rattle.link_port.specs.Prelude.{Event, Pending, Nothing, PortState}
 use Rattle.link_machine.specs.Prelude.{Side, A, B, LinkState, turned_round, has_none, IsSoundLink}
 use Rattle.link_rest.specs.Led.{fed, answered, chars_of, AreAnswers}
 use Rattle.link_rest.specs.Schedules.{NextOf}
 use Rattle.link_rest.specs.Schedules.LoopOf.{Rests, GoesOn, Leaves}
 use Rattle.link_rest.specs.Acts.{Act, Reached, At, Found, after, goes, OnState}
 use Rattle.link_rest.specs.Settling.{first_has_chars, of_end, all_chars, Empties, is_busy, Drains}
-use Rattle.link_rest.proofs.AnswerLaws.{replies_answer}
+use Rattle.link_rest.proofs.AnswerLaws.{IsNarrow, port_narrow, replies_answer}
 use Rattle.link_rest.proofs.Signals.{unbroken_leaves, third_is_silent}
 use Rattle.link_rest.proofs.Lines.{Takes, emptied, emptied_takes, round_sound}
 
@@ -149,17 +149,16 @@ empty_is_idle s none =
     ap (λ (b : Bool). b || not (has_none s.wire_b.chars)) (empty_has s.wire_a.chars none.0)
     ∙ empty_has s.wire_b.chars none.1
 
-pub answers_are : (p : PortState) (chars : List Char) → expected_of p.input < 32
-    → AreAnswers (answered p chars)
+pub answers_are : (p : PortState) (chars : List Char) → IsNarrow p → AreAnswers (answered p chars)
 unfolding answered
-answers_are p chars below = replies_answer p (said p.place chars) below
+answers_are p chars narrow = replies_answer p (said p.place chars) narrow
 
 -- what a port answers has no answer where no symbol is in progress
-pub answers_are_silent : (p q : PortState) (chars : List Char) → expected_of p.input < 32
+pub answers_are_silent : (p q : PortState) (chars : List Char) → IsNarrow p
     → q.place.pending ≡ Nothing → answered q (chars_of (answered p chars)) ≡ []
-answers_are_silent p q chars below none =
+answers_are_silent p q chars narrow none =
     (unbroken_leaves q q.place.text (answered p chars)
-    (ap (λ (k : Pending). place q.place.text k) none) (answers_are p chars below)).0.silent
+    (ap (λ (k : Pending). place q.place.text k) none) (answers_are p chars narrow)).0.silent
 
 -- after the answers to what came: answers alone, on their way to the second port
 record SecondSent (s : LinkState) : Type 0 where
@@ -197,7 +196,7 @@ to_second : (s m : LinkState) → IsSoundLink s → s.wire_a.chars ≡ [] → Ta
 to_second s m l none t = record {
   sound = t.sound;
   second = answered s.a s.wire_b.chars;
-  are = answers_are s.a s.wire_b.chars l.port_a.expected_ack;
+  are = answers_are s.a s.wire_b.chars (port_narrow s.a l.port_a);
   wire_a = t.wire_a ∙ ap (λ (cs : List Char). cs ++ chars_of (answered s.a s.wire_b.chars)) none;
   wire_b = t.wire_b;
 }
@@ -226,7 +225,7 @@ to_fourth s m h t = record {
   are = h.are;
   are_too =
       answers_are s.a (chars_of (answered h.before (chars_of h.second)))
-      h.sound.port_a.expected_ack;
+      (port_narrow s.a h.sound.port_a);
   is = refl;
   b = t.b ∙ h.b;
   wire_a =

@@ -2,20 +2,21 @@
 use Rattle.std.proofs.Common.{◌≡◌, inl, inr, ℕ, zero, suc, ◌<◌, ◌++◌, Bool, true, false, not, MatchBool, List, [], ◌∷◌, refl, sym, subst, if◌then◌else◌, arith}
 use Rattle.link_buffers.specs.Queues.{packet_count}
 use Rattle.link_model.specs.declared.event.Event.{Event}
-use Rattle.link_machine.specs.Prelude.{other_side, Side, A, B, LinkState, from_end, pumped, has_chars, delivery_from, delivered_from, IsSoundLink}
+use Rattle.link_port.specs.Prelude.{is_ready}
+use Rattle.link_machine.specs.Prelude.{other_side, Side, A, B, LinkState, from_end, pumped, told_from, has_chars, delivery_from, delivered_from, IsSoundLink}
 use Rattle.link_wires.specs.Deliveries.{Delivered, Through, Undetected}
-use Rattle.link_machine.proofs.Machine.{pump_keeps, delivery_keeps, fired_keeps}
+use Rattle.link_machine.proofs.Machine.{pump_keeps, told_keeps, delivery_keeps, fired_keeps}
 use Rattle.link_rest.specs.Schedules.{NextOf, WhereOf, Is}
 use Rattle.link_rest.specs.Schedules.LoopOf.{Rests, GoesOn, Leaves}
-use Rattle.link_rest.specs.Acts.{Act, Pump, Deliver, Fire, Reached, At, Found, reached_by, after, goes, OnState}
-use Rattle.link_rest.specs.Settling.{Part, is_retry_stopped, has_failed, may_fire, first_rests, waits, of_end, Drains, TakesTurn, Restarts, TimesOut, Requests, Recovers, SendsAll, Settles}
+use Rattle.link_rest.specs.Acts.{Act, Pump, Tell, Deliver, Fire, Reached, At, Found, reached_by, after, goes, OnState}
+use Rattle.link_rest.specs.Settling.{Part, is_retry_stopped, has_failed, may_fire, first_rests, of_end, Drains, TakesTurn, Restarts, TimesOut, Requests, Recovers, Tells, SendsAll, Settles}
 use Rattle.link_rest.specs.Rest.{IsRound}
 use Rattle.link_rest.proofs.Lines.{goes_one}
 use Rattle.link_rest.proofs.DrainCounts.{drain_exists}
 use Rattle.link_rest.proofs.SendingRounds.{Quiet, AfterRound, round_goes}
 use Rattle.link_rest.proofs.Sending.{Sending, goes_on}
 use Rattle.link_rest.proofs.Rounds.{after_round}
-use Rattle.link_rest.proofs.Settled.{Drained, FirstRests, BothRest, FirstDone, go_on, drains_lead, first_recovers, second_recovers, first_sends, turned_quiet}
+use Rattle.link_rest.proofs.Settled.{Drained, FirstRests, BothRest, FirstTold, BothTold, FirstDone, FromSending, FromTelling, FromRecovering, go_on, drains_lead, first_recovers, second_recovers, first_tells, second_tells, first_sends, turned_quiet}
 
 -- ---- whatever is done keeps a link sound
 
@@ -35,6 +36,7 @@ delivers_keep from count s false l = l
 
 act_keeps : (act : Act) (s : LinkState) → IsSoundLink s → OnState IsSoundLink (after act s)
 act_keeps (Pump from turns) s l = pump_keeps from turns s l
+act_keeps (Tell from) s l = told_keeps from s l
 act_keeps (Deliver from count) s l = delivers_keep from count s (has_chars from count s) l
 act_keeps (Fire side) s l = fired_keeps side s l
 
@@ -105,6 +107,15 @@ recovers_can near r l =
     next_can (Restarts near) (Requests near) r first
     (requests_can near (goes r first.0) (acts_keep first.0 r l)))
 
+pub tells_can : (near : Side) (r : Reached) → OnState IsSoundLink r → Can (Tells near) r
+tells_can near (At s) l =
+    where_can (of_end near (λ link. link.a.tells))
+    (NextOf goes (Is (λ reached. Tell near ∷ [])) Drains) (At s) (λ is.
+    let d = drain_exists (told_from near s) (told_keeps near s l) in
+    next_can (Is (λ reached. Tell near ∷ [])) Drains (At s) (Tell near ∷ [], refl)
+    (d.0, subst (λ (r : Reached). Drains r d.0) (sym (goes_one s (Tell near))) d.1))
+tells_can near (Found side e) l = ([], refl)
+
 -- ---- the loop, which has fewer packets to send after each round that goes on
 
 abbrev pub left_at : Side → LinkState → ℕ
@@ -124,7 +135,7 @@ pub fewer_after : (near : Side) (s : LinkState) (n : ℕ) (r : Reached) → Fewe
     → OnState (Fewer near n) r
 fewer_after near s n (At m) h round more =
     let on = goes_on near s (At m) h.0 round more in
-    (on.0, fewer_by near s m n (after_round near s m h.0.sound round) more h.1)
+    (on.0.quiet, fewer_by near s m n (after_round near s m h.0.sound round) more h.1)
 fewer_after near s n (Found side e) h round more = tt
 
 pub sound_of : (near : Side) (s : LinkState) (r : Reached) → OnState (AfterRound near s) r
@@ -134,7 +145,7 @@ sound_of near s (Found side e) h = tt
 
 sending_busy : (near : Side) (n : ℕ) (s : LinkState)
     → ((r : Reached) → OnState (Fewer near n) r → Can (Sending near) r) → Fewer near (suc n) s
-    → of_end near (λ link. waits link.a) (At s) ≡ true
+    → of_end near (λ link. is_ready link.a) (At s) ≡ true
     → Can (Sending near) (At s)
 sending_busy near n s more h busy =
     let first = turn_can near (At s) h.0.sound in
@@ -155,11 +166,12 @@ pub sending_can : (near : Side) (n : ℕ) (r : Reached) → OnState (Fewer near 
 sending_can near n (Found side e) h = ([], Rests refl refl)
 sending_can near zero (At s) h = absurd (let less = h.1 in omega arith)
 sending_can near (suc n) (At s) h =
-    elim (of_end near (λ link. waits link.a) (At s)) as
-    (λ b. of_end near (λ link. waits link.a) (At s) ≡ b → Can (Sending near) (At s)) [
-      | true ↦ λ (busy : of_end near (λ link. waits link.a) (At s) ≡ true). sending_busy near n s
+    elim (of_end near (λ link. is_ready link.a) (At s)) as
+    (λ b. of_end near (λ link. is_ready link.a) (At s) ≡ b → Can (Sending near) (At s)) [
+      | true ↦ λ (busy : of_end near (λ link. is_ready link.a) (At s) ≡ true). sending_busy near n s
           (sending_can near n) h busy
-      | false ↦ λ (none : of_end near (λ link. waits link.a) (At s) ≡ false). ([], Rests none refl)
+      | false ↦ λ (none : of_end near (λ link. is_ready link.a) (At s) ≡ false).
+          ([], Rests none refl)
     ] refl
 
 pub sends_can : (near : Side) (r : Reached) → OnState (Quiet near) r → Can (SendsAll near) r
@@ -170,36 +182,47 @@ sends_can near (Found side e) quiet = ([], refl)
 
 -- ---- the whole
 
-pub sound_in : (r : Reached) → OnState Drained r → OnState IsSoundLink r
-sound_in (At s) h = h.0
-sound_in (Found side e) h = tt
+pub sound_by : {P : LinkState → Type 0} → ((s : LinkState) → P s → IsSoundLink s) → (r : Reached)
+    → OnState P r → OnState IsSoundLink r
+sound_by sound (At s) h = sound s h
+sound_by sound (Found side e) h = tt
 
-pub first_sound : (r : Reached) → OnState FirstRests r → OnState IsSoundLink r
-first_sound (At s) h = h.0.0
-first_sound (Found side e) h = tt
+pub first_quiet : (r : Reached) → OnState BothTold r → OnState (Quiet A) r
+first_quiet (At s) h = h.quiet
+first_quiet (Found side e) h = tt
 
 pub second_quiet : (r : Reached) → OnState FirstDone r → OnState (Quiet B) r
-second_quiet (At s) h = turned_quiet s h.0
+second_quiet (At s) h = turned_quiet s h.0.quiet
 second_quiet (Found side e) h = tt
+
+-- from where both sides have recovered
+pub telling_can : (r : Reached) → OnState BothRest r → Can FromTelling r
+telling_can r h =
+    let one = tells_can A r (sound_by (λ s q. q.sound) r h) in
+    let r1 = goes r one.0 in
+    let h1 = go_on BothRest (Tells A) FirstTold first_tells r one.0 h one.1 in
+    let two = tells_can B r1 (sound_by (λ s q. q.0.sound) r1 h1) in
+    let r2 = goes r1 two.0 in
+    let h2 = go_on FirstTold (Tells B) BothTold second_tells r1 two.0 h1 two.1 in
+    let three = sends_can A r2 (first_quiet r2 h2) in
+    let r3 = goes r2 three.0 in
+    let h3 = go_on BothTold (SendsAll A) FirstDone first_sends r2 three.0 h2 three.1 in
+    let four = sends_can B r3 (second_quiet r3 h3) in
+    next_can (Tells A) (NextOf goes (Tells B) FromSending) r one
+    (next_can (Tells B) FromSending r1 two
+    (next_can (SendsAll A) (SendsAll B) r2 three four))
 
 pub settling_can : (s : LinkState) → IsSoundLink s → (all : List Act) × Settles (At s) all
 settling_can s l =
     let drain = drain_exists s l in
     let r1 = goes (At s) drain.0 in
     let h1 = drains_lead s drain.0 l drain.1 in
-    let one = recovers_can A r1 (sound_in r1 h1) in
+    let one = recovers_can A r1 (sound_by (λ m q. q.0) r1 h1) in
     let r2 = goes r1 one.0 in
     let h2 = go_on Drained (Recovers A) FirstRests first_recovers r1 one.0 h1 one.1 in
-    let two = recovers_can B r2 (first_sound r2 h2) in
+    let two = recovers_can B r2 (sound_by (λ m q. q.0.0) r2 h2) in
     let r3 = goes r2 two.0 in
     let h3 = go_on FirstRests (Recovers B) BothRest second_recovers r2 two.0 h2 two.1 in
-    let three = sends_can A r3 h3 in
-    let r4 = goes r3 three.0 in
-    let h4 = go_on BothRest (SendsAll A) FirstDone first_sends r3 three.0 h3 three.1 in
-    let four = sends_can B r4 (second_quiet r4 h4) in
-    next_can Drains
-    (NextOf goes (Recovers A) (NextOf goes (Recovers B) (NextOf goes (SendsAll A) (SendsAll B))))
-    (At s) drain
-    (next_can (Recovers A) (NextOf goes (Recovers B) (NextOf goes (SendsAll A) (SendsAll B))) r1 one
-    (next_can (Recovers B) (NextOf goes (SendsAll A) (SendsAll B)) r2 two
-    (next_can (SendsAll A) (SendsAll B) r3 three four)))
+    next_can Drains FromRecovering (At s) drain
+    (next_can (Recovers A) (NextOf goes (Recovers B) FromTelling) r1 one
+    (next_can (Recovers B) FromTelling r2 two (telling_can r3 h3)))

@@ -1,5 +1,5 @@
 -- A drain where one wire alone has characters.
-use Rattle.std.proofs.Common.{◌≡◌, ◌++◌, Bool, false, List, [], refl, sym, ap, ◌∙◌, subst, if◌then◌else◌, arith}
+use Rattle.std.proofs.Common.{◌≡◌, ◌++◌, Bool, false, List, [], refl, sym, ap, ◌∙◌, subst, if◌then◌else◌}
 use Rattle.rio_chars.specs.declared.chars.Char.{Char}
 use Rattle.link_port.specs.Ports.{PortState}
 use Rattle.link_machine.specs.Prelude.{other_side, Side, A, B, LinkState, turned_round, from_end, IsSoundLink}

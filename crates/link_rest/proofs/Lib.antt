@@ -10,7 +10,9 @@ pub mod TurnLaws
 pub mod Restarting
 pub mod Recovery
 pub mod Waiting
+pub mod RoomLaws
 pub mod SendingRounds
+pub mod Telling
 pub mod Sending
 pub mod Settled
 pub mod Counts

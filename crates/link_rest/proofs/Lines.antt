@@ -9,6 +9,7 @@ use Rattle.link_wires.specs.Prelude.{behind, Flow, Delivered, Through, Undetecte
 use Rattle.link_machine.specs.Calls.{delivery, after_delivery}
 use Rattle.link_machine.specs.Queues.{queues_between}
 use Rattle.link_machine.proofs.Flowing.{AreFlowing, delivered_flowing}
+use Rattle.link_machine.proofs.Telling.{AreTelling, delivered_telling}
 use Rattle.link_rest.specs.Led.{led, fed, answered, chars_of}
 use Rattle.link_rest.specs.Acts.{Act, Deliver, Reached, At, reached_by, after, goes, OnState}
 use Rattle.link_rest.specs.Settling.{first_has_chars, of_end, all_chars}
@@ -119,17 +120,24 @@ takes_none s sound none = record {
 
 takes_by : (s : LinkState) (count : ℕ) (chars : List Char) (d : Delivered) → IsSoundLink s
     → count ≡ length s.wire_b.chars → chars ≡ s.wire_b.chars
-    → AreFlowing s.b s.wire_a.kept (queues_between s.a s.b) d → OnFlow (IsFed s.a chars) d
+    → AreFlowing s.b s.wire_a.kept (queues_between s.a s.b) d → AreTelling s.b s.wire_a.kept d
+    → OnFlow (IsFed s.a chars) d
     → (to : Side) → OnState (λ m. Takes s m) (reached_by to (after_delivery count d s) d)
 unfolding chars_of
-takes_by s count chars (Through flow) l all whole f h to = record {
-  sound = record { port_a = f.port; port_b = l.port_b; sound = f.sound };
+takes_by s count chars (Through flow) l all whole f t h to = record {
+  sound = record {
+    port_a = f.port;
+    port_b = l.port_b;
+    sound = f.sound;
+    told_b = t.told_b;
+    told_a = t.told_a;
+  };
   a = h.0 ∙ ap (fed s.a) whole;
   b = refl;
   wire_a = ap (λ (r : List Fields). s.wire_a.chars ++ chars_of r) (h.1 ∙ ap (answered s.a) whole);
   wire_b = drop_all count s.wire_b.chars (omega arith);
 }
-takes_by s count chars (Undetected told e) l all whole f h to = tt
+takes_by s count chars (Undetected told e) l all whole f t h to = tt
 
 takes_all : (s : LinkState) (to : Side) → IsSoundLink s
     → OnState (λ m. Takes s m)
@@ -139,6 +147,8 @@ takes_all s to l =
     let chars = take n s.wire_b.chars in
     takes_by s n chars (delivery n s) l refl (take_all n s.wire_b.chars (omega arith))
     (delivered_flowing s.a s.b s.wire_a.kept s.wire_b.kept chars l.port_a l.port_b l.sound)
+    (delivered_telling s.a s.b s.wire_a.kept s.wire_b.kept chars l.port_a l.port_b l.sound l.told_b
+    l.told_a)
     (by_tables s.a s.wire_b.kept chars) to
 
 -- ---- as a step of the schedule
@@ -170,6 +180,8 @@ round_sound s l = record {
   port_a = l.port_b;
   port_b = l.port_a;
   sound = record { a_to_b = l.sound.b_to_a; b_to_a = l.sound.a_to_b };
+  told_b = l.told_a;
+  told_a = l.told_b;
 }
 
 -- the same delivery, with the ends in the other order

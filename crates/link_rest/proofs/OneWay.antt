@@ -1,9 +1,10 @@
 -- There is at most one way to settle a link: each part of the schedule determines what is done.
-use Rattle.std.proofs.Common.{◌≡◌, Bool, true, false, not, List, [], ◌∷◌, ◌++◌, MatchBool, sym, ◌∙◌, subst}
+use Rattle.std.proofs.Common.{◌≡◌, Bool, true, false, not, List, [], ◌∷◌, MatchBool, sym, ◌∙◌, subst}
+use Rattle.link_port.specs.Prelude.{is_ready}
 use Rattle.link_machine.specs.Prelude.{Side, A, B}
 use Rattle.link_rest.specs.Schedules.{NextOf, WhereOf, Is, LoopOf, Rests, GoesOn, Leaves as LeavesLoop}
-use Rattle.link_rest.specs.Acts.{Act, Pump, Fire, Reached, At, goes, holds}
-use Rattle.link_rest.specs.Settling.{of_end, first_has_chars, first_rests, is_retry_stopped, has_failed, may_fire, waits, all_chars, Empties, is_busy, Drains, TakesTurn, Restarts, TimesOut, Requests, Recovers, SendsAll, Settles}
+use Rattle.link_rest.specs.Acts.{Pump, Tell, Fire, Reached, goes, holds}
+use Rattle.link_rest.specs.Settling.{of_end, first_has_chars, first_rests, is_retry_stopped, has_failed, may_fire, all_chars, Empties, is_busy, Drains, TakesTurn, Restarts, TimesOut, Requests, Recovers, Tells, SendsAll, Settles}
 
 -- no two lists are of this kind
 abbrev pub AtMostOne : {L : Type 0} → (List L → Type 0) → Type 0
@@ -103,20 +104,31 @@ recovers_one side =
     (NextOf goes (Restarts side) (Requests side))
     (next_one goes (Restarts side) (Requests side) (restarts_one side) (requests_one side))
 
+tells_one : (side : Side) (s : Reached) → AtMostOne (Tells side s)
+tells_one side =
+    where_one (of_end side (λ link. link.a.tells))
+    (NextOf goes (Is (λ reached. Tell side ∷ [])) Drains)
+    (next_one goes (Is (λ reached. Tell side ∷ [])) Drains (is_one (λ reached. Tell side ∷ []))
+    drains_one)
+
 sends_one : (side : Side) (s : Reached) → AtMostOne (SendsAll side s)
 sends_one side =
-    let waiting = of_end side (λ link. waits link.a) in
+    let starts = of_end side (λ link. is_ready link.a) in
     let stopped = of_end side (λ link. is_retry_stopped link.a.output) in
     where_one (of_end side first_rests)
-    (LoopOf goes waiting (TakesTurn side) stopped (TakesTurn side))
-    (λ s x y f g. loop_one goes waiting (TakesTurn side) stopped (TakesTurn side) (turn_one side)
+    (LoopOf goes starts (TakesTurn side) stopped (TakesTurn side))
+    (λ s x y f g. loop_one goes starts (TakesTurn side) stopped (TakesTurn side) (turn_one side)
     (turn_one side) f g)
 
 pub settles_one : (s : Reached) → AtMostOne (Settles s)
 settles_one =
     let last = NextOf goes (SendsAll A) (SendsAll B) in
-    let more = NextOf goes (Recovers B) last in
+    let told = NextOf goes (Tells B) last in
+    let telling = NextOf goes (Tells A) told in
+    let more = NextOf goes (Recovers B) telling in
     next_one goes Drains (NextOf goes (Recovers A) more) drains_one
     (next_one goes (Recovers A) more (recovers_one A)
-    (next_one goes (Recovers B) last (recovers_one B)
-    (next_one goes (SendsAll A) (SendsAll B) (sends_one A) (sends_one B))))
+    (next_one goes (Recovers B) telling (recovers_one B)
+    (next_one goes (Tells A) told (tells_one A)
+    (next_one goes (Tells B) last (tells_one B)
+    (next_one goes (SendsAll A) (SendsAll B) (sends_one A) (sends_one B))))))

@@ -1,7 +1,8 @@
 -- One side recovers: its direction comes to rest, and the other direction stays at rest if it was.
-use Rattle.std.proofs.Common.{◌≡◌, ℕ, ◌%◌, ◌&&◌, Bool, true, false, not, MatchBool, List, [], ◌∷◌, length, refl, sym, ap, ◌∙◌, subst, if◌then◌else◌, arith, length-drop, map}
+use Rattle.std.proofs.Common.{◌≡◌, ℕ, ◌%◌, ◌&&◌, Bool, true, false, not, MatchBool, Option, List, [], ◌∷◌, length, refl, sym, ap, ◌∙◌, subst, if◌then◌else◌, arith, length-drop, map}
 use Rattle.std.proofs.lemmas.Bool.{and_parts, and_from}
-use Rattle.link_model.specs.Prelude.{Input, Output, times_out, Outstanding, from_ack, place, at_rest}
+use Rattle.link_model.specs.Prelude.{Input, Output, times_out, Outstanding, from_ack, at_rest}
+use Rattle.link_model.specs.declared.reports.Report.{Report}
 use Rattle.link_sound.specs.Marks.{Forward, Backward}
 use Rattle.link_sound.specs.Between.{IsBetween}
 use Rattle.link_sound.specs.Meanings.{forward, backward}
@@ -48,12 +49,14 @@ fired_other : (near : Side) (s : LinkState) → IsAtRest (from_end near s).b (fr
     (from_end near (at_end near first_fires s)).a
 fired_other A s rests = record {
   ack = rests.ack;
+  report = rests.report;
   sender_ok = rests.sender_ok;
   receiver_ok = rests.receiver_ok;
   place = rests.place;
 }
 fired_other B s rests = record {
   ack = rests.ack;
+  report = rests.report;
   sender_ok = rests.sender_ok;
   receiver_ok = rests.receiver_ok;
   place = rests.place;
@@ -103,12 +106,14 @@ times_out_by near s all Output.Failed is awake alive l none does = absurd cc
 
 -- ---- a direction at rest by the tests
 
-done_output : (o : Output) → is_done o ≡ true → (ack : ℕ) × (o ≡ Output.Ok (from_ack ack))
-done_output (Output.Ok w) done = (w.oldest, none_out w w.prios refl done)
+done_output : (o : Output) → is_done o ≡ true
+    → (ack : ℕ) × (report : Option Report) × (o ≡ Output.Ok (from_ack ack report))
+done_output (Output.Ok w) done = (w.oldest, w.report, none_out w w.prios refl done)
   where
     none_out : (w : Outstanding) (prios : List ℕ) → w.prios ≡ prios → is_none prios ≡ true
-        → Output.Ok w ≡ Output.Ok (from_ack w.oldest)
-    none_out w [] is none = λ i. Output.Ok (record { oldest = w.oldest; prios = is i })
+        → Output.Ok w ≡ Output.Ok (from_ack w.oldest w.report)
+    none_out w [] is none =
+        λ i. Output.Ok (record { oldest = w.oldest; prios = is i; report = w.report })
     none_out w (prio ∷ prios) is none = absurd cc
 done_output (Output.RetryStopped w) done = absurd cc
 done_output (Output.ErrorStopped asked w) done = absurd cc
@@ -119,9 +124,10 @@ ok_input (Input.Ok e) ok = (e, refl)
 ok_input (Input.RetryStopped e) ok = absurd cc
 ok_input (Input.ErrorStopped e) ok = absurd cc
 
-same_ack : (x y : ℕ) (queued : List (List (List ℕ))) (ahead : List Forward) (back : List Backward)
-    → IsBetween (Output.Ok (from_ack x)) (Input.Ok y) queued ahead back → x ≡ y
-same_ack x y queued ahead back b =
+same_ack : (x y : ℕ) (report : Option Report) (queued : List (List (List ℕ))) (ahead : List Forward)
+    (back : List Backward)
+    → IsBetween (Output.Ok (from_ack x report)) (Input.Ok y) queued ahead back → x ≡ y
+same_ack x y report queued ahead back b =
     let rest = ap length b.outstanding ∙ length-drop b.freed b.sent in
     let same : b.held ≡ b.freed = omega (arith, b.is.held_first, b.is.sent_first) in
     b.oldest ∙ ap (λ (n : ℕ). n % 32) (sym same) ∙ sym b.expected
@@ -134,14 +140,16 @@ rests_is s l rests =
     let into = ok_input s.b.input second.0 in
     let ahead = map forward s.wire_a.kept in
     let back = map backward s.wire_b.kept in
-    let between : IsBetween (Output.Ok (from_ack out.0)) (Input.Ok into.0) s.a.queued ahead back =
-    subst (λ (o : Output). IsBetween o (Input.Ok into.0) s.a.queued ahead back) out.1
+    let window = from_ack out.0 out.1 in
+    let between : IsBetween (Output.Ok window) (Input.Ok into.0) s.a.queued ahead back =
+    subst (λ (o : Output). IsBetween o (Input.Ok into.0) s.a.queued ahead back) out.2
     (subst (λ (i : Input). IsBetween s.a.output i s.a.queued ahead back) into.1 l.sound.a_to_b) in
     record {
       ack = out.0;
-      sender_ok = out.1;
+      report = out.1;
+      sender_ok = out.2;
       receiver_ok =
-          into.1 ∙ ap Input.Ok (sym (same_ack out.0 into.0 s.a.queued ahead back between));
+          into.1 ∙ ap Input.Ok (sym (same_ack out.0 into.0 out.1 s.a.queued ahead back between));
       place = second.1;
     }
 

@@ -1,9 +1,12 @@
 -- A restart-from-retry or a link-request is sent, and what comes of it.
-use Rattle.std.proofs.Common.{◌≡◌, inl, inr, ℕ, ◌<◌, true, false, List, [], ◌∷◌, refl, sym, ap, ◌∙◌, subst, arith}
-use Rattle.link_model.specs.Prelude.{Fields, Arrival, Output, turns, Outstanding, from_ack, Place, place, at_rest, Text, Plain, Skipped, Within, symbol_chars_of, restart_from_retry, link_request}
+use Rattle.std.proofs.Common.{◌≡◌, inl, inr, ℕ, Bool, true, false, if◌then◌else◌, Option, List, [], ◌∷◌, refl, sym, ap, ◌∙◌, subst, arith}
+use Rattle.link_model.specs.Prelude.{Fields, Arrival, Output, hears_report, turns, Outstanding, from_ack, Place, place, at_rest, Text, Plain, Skipped, Within, symbol_chars_of, restart_from_retry, link_request}
+use Rattle.link_model.specs.declared.reports.Report.{Report}
 use Rattle.link_buffers.specs.Priorities.{highest}
-use Rattle.link_port.specs.Prelude.{Pending, Nothing, Opened, One, Two, PortState, expected_of, burst_of, turn_sends, turns_to, waiting_in}
-use Rattle.link_model.specs.Output.{responded}
+use Rattle.link_port.specs.Prelude.{Pending, Nothing, Opened, One, Two, PortState, IsPort, expected_of, buffer_status, standing, burst_of, turn_sends, turns_to, waiting_in}
+use Rattle.link_port.proofs.SentReads.{standing_range}
+use Rattle.link_model.specs.Output.{responded, reported}
+use Rattle.link_model.specs.Reports.{has_buffer_status, base_of, report_of}
 use Rattle.link_model.specs.Places.{broken_off, rests_by}
 use Rattle.link_machine.specs.Prelude.{Side, A, B, LinkState, turned_round, from_end, IsSoundLink}
 use Rattle.link_machine.proofs.Machine.{none_failed}
@@ -12,7 +15,7 @@ use Rattle.link_rest.specs.Acts.{Act, At, goes, OnState}
 use Rattle.link_rest.specs.Settling.{is_retry_stopped, TakesTurn}
 use Rattle.link_rest.specs.Rest.{IsAtRest}
 use Rattle.link_rest.proofs.TableLaws.{led-append}
-use Rattle.link_rest.proofs.AnswerLaws.{first_breaks}
+use Rattle.link_rest.proofs.AnswerLaws.{IsNarrow, port_narrow, first_breaks}
 use Rattle.link_rest.proofs.Signals.{IsSignal, fed_by, fed_is, fed_none, break_led, signal_fed, signal_answered, input_signalled, replies_signalled, unbroken_leaves, resting_answered, IsDown, down_fed, request_input, output_after, output_led, response_heard, response_is}
 use Rattle.link_rest.proofs.Packets.{status_range}
 use Rattle.link_rest.proofs.Lines.{round_sound}
@@ -48,17 +51,34 @@ pub record Signalled (what : Arrival) (p q : PortState) (m : LinkState) : Type 0
   pub other : IsAtRest q p → IsAtRest m.b m.a
 
 pub signal_silent : (p q : PortState) (symbol : Fields) (what : Arrival) → IsSignal symbol what
-    → expected_of p.input < 32
+    → IsNarrow p
     → third_answers p q (symbol_chars_of symbol) ≡ []
-signal_silent p q symbol what is below =
+signal_silent p q symbol what is narrow =
     let cs = symbol_chars_of symbol in
     let there = ap (λ (x : PortState). x.place) (signal_fed q symbol what is) in
     let second = answered p (chars_of (answered q cs)) in
     (unbroken_leaves (fed q cs) Plain second there
-    (answers_are p (chars_of (answered q cs)) below)).0.silent
+    (answers_are p (chars_of (answered q cs)) narrow)).0.silent
+
+-- a sender with nothing outstanding has nothing outstanding after a symbol that tells of buffers
+rest_reported : (symbol : Fields) (ack : ℕ) (old : Option Report)
+    → (report : Option Report)
+    × (hears_report symbol (Output.Ok (from_ack ack old)) ≡ Output.Ok (from_ack ack report))
+rest_reported symbol ack old = by (has_buffer_status symbol.s0)
+  where
+    told : Option Report
+    told = report_of (base_of symbol.s0 symbol.p0) symbol.p1
+
+    before : Output
+    before = Output.Ok (from_ack ack old)
+
+    by : (has : Bool) → (report : Option Report)
+        × ((if has then reported told before else before) ≡ Output.Ok (from_ack ack report))
+    by true = (told, refl)
+    by false = (old, refl)
 
 other_rests : (p q : PortState) (symbol : Fields) (what : Arrival) (m : LinkState)
-    → IsSignal symbol what → expected_of q.input < 32
+    → IsSignal symbol what → IsNarrow q
     → Exchanged p q (symbol_chars_of symbol) m → IsAtRest q p → IsAtRest m.b m.a
 unfolding chars_of
 other_rests p q symbol what m is far x rests =
@@ -72,10 +92,14 @@ other_rests p q symbol what m is far x rests =
     x.b
     ∙ ap (λ (r : List Fields). fed (fed q cs) (chars_of r)) leaves.0.silent
     ∙ fed_none (fed q cs) in
+    let told = rest_reported symbol rests.ack rests.report in
     record {
       ack = rests.ack;
+      report = told.0;
       sender_ok =
-          ap (λ (y : PortState). y.output) (b_is ∙ signal_fed q symbol what is) ∙ rests.sender_ok;
+          ap (λ (y : PortState). y.output) (b_is ∙ signal_fed q symbol what is)
+          ∙ ap (hears_report symbol) rests.sender_ok
+          ∙ told.1;
       receiver_ok = ap (λ (y : PortState). y.input) x.a ∙ leaves.0.input ∙ rests.receiver_ok;
       place =
           ap (λ (y : PortState). at_rest y.place) x.a
@@ -84,7 +108,7 @@ other_rests p q symbol what m is far x rests =
     }
 
 pub signal_over : (p q : PortState) (symbol : Fields) (what : Arrival) (m : LinkState)
-    → IsSignal symbol what → expected_of p.input < 32 → expected_of q.input < 32
+    → IsSignal symbol what → IsNarrow p → IsNarrow q
     → Exchanged p q (symbol_chars_of symbol) m → Signalled what p q m
 signal_over p q symbol what m is near far x =
     let cs = symbol_chars_of symbol in
@@ -108,28 +132,44 @@ signal_over p q symbol what m is near far x =
 
 -- ---- a restart
 
-pub restart_is : (e : ℕ) → e < 32 → IsSignal (restart_from_retry e) Arrival.RestartFromRetry
-restart_is e below = record {
-  range = status_range e 3 0 below (omega arith) (omega arith);
-  status = refl;
-  tells = λ t. refl;
-  plain = λ t. refl;
-  arrival = refl;
-}
+-- the symbols of a port
+abbrev pub restart_of : PortState → Fields
+restart_of p = restart_from_retry (expected_of p.input) (buffer_status p.tells p.received)
 
-request_is : (e : ℕ) → e < 32 → IsSignal (link_request e) Arrival.LinkRequest
-request_is e below = record {
-  range = status_range e 4 4 below (omega arith) (omega arith);
-  status = refl;
-  tells = λ t. refl;
-  plain = λ t. refl;
-  arrival = refl;
-}
+abbrev request_of : PortState → Fields
+request_of p = link_request (expected_of p.input) (buffer_status p.tells p.received)
+
+pub restart_is : (p : PortState) → IsPort p → IsSignal (restart_of p) Arrival.RestartFromRetry
+restart_is p is =
+    let at = standing_range p is in
+    record {
+      range =
+          status_range (expected_of p.input) (buffer_status p.tells p.received) 3 0 at.expected
+          at.buffers (omega arith) (omega arith);
+      status = refl;
+      tells = λ t. refl;
+      plain = λ t. refl;
+      arrival = refl;
+    }
+
+request_is : (p : PortState) → IsPort p → IsSignal (request_of p) Arrival.LinkRequest
+request_is p is =
+    let at = standing_range p is in
+    record {
+      range =
+          status_range (expected_of p.input) (buffer_status p.tells p.received) 4 4 at.expected
+          at.buffers (omega arith) (omega arith);
+      status = refl;
+      tells = λ t. refl;
+      plain = λ t. refl;
+      arrival = refl;
+    }
 
 -- the other direction, where the sender of this one took a turn
 other_before : (p q : PortState) → IsAtRest q p → IsAtRest q (turns_to p)
 other_before p q rests = record {
   ack = rests.ack;
+  report = rests.report;
   sender_ok = rests.sender_ok;
   receiver_ok = rests.receiver_ok;
   place = rests.place;
@@ -159,14 +199,14 @@ down_is_awake (Output.ErrorStopped asked w) down = refl
 down_is_awake Output.Failed down = refl
 
 pub restart_chars : (p : PortState) (w : Outstanding) → p.output ≡ Output.RetryStopped w
-    → (turn_sends p).chars ≡ symbol_chars_of (restart_from_retry (expected_of p.input))
+    → (turn_sends p).chars ≡ symbol_chars_of (restart_of p)
 restart_chars p w is =
-    ap (λ (o : Output). (burst_of (turns o (highest (waiting_in p))).sends (expected_of p.input)
+    ap (λ (o : Output). (burst_of (turns p.tells o (highest (waiting_in p))).sends (standing p)
     (waiting_in p)).chars) is
 
 pub restart_state : (p : PortState) (w : Outstanding) → p.output ≡ Output.RetryStopped w
-    → (turns_to p).output ≡ Output.Ok (from_ack w.oldest)
-restart_state p w is = ap (λ (o : Output). (turns o (highest (waiting_in p))).state) is
+    → (turns_to p).output ≡ Output.Ok (from_ack w.oldest w.report)
+restart_state p w is = ap (λ (o : Output). (turns p.tells o (highest (waiting_in p))).state) is
 
 pub restarted : (near : Side) (s : LinkState) (all : List Act) (w : Outstanding) → IsSoundLink s
     → AreEmpty s → (from_end near s).a.output ≡ Output.RetryStopped w → TakesTurn near (At s) all
@@ -175,17 +215,18 @@ restarted near s all w l none is turn =
     let t = from_end near s in
     let p = turns_to t.a in
     let sound = end_sound near s l in
-    let symbol = restart_from_retry (expected_of t.a.input) in
-    let signal = restart_is (expected_of t.a.input) sound.port_a.expected_ack in
-    let silent =
-    signal_silent p t.b symbol Arrival.RestartFromRetry signal sound.port_a.expected_ack in
+    let symbol = restart_of t.a in
+    let signal = restart_is t.a sound.port_a in
+    let near_narrow = port_narrow t.a sound.port_a in
+    let far_narrow = port_narrow t.b sound.port_b in
+    let silent = signal_silent p t.b symbol Arrival.RestartFromRetry signal near_narrow in
     let down : IsDown p.output =
     subst (λ (o : Output). IsDown o) (sym (restart_state t.a w is)) refl in
     on_state (goes (At s) all)
     (λ m x.
     let does =
-    signal_over p t.b symbol Arrival.RestartFromRetry (from_end near m) signal
-    sound.port_a.expected_ack sound.port_b.expected_ack x.0 in
+    signal_over p t.b symbol Arrival.RestartFromRetry (from_end near m) signal near_narrow
+    far_narrow x.0 in
     record {
       kept = record {
         sound = unended near m x.0.sound;
@@ -220,14 +261,14 @@ pub record Rested (near : Side) (s m : LinkState) : Type 0 where
   pub rests : IsAtRest (from_end near m).a (from_end near m).b
 
 request_chars : (p : PortState) (w : Outstanding) → p.output ≡ Output.ErrorStopped false w
-    → (turn_sends p).chars ≡ symbol_chars_of (link_request (expected_of p.input))
+    → (turn_sends p).chars ≡ symbol_chars_of (request_of p)
 request_chars p w is =
-    ap (λ (o : Output). (burst_of (turns o (highest (waiting_in p))).sends (expected_of p.input)
+    ap (λ (o : Output). (burst_of (turns p.tells o (highest (waiting_in p))).sends (standing p)
     (waiting_in p)).chars) is
 
 request_state : (p : PortState) (w : Outstanding) → p.output ≡ Output.ErrorStopped false w
     → (turns_to p).output ≡ Output.ErrorStopped true w
-request_state p w is = ap (λ (o : Output). (turns o (highest (waiting_in p))).state) is
+request_state p w is = ap (λ (o : Output). (turns p.tells o (highest (waiting_in p))).state) is
 
 -- the sender hears the response, and has not failed
 heard_response : (p q : PortState) (w : Outstanding) (m : LinkState)
@@ -235,7 +276,7 @@ heard_response : (p q : PortState) (w : Outstanding) (m : LinkState)
     → AreAnswers (replies_signalled Arrival.LinkRequest q.place.pending q.input)
     → IsSoundLink m
     → m.a ≡ fed p (chars_of (replies_signalled Arrival.LinkRequest q.place.pending q.input))
-    → m.a.output ≡ Output.Ok (from_ack (expected_of q.input))
+    → m.a.output ≡ Output.Ok (from_ack (expected_of q.input) w.report)
 heard_response p q w m asked are l is =
     let k = q.place.pending in
     let hears : m.a.output ≡ (responded true w (expected_of q.input)).state =
@@ -254,18 +295,20 @@ requested near s all w l none is turn =
     let t = from_end near s in
     let p = turns_to t.a in
     let sound = end_sound near s l in
-    let symbol = link_request (expected_of t.a.input) in
-    let signal = request_is (expected_of t.a.input) sound.port_a.expected_ack in
-    let silent = signal_silent p t.b symbol Arrival.LinkRequest signal sound.port_a.expected_ack in
+    let symbol = request_of t.a in
+    let signal = request_is t.a sound.port_a in
+    let near_narrow = port_narrow t.a sound.port_a in
+    let far_narrow = port_narrow t.b sound.port_b in
+    let silent = signal_silent p t.b symbol Arrival.LinkRequest signal near_narrow in
     let are =
     subst (λ (r : List Fields). AreAnswers r)
     (signal_answered t.b symbol Arrival.LinkRequest signal)
-    (answers_are t.b (symbol_chars_of symbol) sound.port_b.expected_ack) in
+    (answers_are t.b (symbol_chars_of symbol) far_narrow) in
     on_state (goes (At s) all)
     (λ m x.
     let does =
-    signal_over p t.b symbol Arrival.LinkRequest (from_end near m) signal
-    sound.port_a.expected_ack sound.port_b.expected_ack x.0 in
+    signal_over p t.b symbol Arrival.LinkRequest (from_end near m) signal near_narrow far_narrow
+    x.0 in
     record {
       kept = record {
         sound = unended near m x.0.sound;
@@ -274,6 +317,7 @@ requested near s all w l none is turn =
       };
       rests = record {
         ack = expected_of t.b.input;
+        report = w.report;
         sender_ok =
             heard_response p t.b w (from_end near m) (request_state t.a w is) are x.0.sound does.a;
         receiver_ok = does.input ∙ request_input t.b.place.pending t.b.input;

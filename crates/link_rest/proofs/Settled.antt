@@ -9,12 +9,13 @@ use Rattle.link_sound.specs.Meanings.{oldest_of}
 use Rattle.link_machine.specs.Prelude.{A, B, LinkState, IsSoundLink}
 use Rattle.link_rest.specs.Schedules.{NextOf}
 use Rattle.link_rest.specs.Acts.{Act, Reached, At, Found, goes, OnState}
-use Rattle.link_rest.specs.Settling.{Drains, Recovers, SendsAll, Settles}
-use Rattle.link_rest.specs.Rest.{IsAtRest, IsDone, IsSettled}
+use Rattle.link_rest.specs.Settling.{Part, Drains, Recovers, Tells, SendsAll, Settles}
+use Rattle.link_rest.specs.Rest.{IsAtRest, KnowsRoom, IsDone, IsSettled}
 use Rattle.link_rest.proofs.Drains.{goes_found, goes-append, on_state, AreEmpty, drain_rests}
 use Rattle.link_rest.proofs.Recovery.{recovers}
 use Rattle.link_rest.proofs.SendingRounds.{Quiet}
-use Rattle.link_rest.proofs.Sending.{sends_all}
+use Rattle.link_rest.proofs.Telling.{tells}
+use Rattle.link_rest.proofs.Sending.{Knowing, sends_all}
 
 none_lent : (p q : PortState) → IsAtRest p q → lent p q ≡ []
 none_lent p q rests =
@@ -67,11 +68,18 @@ FirstRests s = Drained s × IsAtRest s.a s.b
 abbrev pub BothRest : LinkState → Type 0
 BothRest s = Quiet A s
 
+-- side B knows what room side A has
+abbrev pub FirstTold : LinkState → Type 0
+FirstTold s = Quiet A s × KnowsRoom s.b s.a
+
+abbrev pub BothTold : LinkState → Type 0
+BothTold s = Knowing A s
+
 abbrev pub FirstDone : LinkState → Type 0
-FirstDone s = Quiet A s × IsDone s.a s.b
+FirstDone s = Knowing A s × IsDone s.a s.b
 
 abbrev pub BothDone : LinkState → Type 0
-BothDone s = Quiet A s × IsDone s.a s.b × IsDone s.b s.a
+BothDone s = Knowing A s × IsDone s.a s.b × IsDone s.b s.a
 
 pub turned_quiet : (s : LinkState) → Quiet A s → Quiet B s
 turned_quiet s quiet = record {
@@ -106,51 +114,91 @@ second_recovers s all h does =
       into = x.rests;
     }) (recovers B s all h.0.0 h.0.1 does)
 
-pub first_sends : Leads BothRest (SendsAll A) FirstDone
+pub turned_knowing : (s : LinkState) → Knowing A s → Knowing B s
+turned_knowing s knowing = record {
+  quiet = turned_quiet s knowing.quiet;
+  out = knowing.into;
+  into = knowing.out;
+}
+
+first_knowing : (s : LinkState) → Knowing B s → Knowing A s
+first_knowing s knowing = record {
+  quiet = first_quiet s knowing.quiet;
+  out = knowing.into;
+  into = knowing.out;
+}
+
+pub first_tells : Leads BothRest (Tells A) FirstTold
+first_tells s all h does =
+    on_state (goes (At s) all) (λ m x. (x.quiet, x.into)) (tells A s all h does)
+
+pub second_tells : Leads FirstTold (Tells B) BothTold
+second_tells s all h does =
+    on_state (goes (At s) all) (λ m x. record {
+      quiet = first_quiet m x.quiet;
+      out = x.into;
+      into = x.out h.1;
+    }) (tells B s all (turned_quiet s h.0) does)
+
+pub first_sends : Leads BothTold (SendsAll A) FirstDone
 first_sends s all h does =
-    on_state (goes (At s) all) (λ m x. (x.quiet, x.done)) (sends_all A s all h does)
+    on_state (goes (At s) all) (λ m x. (x.knowing, x.done)) (sends_all A s all h does)
 
 second_sends : Leads FirstDone (SendsAll B) BothDone
 second_sends s all h does =
     on_state (goes (At s) all) (λ m x. (
-      first_quiet m x.quiet,
+      first_knowing m x.knowing,
       still_done s.a s.b m.a m.b x.beside.queued x.beside.received h.1,
       x.done,
     ))
-    (sends_all B s all (turned_quiet s h.0) does)
+    (sends_all B s all (turned_knowing s h.0) does)
 
 settled : (s : LinkState) → BothDone s → IsSettled s
-settled s h = record {
-  quiet = record { wire_a = h.0.none.0; wire_b = h.0.none.1; a_to_b = h.0.out; b_to_a = h.0.into };
-  lent_a = none_lent s.a s.b h.0.out;
-  lent_b = none_lent s.b s.a h.0.into;
-  done_a = h.1;
-  done_b = h.2;
-}
+settled s h =
+    let quiet = h.0.quiet in
+    record {
+      quiet = record {
+        wire_a = quiet.none.0;
+        wire_b = quiet.none.1;
+        a_to_b = quiet.out;
+        b_to_a = quiet.into;
+      };
+      lent_a = none_lent s.a s.b quiet.out;
+      lent_b = none_lent s.b s.a quiet.into;
+      done_a = h.1;
+      done_b = h.2;
+    }
 
-sends_lead : Leads BothRest (NextOf goes (SendsAll A) (SendsAll B)) BothDone
+-- the schedule from a part on
+abbrev pub FromSending : Part
+FromSending = NextOf goes (SendsAll A) (SendsAll B)
+
+abbrev pub FromTelling : Part
+FromTelling = NextOf goes (Tells A) (NextOf goes (Tells B) FromSending)
+
+abbrev pub FromRecovering : Part
+FromRecovering = NextOf goes (Recovers A) (NextOf goes (Recovers B) FromTelling)
+
+sends_lead : Leads BothTold FromSending BothDone
 sends_lead =
-    next_leads BothRest FirstDone BothDone (SendsAll A) (SendsAll B) first_sends second_sends
+    next_leads BothTold FirstDone BothDone (SendsAll A) (SendsAll B) first_sends second_sends
 
-second_lead : Leads FirstRests (NextOf goes (Recovers B) (NextOf goes (SendsAll A) (SendsAll B)))
-    BothDone
-second_lead =
-    next_leads FirstRests BothRest BothDone (Recovers B) (NextOf goes (SendsAll A) (SendsAll B))
-    second_recovers sends_lead
+tells_lead : Leads BothRest FromTelling BothDone
+tells_lead =
+    next_leads BothRest FirstTold BothDone (Tells A) (NextOf goes (Tells B) FromSending) first_tells
+    (next_leads FirstTold BothTold BothDone (Tells B) FromSending second_tells sends_lead)
 
-first_lead : Leads Drained
-    (NextOf goes (Recovers A) (NextOf goes (Recovers B) (NextOf goes (SendsAll A) (SendsAll B))))
-    BothDone
-first_lead =
-    next_leads Drained FirstRests BothDone (Recovers A)
-    (NextOf goes (Recovers B) (NextOf goes (SendsAll A) (SendsAll B))) first_recovers second_lead
+recovers_lead : Leads Drained FromRecovering BothDone
+recovers_lead =
+    next_leads Drained FirstRests BothDone (Recovers A) (NextOf goes (Recovers B) FromTelling)
+    first_recovers
+    (next_leads FirstRests BothRest BothDone (Recovers B) FromTelling second_recovers tells_lead)
 
 -- Settling ends at rest, from every sound state, however the framers stood, if every event that was
 -- acted on was sent.
 pub settling_rests : (s : LinkState) (all : List Act) → IsSoundLink s → Settles (At s) all
     → OnState (λ m. IsSoundLink m × IsSettled m) (goes (At s) all)
 settling_rests s all l does =
-    on_state (goes (At s) all) (λ m x. (x.0.sound, settled m x))
-    (next_leads IsSoundLink Drained BothDone Drains
-    (NextOf goes (Recovers A) (NextOf goes (Recovers B) (NextOf goes (SendsAll A) (SendsAll B))))
-    drains_lead first_lead s all l does)
+    on_state (goes (At s) all) (λ m x. (x.0.quiet.sound, settled m x))
+    (next_leads IsSoundLink Drained BothDone Drains FromRecovering drains_lead recovers_lead s all l
+    does)

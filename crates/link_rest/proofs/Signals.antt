@@ -1,9 +1,11 @@
 -- A restart-from-retry or a link-request comes to a port, and answers come back.
 use Rattle.std.proofs.Common.{◌≡◌, ◌⊎◌, inl, inr, ℕ, Bool, true, false, nat_lt, nat_le, ◌&&◌, ◌==◌, if◌then◌else◌, Option, None, option_to_list, List, [], ◌∷◌, ◌++◌, take, length, refl, sym, ap, ◌∙◌, append-nil}
-use Rattle.link_model.specs.Prelude.{Char, Fields, InRange, Input, Arrival, Received, symbol_arrival, receives, Output, hears, Outstanding, from_ack, distance, Place, run, place, start, place_after, at_rest, Text, Plain, Skipped, Within, symbol_chars_of, said}
+use Rattle.link_model.specs.Prelude.{Char, Fields, InRange, Input, Arrival, Received, symbol_arrival, receives, Output, hears, hears_report, Outstanding, from_ack, distance, Place, run, place, start, place_after, at_rest, Text, Plain, Skipped, Within, symbol_chars_of, said}
+use Rattle.link_model.specs.declared.reports.Report.{Report}
 use Rattle.link_buffers.specs.Priorities.{packets_of, lists_without}
 use Rattle.link_port.specs.Prelude.{Event, Ctl, Pkt, Bad, Pending, Nothing, Opened, One, Two, PortState, prios_of, expected_of, Acted, acts, replies}
-use Rattle.link_model.specs.Output.{Heard, Stype0, stype0, heard, ignored, accepted, retried, responded}
+use Rattle.link_model.specs.Output.{Heard, Stype0, stype0, heard, ignored, accepted, retried, responded, reported}
+use Rattle.link_model.specs.Reports.{has_buffer_status, base_of, report_of}
 use Rattle.link_model.specs.Outstanding.{is_oldest}
 use Rattle.link_model.specs.Places.{broken_off, begins_in, opened}
 use Rattle.link_model.specs.Reading.{text_after, told}
@@ -93,22 +95,24 @@ other_is_ignored (Output.RetryStopped w) ack = refl
 other_is_ignored (Output.ErrorStopped asked w) ack = refl
 other_is_ignored Output.Failed ack = refl
 
--- it moves the input half alone
-abbrev pub input_moved : PortState → Received → Acted
-input_moved port r = acted (record port { input = r.state }) r.reply None []
+-- a status moves the input half, and tells the output half of free buffers
+abbrev pub status_moved : PortState → Fields → Received → Acted
+status_moved port s r =
+    acted (record port { output = hears_report s port.output; input = r.state }) r.reply None []
 
 pub status_acts : (p : PortState) (s : Fields) → stype0 s.s0 ≡ Stype0.OtherStype0
-    → acts_symbol p s ≡ input_moved p (receives (symbol_arrival s.s1 s.cmd) p.input)
+    → acts_symbol p s ≡ status_moved p s (receives (symbol_arrival s.s1 s.cmd) p.input)
 status_acts p s status =
-    ap (λ (k : Stype0). hearing p (hears k p.output s.p0)
+    ap (λ (k : Stype0). hearing p (hears k (hears_report s p.output) s.p0)
     (receives (symbol_arrival s.s1 s.cmd) p.input)) status
     ∙ ap (λ (h : Heard). hearing p h (receives (symbol_arrival s.s1 s.cmd) p.input))
-    (other_is_ignored p.output s.p0)
+    (other_is_ignored (hears_report s p.output) s.p0)
 
 signal_acts : (p : PortState) (s : Fields) (what : Arrival) → IsSignal s what
-    → acts p (Ctl s) ≡ input_moved p (receives what p.input)
+    → acts p (Ctl s) ≡ status_moved p s (receives what p.input)
 signal_acts p s what is =
-    status_acts p s is.status ∙ ap (λ (a : Arrival). input_moved p (receives a p.input)) is.arrival
+    status_acts p s is.status
+    ∙ ap (λ (a : Arrival). status_moved p s (receives a p.input)) is.arrival
 
 signal_reads : (from : Place) (s : Fields) (what : Arrival) → IsSignal s what
     → reads from (symbol_chars_of s) ≡ (broken_off from.pending ++ Ctl s ∷ [], start)
@@ -135,7 +139,11 @@ replies_signalled what k input =
 
 pub signal_fed : (p : PortState) (s : Fields) (what : Arrival) → IsSignal s what
     → fed p (symbol_chars_of s)
-    ≡ record p { input = input_signalled what p.place.pending p.input; place = start }
+    ≡ record p {
+      output = hears_report s p.output;
+      input = input_signalled what p.place.pending p.input;
+      place = start;
+    }
 unfolding led
 signal_fed p s what is =
     let k = p.place.pending in
@@ -245,7 +253,8 @@ down_retried w ack none = rw (none_oldest w ack none) tt
 
 down_responded : (within : Bool) (w : Outstanding) (ack count : ℕ)
     → IsDown
-    (if within then heard (Output.Ok (from_ack ack)) count else heard Output.Failed 0).state
+    (if within then heard (Output.Ok (from_ack ack w.report)) count
+    else heard Output.Failed 0).state
 down_responded true w ack count = refl
 down_responded false w ack count = tt
 
@@ -273,11 +282,21 @@ down_heard Stype0.OtherStype0 (Output.RetryStopped w) ack down = down
 down_heard Stype0.OtherStype0 (Output.ErrorStopped asked w) ack down = tt
 down_heard Stype0.OtherStype0 Output.Failed ack down = tt
 
+down_reported : (has : Bool) (report : Option Report) (o : Output) → IsDown o
+    → IsDown (if has then reported report o else o)
+down_reported true report (Output.Ok w) down = down
+down_reported true report (Output.RetryStopped w) down = down
+down_reported true report (Output.ErrorStopped asked w) down = tt
+down_reported true report Output.Failed down = tt
+down_reported false report o down = down
+
 pub down_led : (p : PortState) (es : List Event) → IsDown p.output → IsDown (led p es).output
 unfolding led
 down_led p [] down = down
 down_led p (Ctl s ∷ es) down =
-    down_led (acts p (Ctl s)).port es (down_heard (stype0 s.s0) p.output s.p0 down)
+    down_led (acts p (Ctl s)).port es
+    (down_heard (stype0 s.s0) (hears_report s p.output) s.p0
+    (down_reported (has_buffer_status s.s0) (report_of (base_of s.s0 s.p0) s.p1) p.output down))
 down_led p (Pkt ack packet ∷ es) down = down_led (acts p (Pkt ack packet)).port es down
 down_led p (Bad cause ∷ es) down = down_led (acts p (Bad cause)).port es down
 
@@ -306,7 +325,7 @@ request_input (Two d x y) (Input.ErrorStopped e) = refl
 -- the output half after a list of symbols
 unfoldable pub output_after : Output → List Fields → Output
 output_after o [] = o
-output_after o (s ∷ ss) = output_after (hears (stype0 s.s0) o s.p0).state ss
+output_after o (s ∷ ss) = output_after (hears (stype0 s.s0) (hears_report s o) s.p0).state ss
 
 pub output_led : (p : PortState) (ss : List Fields)
     → (led p (controls ss)).output ≡ output_after p.output ss
@@ -332,16 +351,17 @@ response_heard (Two d x y) (Input.Ok e) w = refl
 response_heard (Two d x y) (Input.RetryStopped e) w = refl
 response_heard (Two d x y) (Input.ErrorStopped e) w = refl
 
-responded_by : (within : Bool) (ack count : ℕ)
-    → ((if within then heard (Output.Ok (from_ack ack)) count else heard Output.Failed 0).state
-    ≡ Output.Ok (from_ack ack))
-    ⊎ ((if within then heard (Output.Ok (from_ack ack)) count else heard Output.Failed 0).state
+responded_by : (within : Bool) (next : Outstanding) (count : ℕ)
+    → ((if within then heard (Output.Ok next) count else heard Output.Failed 0).state
+    ≡ Output.Ok next)
+    ⊎ ((if within then heard (Output.Ok next) count else heard Output.Failed 0).state
     ≡ Output.Failed)
-responded_by true ack count = inl refl
-responded_by false ack count = inr refl
+responded_by true next count = inl refl
+responded_by false next count = inr refl
 
 pub response_is : (w : Outstanding) (ack : ℕ)
-    → ((responded true w ack).state ≡ Output.Ok (from_ack ack))
+    → ((responded true w ack).state ≡ Output.Ok (from_ack ack w.report))
     ⊎ ((responded true w ack).state ≡ Output.Failed)
 response_is w ack =
-    responded_by (nat_le (distance w.oldest ack) (length w.prios)) ack (distance w.oldest ack)
+    responded_by (nat_le (distance w.oldest ack) (length w.prios)) (from_ack ack w.report)
+    (distance w.oldest ack)

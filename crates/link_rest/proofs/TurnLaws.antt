@@ -32,7 +32,7 @@ third_answers p q cs = answered (fed q cs) (chars_of (answered p (chars_of (answ
 abbrev pub Over : Side → PortState → PortState → List Char → LinkState → Type 0
 Over near p q cs m = Exchanged p q cs (from_end near m) × AreEmpty m
 
-drain_over : (near : Side) (s : LinkState) (all : List Act) (p q : PortState) (cs : List Char)
+pub drain_over : (near : Side) (s : LinkState) (all : List Act) (p q : PortState) (cs : List Char)
     → IsSoundLink s
     → (from_end near s).a ≡ p → (from_end near s).b ≡ q → (from_end near s).wire_a.chars ≡ cs
     → (from_end near s).wire_b.chars ≡ [] → Drains (At s) all

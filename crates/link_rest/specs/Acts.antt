@@ -1,12 +1,14 @@
 -- What is done on a link, one thing after another.
 use Rattle.std.specs.Prelude.{ℕ, Bool, false, if◌then◌else◌, List, [], ◌∷◌, ◌++◌}
 use Rattle.link_model.specs.declared.event.Event.{Event}
-use Rattle.link_machine.specs.Prelude.{other_side, Note, Side, LinkState, pumped, pump_notes, has_chars, delivery_from, delivered_from, delivery_notes, timed_out_at, time_out_notes}
+use Rattle.link_machine.specs.Prelude.{other_side, Note, Side, LinkState, pumped, pump_notes, told_from, tell_notes, has_chars, delivery_from, delivered_from, delivery_notes, timed_out_at, time_out_notes}
 use Rattle.link_wires.specs.Deliveries.{Delivered, Through, Undetected}
 
--- turns of a port; a delivery of characters from a port's wire; a time-out of a port
+-- turns of a port; the status of a port that tells its free buffers; a delivery of characters from
+-- a port's wire; a time-out of a port
 pub data Act : Type 0 where
   Pump : (from : Side) (turns : ℕ) → Act
+  Tell : (from : Side) → Act
   Deliver : (from : Side) (count : ℕ) → Act
   Fire : (side : Side) → Act
 
@@ -24,6 +26,7 @@ reached_by to next (Undetected told e) = Found to e
 -- after one thing
 abbrev pub after : Act → LinkState → Reached
 after (Pump from turns) link = At (pumped from turns link)
+after (Tell from) link = At (told_from from link)
 after (Deliver from count) link =
     if has_chars from count link
     then reached_by (other_side from) (delivered_from from count link)
@@ -40,6 +43,7 @@ goes (Found side e) (act ∷ acts) = Found side e
 -- what one thing is noted as
 abbrev pub act_notes : Act → LinkState → List Note
 act_notes (Pump from turns) link = pump_notes from turns link
+act_notes (Tell from) link = tell_notes from link
 act_notes (Deliver from count) link = delivery_notes from count link
 act_notes (Fire side) link = time_out_notes side link
 

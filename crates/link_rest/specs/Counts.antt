@@ -1,7 +1,7 @@
 -- Time-outs among what is done.
 use Rattle.std.specs.Prelude.{ℕ, ◌+◌, Bool, true, false, List, [], ◌∷◌, if◌then◌else◌}
 use Rattle.link_machine.specs.Prelude.{Side, A, B}
-use Rattle.link_rest.specs.Acts.{Act, Pump, Deliver, Fire}
+use Rattle.link_rest.specs.Acts.{Act, Pump, Tell, Deliver, Fire}
 
 abbrev pub same_side : Side → Side → Bool
 same_side A A = true
@@ -11,6 +11,7 @@ same_side B B = true
 
 abbrev pub is_fire : Side → Act → Bool
 is_fire side (Pump from turns) = false
+is_fire side (Tell from) = false
 is_fire side (Deliver from count) = false
 is_fire side (Fire at) = same_side side at
 

@@ -1,11 +1,15 @@
 -- A link at rest.
-use Rattle.std.specs.Prelude.{◌≡◌, ◌⊎◌, ℕ, ◌+◌, true, false, List, [], Some, None, slice_get}
+use Rattle.std.specs.Prelude.{◌≡◌, ◌⊎◌, ℕ, ◌+◌, true, false, List, [], Option, Some, None, slice_get}
 use Rattle.link_model.specs.Prelude.{prio_of, from_ack, at_rest}
+use Rattle.link_model.specs.declared.reports.Report.{Report}
+use Rattle.link_model.specs.Reports.{report_of}
 use Rattle.link_buffers.specs.Prelude.{Buffered, list_at, popped, room_for, stored, packet_count, highest}
 use Rattle.link_model.specs.Input as in_half
 use Rattle.link_model.specs.Output as out
 use Rattle.link_port.specs.Ports.{PortState}
+use Rattle.link_port.specs.Prelude.{expected_of, buffer_status}
 use Rattle.link_sound.specs.Lent.{lent}
+use Rattle.link_sound.specs.Told.{last_report}
 use Rattle.link_machine.specs.States.{LinkState}
 use Rattle.link_rest.specs.Settling.{is_retry_stopped}
 
@@ -13,9 +17,17 @@ use Rattle.link_rest.specs.Settling.{is_retry_stopped}
 -- expects the next ackID.
 pub record IsAtRest (sender receiver : PortState) : Type 0 where
   pub ack : ℕ
-  pub sender_ok : sender.output ≡ out.Output.Ok (from_ack ack)
+  pub report : Option Report
+  pub sender_ok : sender.output ≡ out.Output.Ok (from_ack ack report)
   pub receiver_ok : receiver.input ≡ in_half.Input.Ok ack
   pub place : at_rest receiver.place ≡ true
+
+-- The last report that the sender keeps is what the receiver would tell now: its free buffers, if
+-- it tells them, else nothing.
+abbrev pub KnowsRoom : PortState → PortState → Type 0
+KnowsRoom sender receiver =
+    last_report sender.output
+    ≡ report_of (expected_of receiver.input) (buffer_status receiver.tells receiver.received)
 
 -- the first packet of the highest priority that has one waits, and has no room at the receiver
 pub record IsBlocked (queued : List (List (List ℕ))) (received : Buffered) : Type 0 where

@@ -6,10 +6,10 @@ use Rattle.link_buffers.specs.Priorities.{highest}
 use Rattle.link_model.specs.Input as in_half
 use Rattle.link_model.specs.Output as out
 use Rattle.link_model.specs.Places.{at_rest}
-use Rattle.link_port.specs.Prelude.{PortState, waiting_in}
+use Rattle.link_port.specs.Prelude.{PortState, waiting_in, is_ready}
 use Rattle.link_machine.specs.Prelude.{Side, A, B, LinkState, from_end, has_none}
 use Rattle.link_rest.specs.Schedules.{NextOf, WhereOf, Is, LoopOf}
-use Rattle.link_rest.specs.Acts.{Act, Pump, Deliver, Fire, Reached, At, Found, goes, holds}
+use Rattle.link_rest.specs.Acts.{Act, Pump, Tell, Deliver, Fire, Reached, At, Found, goes, holds}
 
 -- a part of the schedule: from how far a link has come, what is done
 abbrev pub Part : Type 1
@@ -127,14 +127,22 @@ Recovers side =
     WhereOf (of_end side (λ link. not (has_failed link.a.output)))
     (NextOf goes (Restarts side) (Requests side))
 
+-- ---- free buffers are told
+
+-- the status of a port that tells its free buffers, and what comes of it
+abbrev pub Tells : Side → Part
+Tells side =
+    WhereOf (of_end side (λ link. link.a.tells))
+    (NextOf goes (Is (λ reached. Tell side ∷ [])) Drains)
+
 -- ---- what waits is sent
 
--- If the direction is at rest, packet by packet. One that has no room is asked for again; then the
--- port restarts and sends no more.
+-- If the direction is at rest, packet by packet, as long as a turn starts one. One that has no room
+-- is asked for again; then the port restarts and sends no more.
 abbrev pub SendsAll : Side → Part
 SendsAll side =
     WhereOf (of_end side first_rests)
-    (LoopOf goes (of_end side (λ link. waits link.a)) (TakesTurn side)
+    (LoopOf goes (of_end side (λ link. is_ready link.a)) (TakesTurn side)
     (of_end side (λ link. is_retry_stopped link.a.output)) (TakesTurn side))
 
 abbrev pub Settles : Part
@@ -142,4 +150,6 @@ Settles =
     NextOf goes Drains
     (NextOf goes (Recovers A)
     (NextOf goes (Recovers B)
-    (NextOf goes (SendsAll A) (SendsAll B))))
+    (NextOf goes (Tells A)
+    (NextOf goes (Tells B)
+    (NextOf goes (SendsAll A) (SendsAll B))))))

@@ -1,9 +1,9 @@
 //! What holds of settling. The calls do nothing: their clauses are the laws.
 
-ghost use Rattle.std.specs.Prelude.{◌≡◌, ℕ, ◌<◌, ◌≤◌, true, List, [], length};
+ghost use Rattle.std.specs.Prelude.{◌≡◌, ℕ, ◌<◌, ◌≤◌, Bool, true, List, [], length};
 ghost use Rattle.rio_chars.specs.declared.chars.Char.{Char};
 ghost use Rattle.link_port.specs.Ports.{new_port};
-ghost use Rattle.link_port.specs.Prelude.{Pending, PortState, expected_of};
+ghost use Rattle.link_port.specs.Prelude.{Pending, PortState, expected_of, is_ready};
 ghost use Rattle.link_machine.specs.Layer.{IsServed, with_port};
 ghost use Rattle.link_machine.specs.Prelude.{Side, IsSoundLink, LinkState, from_end};
 ghost use Rattle.link_machine.specs.States.{link, empty_wires};
@@ -11,14 +11,14 @@ ghost use Rattle.link_rest.specs.Acts.{Act, Reached, At, goes, OnState};
 ghost use Rattle.link_rest.specs.Calm.{IsCalm, IsStillCalm};
 ghost use Rattle.link_rest.specs.Counts.{fires};
 ghost use Rattle.link_rest.specs.Led.{answered, chars_of};
-ghost use Rattle.link_rest.specs.Rest.{IsQuiet, IsSettled, IsRound};
-ghost use Rattle.link_rest.specs.Settling.{waits, of_end, Drains, TakesTurn, Settles};
+ghost use Rattle.link_rest.specs.Rest.{IsQuiet, IsSettled, IsRound, HasPassed, KnowsRoom};
+ghost use Rattle.link_rest.specs.Settling.{of_end, Drains, TakesTurn, Settles};
 
 /// What a port answers, whatever came to it, has no answer at a port that has no symbol in
 /// progress.
 pub fn answers_have_no_answer()
     ensures { (p q : PortState) (chars : List Char)
-        → expected_of p.input < 32 → q.place.pending ≡ Pending.Nothing
+        → expected_of p.input < 32 → p.received.buffers < 32 → q.place.pending ≡ Pending.Nothing
         → answered q (chars_of (answered p chars)) ≡ [] }
 {}
 
@@ -40,14 +40,20 @@ pub fn each_side_fires_once()
         → Settles from all → fires side all ≤ 1 }
 {}
 
-/// If both directions are at rest and a packet waits at a side, a turn with what comes of it passes
-/// the first packet of the highest priority that has one; or that packet has no room, and the port
-/// is to restart.
+/// If both directions are at rest, a turn that starts a packet, with what comes of it, passes the
+/// first packet of the highest priority that has one; or that packet has no room, and the port is
+/// to restart. It always passes, if the far port tells its free buffers and this side knows of
+/// them.
 pub fn rounds_pass_packets()
-    ensures { (near : Side) (s : LinkState) (all : List Act) → IsSoundLink s → IsQuiet s
-        → of_end near (λ link. waits link.a) (At s) ≡ true → TakesTurn near (At s) all
+    ensures round { (near : Side) (s : LinkState) (all : List Act) → IsSoundLink s → IsQuiet s
+        → of_end near (λ link. is_ready link.a) (At s) ≡ true → TakesTurn near (At s) all
         → OnState (λ m. IsSoundLink m × IsRound (from_end near s) (from_end near m))
         (goes (At s) all) }
+    ensures told { (near : Side) (s : LinkState) (all : List Act) → IsSoundLink s → IsQuiet s
+        → KnowsRoom (from_end near s).a (from_end near s).b
+        → of_end near (λ link. link.b.tells) (At s) ≡ true
+        → of_end near (λ link. is_ready link.a) (At s) ≡ true → TakesTurn near (At s) all
+        → OnState (λ m. HasPassed (from_end near s) (from_end near m)) (goes (At s) all) }
 {}
 
 /// From every sound link there is a way to settle it.
@@ -74,7 +80,8 @@ pub fn settling_ends_at_rest()
 /// and calm link, each event that is acted on was sent, and the link is sound and calm again. The
 /// layer above keeps it so.
 pub fn nothing_unsent_without_an_edit()
-    ensures begins { (m n : ℕ) → IsCalm (link empty_wires (new_port m) (new_port n)) }
+    ensures begins { (tells_a tells_b : Bool) (m n : ℕ)
+        → IsCalm (link empty_wires (new_port tells_a m) (new_port tells_b n)) }
     ensures quiet { (s : LinkState) → IsQuiet s → IsCalm s }
     ensures layer { (side : Side) (next : PortState) (s : LinkState)
         → IsServed (from_end side s).a next → IsCalm s → IsCalm (with_port side next s) }

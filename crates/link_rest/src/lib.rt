@@ -4,10 +4,10 @@
 //!
 //! - `Schedules`: how a schedule is put together from parts: one after another, where a test holds,
 //!   again and again;
-//! - `Acts`: what is done on a link, a list of pumps, deliveries and time-outs; how far a link
-//!   comes by it, to a state or to an event that was not sent; and its notes;
+//! - `Acts`: what is done on a link, a list of pumps, statuses, deliveries and time-outs; how far a
+//!   link comes by it, to a state or to an event that was not sent; and its notes;
 //! - `Settling`: the schedule of settling; `Counts`: time-outs among what is done;
-//! - `Rest`: a link at rest, and a packet that passes;
+//! - `Rest`: a link at rest, what a port knows of the room of the other, and a packet that passes;
 //! - `Calm`: a link whose wires stand as they were sent;
 //! - `Led` and `Broken`: what a port becomes of characters by the tables alone, and what it
 //!   answers.

@@ -148,6 +148,7 @@ through_then rest (Through flow) place count port kept moves replies there h = (
       input = (h.2 i).input;
       queued = (h.2 i).queued;
       received = (h.2 i).received;
+      tells = (h.2 i).tells;
     };
     kept = h.3 i;
     told = record { moves = h.4 i; replies = h.5 i; acted = flow.told.acted; count = count };

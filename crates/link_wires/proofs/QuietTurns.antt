@@ -3,53 +3,68 @@ use Rattle.std.proofs.Common.{◌≡◌, ◌==◌, ℕ, zero, suc, ◌<◌, Bool
 use Rattle.std.proofs.lemmas.Bool.{eqb-true}
 use Rattle.link_buffers.specs.Prelude.{list_at, highest}
 use Rattle.link_buffers.proofs.PriorityLaws.{highest_below-some}
-use Rattle.link_port.specs.Prelude.{Event, PortState, expected_of, Burst, no_burst, packet_burst, burst_of, waiting_in, turns_to, turn_sends}
+use Rattle.link_port.specs.Prelude.{Event, PortState, Burst, no_burst, packet_burst, burst_of, standing, waiting_in, turns_to, turn_sends}
 use Rattle.link_model.specs.Outstanding.{Outstanding}
-use Rattle.link_model.specs.Output.{Output, Ok, RetryStopped, ErrorStopped, Failed, turns, started, startable}
+use Rattle.link_model.specs.Output.{Output, Ok, RetryStopped, ErrorStopped, Failed, turns, started, credited, startable}
 use Rattle.link_wires.specs.Wires.{both_bursts, turned, bursts}
 
 pub none_are : (sent : List Event) → (length sent == 0) ≡ true → sent ≡ []
 none_are [] is = refl
 none_are (e ∷ sent) is = absurd (omega (arith, eqb-true (suc (length sent)) 0 is))
 
--- a packet that is there is sent
-packet_sent : (expected ack : ℕ) (packets : List (List ℕ)) → 0 < length packets
-    → (packet_burst expected ack (slice_get packets 0)).sent ≡ [] → ⊥
-packet_sent expected ack [] some none = omega arith
-packet_sent expected ack (p ∷ packets) some none = cc
+-- a packet that is there is sent, from a port that stands as this one
+packet_sent : (at : PortState) (ack : ℕ) (packets : List (List ℕ)) → 0 < length packets
+    → (packet_burst (standing at) ack (slice_get packets 0)).sent ≡ [] → ⊥
+packet_sent at ack [] some none = omega arith
+packet_sent at ack (p ∷ packets) some none = cc
 
 -- the priority that may start is the highest that waits
-startable_is : (room : Bool) (waiting : Option ℕ) (prio : ℕ)
-    → (if room then waiting else None) ≡ Some prio → waiting ≡ Some prio
-startable_is true waiting prio is = is
-startable_is false waiting prio is = absurd cc
+if_is : (test : Bool) (waiting : Option ℕ) (prio : ℕ)
+    → (if test then waiting else None) ≡ Some prio → waiting ≡ Some prio
+if_is true waiting prio is = is
+if_is false waiting prio is = absurd cc
 
-start_quiet : (w : Outstanding) (waiting : List (List (List ℕ))) (expected : ℕ) (first : Option ℕ)
+credited_is : (w : Outstanding) (waiting : Option ℕ) (prio : ℕ)
+    → credited w waiting ≡ Some prio → waiting ≡ Some prio
+credited_is w None prio is = is
+credited_is w (Some first) prio is = if_is _ (Some first) prio is
+
+startable_is : (w : Outstanding) (waiting : Option ℕ) (prio : ℕ)
+    → startable w waiting ≡ Some prio → waiting ≡ Some prio
+startable_is w waiting prio is =
+    credited_is w waiting prio (if_is _ (credited w waiting) prio is)
+
+-- a port that starts nothing sends nothing only if it does not tell
+start_quiet :
+    (tells : Bool) (w : Outstanding) (waiting : List (List (List ℕ))) (at : PortState)
+    (first : Option ℕ)
     → ((prio : ℕ) → first ≡ Some prio → highest waiting ≡ Some prio)
-    → (burst_of (started w first).sends expected waiting).sent ≡ []
-    → ((started w first).state ≡ Ok w)
-    × (burst_of (started w first).sends expected waiting ≡ no_burst)
-start_quiet w waiting expected None is none = (refl, refl)
-start_quiet w waiting expected (Some prio) is none =
-    absurd (packet_sent expected _ (list_at waiting prio)
+    → (burst_of (started tells w first).sends (standing at) waiting).sent ≡ []
+    → ((started tells w first).state ≡ Ok w)
+    × (burst_of (started tells w first).sends (standing at) waiting ≡ no_burst)
+start_quiet true w waiting at None is none = absurd cc
+start_quiet false w waiting at None is none = (refl, refl)
+start_quiet tells w waiting at (Some prio) is none =
+    absurd (packet_sent at _ (list_at waiting prio)
     (highest_below-some 4 prio waiting (is prio refl)).1 none)
 
-entry_quiet : (o : Output) (waiting : List (List (List ℕ))) (expected : ℕ)
-    → (burst_of (turns o (highest waiting)).sends expected waiting).sent ≡ []
-    → ((turns o (highest waiting)).state ≡ o)
-    × (burst_of (turns o (highest waiting)).sends expected waiting ≡ no_burst)
-entry_quiet (Ok w) waiting expected none =
-    start_quiet w waiting expected (startable w (highest waiting))
-    (λ prio. startable_is _ (highest waiting) prio) none
-entry_quiet (RetryStopped w) waiting expected none = absurd cc
-entry_quiet (ErrorStopped false w) waiting expected none = absurd cc
-entry_quiet (ErrorStopped true w) waiting expected none = (refl, refl)
-entry_quiet Failed waiting expected none = (refl, refl)
+entry_quiet :
+    (tells : Bool) (o : Output) (waiting : List (List (List ℕ))) (at : PortState)
+    → (burst_of (turns tells o (highest waiting)).sends (standing at) waiting).sent ≡ []
+    → ((turns tells o (highest waiting)).state ≡ o)
+    × (burst_of (turns tells o (highest waiting)).sends (standing at) waiting ≡ no_burst)
+entry_quiet tells (Ok w) waiting at none =
+    start_quiet tells w waiting at (startable w (highest waiting))
+    (λ prio. startable_is w (highest waiting) prio) none
+entry_quiet tells (RetryStopped w) waiting at none = absurd cc
+entry_quiet tells (ErrorStopped false w) waiting at none = absurd cc
+entry_quiet tells (ErrorStopped true w) waiting at none = (refl, refl)
+entry_quiet tells Failed waiting at none = (refl, refl)
 
 pub quiet_turn : (port : PortState) → (turn_sends port).sent ≡ []
     → (turns_to port ≡ port) × (turn_sends port ≡ no_burst)
 quiet_turn port none =
-    let entry = entry_quiet port.output (waiting_in port) (expected_of port.input) none in
+    let entry = entry_quiet port.tells port.output (waiting_in port) port none in
     (ap (λ (o : Output). record port { output = o }) entry.0, entry.1)
 
 -- ---- and so are all turns after it

@@ -1,16 +1,16 @@
 //! One way of a link: the characters on it, and the events that were sent on it and that no acted
 //! event has met.
 //!
-//! Promised: what a port sends in its turns goes to the end, characters and events alike. A
-//! delivery is the reading of the characters led through the step tables, one event after another;
-//! each event that is acted on must be one that was sent, and such events are found exactly where
-//! they were sent in this order. An edit changes characters alone, and nothing where it does not
-//! lie within them. Taking from the front costs what is taken, appending what is appended, and an
-//! edit what stands on its shorter side.
+//! Promised: what a port sends in its turns, or tells of its free buffers, goes to the end,
+//! characters and events alike. A delivery is the reading of the characters led through the step
+//! tables, one event after another; each event that is acted on must be one that was sent, and such
+//! events are found exactly where they were sent in this order. An edit changes characters alone,
+//! and nothing where it does not lie within them. Taking from the front costs what is taken,
+//! appending what is appended, and an edit what stands on its shorter side.
 //!
 //! Left out: the other way of the link, and what is noted for whoever watches.
 //!
-//! - [`Wire`]: one way, with `pump`, `reply`, `deliver`, `edit` and `silence`
+//! - [`Wire`]: one way, with `pump`, `tell`, `reply`, `deliver`, `edit` and `silence`
 //! - [`Delivery`] and [`Move`]: what came of characters that a port took
 //! - [`Edit`] and [`Edited`]: a change of the characters, and what came of it
 //! - [`acted_events_are_sent_ones`], [`deliveries_go_by_pieces`] and

@@ -2,6 +2,7 @@
 ghost use Rattle.std.specs.Prelude.{◌≡◌, ◌++◌, ◌∷◌, [], IfOk, OnOk};
 ghost use Rattle.link_model.specs.ReadingSpelt.{symbol_chars_of};
 ghost use Rattle.link_model.specs.declared.event.Event.TheVariants.{Ctl};
+ghost use Rattle.link_port.specs.Turns.{tell_sends};
 ghost use Rattle.link_wires.specs.Wires.{with_sent, turned, bursts, answers};
 
 use crate::wire::Wire;
@@ -38,6 +39,18 @@ impl Wire {
             }
             self.send(burst, &mut chars)?;
         }
+        Ok(chars)
+    }
+
+    /// Has a port tell its free buffers, if it does, and puts what it sends at the end of its wire.
+    /// Returns the characters. `NoMemory` is the only other answer, and after it the wire is of no
+    /// use.
+    pub fn tell(&mut self, alloc: Global, port: &Port) -> Result<Vec<Char>, NoMemory>
+        ensures wire { OnOk result (self.new ≡ with_sent self.old (tell_sends port.now)) }
+        ensures sent { IfOk result (λ chars. chars.items ≡ (tell_sends port.now).chars) }
+    {
+        let mut chars = Vec::new(alloc);
+        self.send(port.tell(), &mut chars)?;
         Ok(chars)
     }
 

@@ -1,4 +1,4 @@
-use Rattle.std.proofs.Common.{◌&&◌, true, false, sym, ap, ◌∙◌}
+use Rattle.std.proofs.Common.{◌&&◌, sym, ap, ◌∙◌}
 use Rattle.link_law.specs.Resting.{are_idle}
 use Rattle.link_law.proofs.link.Link.has_no_work.Goals as goal
 

@@ -1,7 +1,7 @@
-use Rattle.std.proofs.Common.{refl, sym, ap, ◌∙◌, arith, rules}
-use Rattle.link_port.specs.Ports.{PortState}
+use Rattle.std.proofs.Common.{refl, sym, ap, ◌∙◌, rules}
+use Rattle.link_port.specs.Prelude.{PortState, is_ready}
 use Rattle.link_machine.specs.States.{link}
-use Rattle.link_rest.specs.Settling.{waits, is_retry_stopped}
+use Rattle.link_rest.specs.Settling.{is_retry_stopped}
 use Rattle.link_rest.proofs.Sending.{Sending}
 use Rattle.link_law.proofs.SendLaws.{quiet_first, sent_none, sent_on, sent_over, sent_ends, last_did, sound_round, all_comes, all_did}
 use Rattle.link_law.proofs.DoesLaws.{IsWatch, did_end}
@@ -36,8 +36,8 @@ returns-in_err-take_turn-clause-does g c =
     let next = link c.take_turn.new.self c.take_turn.new.a c.take_turn.new.b in
     let end = c.in_err-take_turn.field-0.0 in
     let busy =
-    ap (λ (p : PortState). waits p) (sym (c.near.ensures c.loop-alloc.self))
-    ∙ sym c.is_waiting.ensures
+    ap (λ (p : PortState). is_ready p) (sym (c.near.ensures c.loop-alloc.self))
+    ∙ sym c.is_ready.ensures
     ∙ c.loop-alloc-test.true in
     all_did g.W.Watch.grew g.W.Watch.cut c.args.side s c.args.watch.now c.take_turn.new.watch
     c.from_residual.result next (quiet_first c.args.side s c.requires)
@@ -52,8 +52,8 @@ take_turn-requires-then-stands_back g c =
     let here = link c.loop-alloc.self c.loop-alloc.a c.loop-alloc.b in
     let next = link c.take_turn.new.self c.take_turn.new.a c.take_turn.new.b in
     sound_round c.args.side here next c.loop-alloc.watch c.take_turn.new.watch
-    c.loop-alloc.invariant.0.quiet (ap (λ (p : PortState). waits p) (sym (c.near.ensures
-    c.loop-alloc.self)) ∙ sym c.is_waiting.ensures ∙ c.loop-alloc-test.true)
+    c.loop-alloc.invariant.0.quiet (ap (λ (p : PortState). is_ready p) (sym (c.near.ensures
+    c.loop-alloc.self)) ∙ sym c.is_ready.ensures ∙ c.loop-alloc-test.true)
     c.in_ok-take_turn.ensures.does
 
 pub returns-then-stands_back-clause-does : goal.returns-then-stands_back-clause-does
@@ -65,8 +65,8 @@ returns-then-stands_back-clause-does g c =
     link c.take_turn-then-stands_back.new.self c.take_turn-then-stands_back.new.a
     c.take_turn-then-stands_back.new.b in
     let busy =
-    ap (λ (p : PortState). waits p) (sym (c.near.ensures c.loop-alloc.self))
-    ∙ sym c.is_waiting.ensures
+    ap (λ (p : PortState). is_ready p) (sym (c.near.ensures c.loop-alloc.self))
+    ∙ sym c.is_ready.ensures
     ∙ c.loop-alloc-test.true in
     let leaves =
     ap (λ (p : PortState). is_retry_stopped p.output)
@@ -87,8 +87,8 @@ loop-alloc-smaller g c =
     let here = link c.loop-alloc.self c.loop-alloc.a c.loop-alloc.b in
     let next = link c.take_turn.new.self c.take_turn.new.a c.take_turn.new.b in
     (sent_on {cut = g.W.Watch.cut} (is_watch g) c.args.side s here next c.args.watch.now
-    c.loop-alloc.watch c.take_turn.new.watch (ap (λ (p : PortState). waits p) (sym (c.near.ensures
-    c.loop-alloc.self)) ∙ sym c.is_waiting.ensures ∙ c.loop-alloc-test.true) (ap (λ (p :
+    c.loop-alloc.watch c.take_turn.new.watch (ap (λ (p : PortState). is_ready p)
+    (sym (c.near.ensures c.loop-alloc.self)) ∙ sym c.is_ready.ensures ∙ c.loop-alloc-test.true) (ap (λ (p :
     PortState). is_retry_stopped p.output) (sym (c.near-in-loop-alloc.ensures
     c.take_turn.new.self)) ∙ sym c.stands_back.ensures ∙ c.if-stands_back.false)
     c.loop-alloc.invariant.0 c.in_ok-take_turn.ensures.does).1
@@ -100,8 +100,8 @@ loop-alloc-preserved g c =
     let next = link c.take_turn.new.self c.take_turn.new.a c.take_turn.new.b in (
       (sent_on {cut = g.W.Watch.cut} (is_watch g) c.args.side s here next c.args.watch.now
           c.loop-alloc.watch c.take_turn.new.watch
-          (ap (λ (p : PortState). waits p) (sym (c.near.ensures
-          c.loop-alloc.self)) ∙ sym c.is_waiting.ensures ∙ c.loop-alloc-test.true) (ap (λ (p :
+          (ap (λ (p : PortState). is_ready p) (sym (c.near.ensures
+          c.loop-alloc.self)) ∙ sym c.is_ready.ensures ∙ c.loop-alloc-test.true) (ap (λ (p :
           PortState). is_retry_stopped p.output) (sym (c.near-in-loop-alloc.ensures
           c.take_turn.new.self)) ∙ sym c.stands_back.ensures ∙ c.if-stands_back.false)
           c.loop-alloc.invariant.0 c.in_ok-take_turn.ensures.does).0,
@@ -115,5 +115,5 @@ returns-clause-does g c =
     let here = link c.loop-alloc.self c.loop-alloc.a c.loop-alloc.b in
     all_comes c.args.side s here c.args.watch.now c.loop-alloc.watch (quiet_first c.args.side s
     c.requires) (sent_over {cut = g.W.Watch.cut} (is_watch g) c.args.side s here c.args.watch.now
-    c.loop-alloc.watch (ap (λ (p : PortState). waits p) (sym (c.near.ensures c.loop-alloc.self)) ∙
-    sym c.is_waiting.ensures ∙ c.loop-alloc-test.false) c.loop-alloc.invariant.0)
+    c.loop-alloc.watch (ap (λ (p : PortState). is_ready p)
+    (sym (c.near.ensures c.loop-alloc.self)) ∙ sym c.is_ready.ensures ∙ c.loop-alloc-test.false) c.loop-alloc.invariant.0)

@@ -1,9 +1,10 @@
 use Rattle.std.proofs.Common.{rules}
-use Rattle.link_machine.specs.Prelude.{link, B}
-use Rattle.link_rest.specs.Settling.{SendsAll, Settles}
+use Rattle.link_machine.specs.Prelude.{link}
+use Rattle.link_rest.specs.Settling.{Settles}
+use Rattle.link_rest.proofs.Settled.{FromTelling, FromRecovering}
 use Rattle.link_law.specs.Does.{Did}
 use Rattle.link_law.proofs.DoesLaws.{IsWatch, did_next, did_early}
-use Rattle.link_law.proofs.SettleLaws.{Sends, SecondOn, FirstOn, drained_at, first_at, second_at, sent_at, is_quiet, did_comes, did_settles, did_ends, first_follows, second_follows, sends_follow, send_follows}
+use Rattle.link_law.proofs.SettleLaws.{SecondRecovers, drained_at, first_at, second_at, is_quiet, did_comes, did_settles, did_ends, first_follows, second_follows, finish_follows}
 use Rattle.link_law.proofs.link.Link.settle.Given.{Over}
 use Rattle.link_law.proofs.link.Link.settle.Goals as goal
 
@@ -31,8 +32,8 @@ returns-in_err-recover-clause-ended g c =
     let first = link c.recover.new.self c.recover.new.a c.recover.new.b in
     did_ends g.W.Watch.grew g.W.Watch.cut s c.args.watch.now c.recover.new.watch
     c.from_residual-in_err-recover.result first
-    (did_next (is_watch g) FirstOn c.recover.new.watch c.from_residual-in_err-recover.result first
-    c.in_ok-drain.ensures.does
+    (did_next (is_watch g) FromRecovering c.recover.new.watch
+    c.from_residual-in_err-recover.result first c.in_ok-drain.ensures.does
     (did_early (is_watch g) c.drain.new.watch c.recover.new.watch c.in_err-recover.field-0.0
     c.from_residual-in_err-recover.result first (second_follows drained
     (drained_at s drained c.args.watch.now c.drain.new.watch c.requires c.in_ok-drain.ensures.does))
@@ -47,41 +48,16 @@ returns-in_err-recover-2-clause-ended g c =
     let second = link c.recover-2.new.self c.recover-2.new.a c.recover-2.new.b in
     did_ends g.W.Watch.grew g.W.Watch.cut s c.args.watch.now c.recover-2.new.watch
     c.from_residual-in_err-recover-2.result second
-    (did_next (is_watch g) FirstOn c.recover-2.new.watch c.from_residual-in_err-recover-2.result
-    second
-    c.in_ok-drain.ensures.does
-    (did_next (is_watch g) SecondOn c.recover-2.new.watch c.from_residual-in_err-recover-2.result
-    second
-    c.in_ok-recover.ensures.does
+    (did_next (is_watch g) FromRecovering c.recover-2.new.watch
+    c.from_residual-in_err-recover-2.result second c.in_ok-drain.ensures.does
+    (did_next (is_watch g) SecondRecovers c.recover-2.new.watch
+    c.from_residual-in_err-recover-2.result second c.in_ok-recover.ensures.does
     (did_early (is_watch g) c.recover.new.watch c.recover-2.new.watch c.in_err-recover-2.field-0.0
-    c.from_residual-in_err-recover-2.result second (sends_follow first
+    c.from_residual-in_err-recover-2.result second (finish_follows first
     (first_at drained first c.drain.new.watch c.recover.new.watch
     (drained_at s drained c.args.watch.now c.drain.new.watch c.requires c.in_ok-drain.ensures.does)
     c.in_ok-recover.ensures.does)) (search rules)
     c.in_err-recover-2.ensures.does)))
-
-pub returns-in_err-send_all-clause-ended : goal.returns-in_err-send_all-clause-ended
-returns-in_err-send_all-clause-ended g c =
-    let s = link c.args.self.now c.args.a.now c.args.b.now in
-    let drained = link c.drain.new.self c.drain.new.a c.drain.new.b in
-    let first = link c.recover.new.self c.recover.new.a c.recover.new.b in
-    let second = link c.recover-2.new.self c.recover-2.new.a c.recover-2.new.b in
-    let sent = link c.send_all.new.self c.send_all.new.a c.send_all.new.b in
-    did_ends g.W.Watch.grew g.W.Watch.cut s c.args.watch.now c.send_all.new.watch
-    c.from_residual-in_err-send_all.result sent
-    (did_next (is_watch g) FirstOn c.send_all.new.watch c.from_residual-in_err-send_all.result sent
-    c.in_ok-drain.ensures.does
-    (did_next (is_watch g) SecondOn c.send_all.new.watch c.from_residual-in_err-send_all.result sent
-    c.in_ok-recover.ensures.does
-    (did_next (is_watch g) Sends c.send_all.new.watch c.from_residual-in_err-send_all.result sent
-    c.in_ok-recover-2.ensures.does
-    (did_early (is_watch g) c.recover-2.new.watch c.send_all.new.watch c.in_err-send_all.field-0.0
-    c.from_residual-in_err-send_all.result sent (send_follows second
-    (second_at first second c.recover.new.watch c.recover-2.new.watch
-    (first_at drained first c.drain.new.watch c.recover.new.watch
-    (drained_at s drained c.args.watch.now c.drain.new.watch c.requires c.in_ok-drain.ensures.does)
-    c.in_ok-recover.ensures.does) c.in_ok-recover-2.ensures.does)) (search rules)
-    c.in_err-send_all.ensures.does))))
 
 pub recover-requires : goal.recover-requires
 recover-requires g c =
@@ -99,8 +75,8 @@ recover-requires-2 g c =
     c.args.watch.now c.drain.new.watch c.requires c.in_ok-drain.ensures.does)
     c.in_ok-recover.ensures.does).0.0
 
-pub send_all-requires : goal.send_all-requires
-send_all-requires g c =
+pub finish-requires : goal.finish-requires
+finish-requires g c =
     let s = link c.args.self.now c.args.a.now c.args.b.now in
     let drained = link c.drain.new.self c.drain.new.a c.drain.new.b in
     let first = link c.recover.new.self c.recover.new.a c.recover.new.b in
@@ -110,51 +86,36 @@ send_all-requires g c =
     c.drain.new.watch c.requires c.in_ok-drain.ensures.does) c.in_ok-recover.ensures.does)
     c.in_ok-recover-2.ensures.does)
 
-pub send_all-requires-2 : goal.send_all-requires-2
-send_all-requires-2 g c =
-    let s = link c.args.self.now c.args.a.now c.args.b.now in
-    let drained = link c.drain.new.self c.drain.new.a c.drain.new.b in
-    let first = link c.recover.new.self c.recover.new.a c.recover.new.b in
-    let second = link c.recover-2.new.self c.recover-2.new.a c.recover-2.new.b in
-    let sent = link c.send_all.new.self c.send_all.new.a c.send_all.new.b in
-    is_quiet sent (sent_at second sent c.recover-2.new.watch c.send_all.new.watch (second_at first
-    second c.recover.new.watch c.recover-2.new.watch (first_at drained first c.drain.new.watch
-    c.recover.new.watch (drained_at s drained c.args.watch.now c.drain.new.watch c.requires
-    c.in_ok-drain.ensures.does) c.in_ok-recover.ensures.does)
-    c.in_ok-recover-2.ensures.does) c.in_ok-send_all.ensures.does).0
-
-settles : (g : Over) (c : goal.After-send_all-2 g)
+settles : (g : Over) (c : goal.After-finish g)
     → Did g.W.Watch.grew g.W.Watch.cut Settles (link c.args.self.now c.args.a.now c.args.b.now)
-    c.args.watch.now c.send_all-2.result
-    (link c.send_all-2.new.self c.send_all-2.new.a c.send_all-2.new.b) c.send_all-2.new.watch
+    c.args.watch.now c.finish.result (link c.finish.new.self c.finish.new.a c.finish.new.b)
+    c.finish.new.watch
 settles g c =
-    let last = link c.send_all-2.new.self c.send_all-2.new.a c.send_all-2.new.b in
-    did_next (is_watch g) FirstOn c.send_all-2.new.watch c.send_all-2.result last
+    let last = link c.finish.new.self c.finish.new.a c.finish.new.b in
+    did_next (is_watch g) FromRecovering c.finish.new.watch c.finish.result last
     c.in_ok-drain.ensures.does
-    (did_next (is_watch g) SecondOn c.send_all-2.new.watch c.send_all-2.result last
+    (did_next (is_watch g) SecondRecovers c.finish.new.watch c.finish.result last
     c.in_ok-recover.ensures.does
-    (did_next (is_watch g) Sends c.send_all-2.new.watch c.send_all-2.result last
-    c.in_ok-recover-2.ensures.does
-    (did_next (is_watch g) (SendsAll B) c.send_all-2.new.watch c.send_all-2.result last
-    c.in_ok-send_all.ensures.does c.send_all-2.ensures.does)))
+    (did_next (is_watch g) FromTelling c.finish.new.watch c.finish.result last
+    c.in_ok-recover-2.ensures.does c.finish.ensures.does))
 
 pub returns-clause-done : goal.returns-clause-done
 returns-clause-done g c =
     let s = link c.args.self.now c.args.a.now c.args.b.now in
-    let last = link c.send_all-2.new.self c.send_all-2.new.a c.send_all-2.new.b in
-    did_comes g.W.Watch.grew g.W.Watch.cut s c.args.watch.now c.send_all-2.new.watch
-    c.send_all-2.result last (settles g c)
+    let last = link c.finish.new.self c.finish.new.a c.finish.new.b in
+    did_comes g.W.Watch.grew g.W.Watch.cut s c.args.watch.now c.finish.new.watch c.finish.result
+    last (settles g c)
 
 pub returns-clause-rest : goal.returns-clause-rest
 returns-clause-rest g c =
     let s = link c.args.self.now c.args.a.now c.args.b.now in
-    let last = link c.send_all-2.new.self c.send_all-2.new.a c.send_all-2.new.b in
-    did_settles g.W.Watch.grew g.W.Watch.cut s c.args.watch.now c.send_all-2.new.watch
-    c.send_all-2.result last c.requires (settles g c)
+    let last = link c.finish.new.self c.finish.new.a c.finish.new.b in
+    did_settles g.W.Watch.grew g.W.Watch.cut s c.args.watch.now c.finish.new.watch c.finish.result
+    last c.requires (settles g c)
 
 pub returns-clause-ended : goal.returns-clause-ended
 returns-clause-ended g c =
     let s = link c.args.self.now c.args.a.now c.args.b.now in
-    let last = link c.send_all-2.new.self c.send_all-2.new.a c.send_all-2.new.b in
-    did_ends g.W.Watch.grew g.W.Watch.cut s c.args.watch.now c.send_all-2.new.watch
-    c.send_all-2.result last (settles g c)
+    let last = link c.finish.new.self c.finish.new.a c.finish.new.b in
+    did_ends g.W.Watch.grew g.W.Watch.cut s c.args.watch.now c.finish.new.watch c.finish.result
+    last (settles g c)

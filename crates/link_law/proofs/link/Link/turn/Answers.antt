@@ -1,4 +1,4 @@
-use Rattle.std.proofs.Common.{◌≡◌, [], sym, ap, ◌∙◌, subst}
+use Rattle.std.proofs.Common.{◌≡◌, [], sym, ◌∙◌, subst}
 use Rattle.link_port.specs.Ports.{PortState}
 use Rattle.link_port.specs.Turns.{turn_sends}
 use Rattle.link_machine.specs.Prelude.{link, from_end}
