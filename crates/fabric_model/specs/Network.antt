@@ -21,26 +21,29 @@ abbrev pub Lanes : Type 0
 Lanes = PortRef → ℕ → List Item
 
 -- For each port and priority, the packets that it has received and those that wait there to be
--- sent; for each port, the packets that the next hop holds and it has not freed yet, and how many
--- receive buffers it has. Each node has the registers of its device, which say whether it is an
--- endpoint or a switch. The links are pairs of ports, in the order of their lines. `given` counts
--- the numbers that were given out.
+-- sent; for each port, the packets that the next hop holds and it has not freed yet, how many
+-- receive buffers it has, and whether it tells how many of them are free, which no step looks at.
+-- Each node has the registers of its device, which say whether it is an endpoint or a switch. The
+-- links are pairs of ports, in the order of their lines. `given` counts the numbers that were given
+-- out.
 pub record Network : Type 0 where
   pub received : Lanes
   pub waiting : Lanes
   pub lent : PortRef → List Item
   pub buffers : PortRef → ℕ
+  pub tells : PortRef → Bool
   pub registers : List Device
   pub links : List (PortRef × PortRef)
   pub given : ℕ
 
--- the network before anything is set up: 8 receive buffers at each port
+-- the network before anything is set up: 8 receive buffers at each port, and none tells
 abbrev pub bare : Network
 bare = record {
   received = λ p r. [];
   waiting = λ p r. [];
   lent = λ p. [];
   buffers = λ p. 8;
+  tells = λ p. false;
   registers = [];
   links = [];
   given = 0;

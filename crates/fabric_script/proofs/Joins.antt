@@ -132,6 +132,7 @@ visible_keyword F.Route = refl
 visible_keyword F.Default = refl
 visible_keyword F.Lock = refl
 visible_keyword F.Large = refl
+visible_keyword F.Credits = refl
 visible_keyword F.Send = refl
 visible_keyword F.Read = refl
 visible_keyword F.Write = refl

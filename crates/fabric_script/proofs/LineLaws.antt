@@ -10,7 +10,7 @@ use Rattle.fabric_script.specs.declared.forms.Form.{Form}
 use Rattle.fabric_script.specs.declared.forms.Form.TheVariants as F
 use Rattle.fabric_script.specs.declared.reasons.Reason.{Reason}
 use Rattle.fabric_script.specs.declared.lines.Line.{Line}
-use Rattle.fabric_script.specs.declared.lines.Line.TheVariants.{Endpoint, Switch, Link, Buffers, Route, Default, Lock, Large, Send, Read, Write, Send16, Read16, Write16, Pump, Deliver, Alter, Insert, Erase, Timeout, Settle, Move, Collect, Run}
+use Rattle.fabric_script.specs.declared.lines.Line.TheVariants.{Endpoint, Switch, Link, Buffers, Route, Default, Lock, Large, Credits, Send, Read, Write, Send16, Read16, Write16, Pump, Deliver, Alter, Insert, Erase, Timeout, Settle, Move, Collect, Run}
 use Rattle.fabric_script.specs.Names.{name_of}
 use Rattle.fabric_script.specs.Forms.{Field, NewName, Node, Port, Number, Hex, Digits, Character, keyword_of, fields_of}
 use Rattle.fabric_script.specs.Texts.{Value, Named, AtNode, AtPort, Counted, Bytes, InDigits, Code, value_text, digits_text}
@@ -28,7 +28,9 @@ use Rattle.fabric_script.proofs.Exclusion.{no_hit}
 -- ---- a keyword has one form
 
 all_forms : List Form
-all_forms = F.Endpoint ∷ F.Switch ∷ F.Link ∷ F.Buffers ∷ F.Route ∷ F.Default ∷ F.Lock ∷ F.Large ∷ F.Send ∷ F.Read ∷ F.Write ∷ F.Send16 ∷ F.Read16 ∷ F.Write16 ∷ F.Pump ∷ F.Deliver ∷ F.Alter ∷ F.Insert ∷ F.Erase ∷ F.Timeout ∷ F.Settle ∷ F.Move ∷ F.Collect ∷ F.Run ∷ []
+all_forms = F.Endpoint ∷ F.Switch ∷ F.Link ∷ F.Buffers ∷ F.Route ∷ F.Default ∷ F.Lock ∷ F.Large
+    ∷ F.Credits ∷ F.Send ∷ F.Read ∷ F.Write ∷ F.Send16 ∷ F.Read16 ∷ F.Write16 ∷ F.Pump ∷ F.Deliver
+    ∷ F.Alter ∷ F.Insert ∷ F.Erase ∷ F.Timeout ∷ F.Settle ∷ F.Move ∷ F.Collect ∷ F.Run ∷ []
 
 -- the first form whose keyword has this sum of its bytes and its length; no two have the same
 abbrev sum_of : List ℕ → ℕ
@@ -48,6 +50,7 @@ form_with_sum-keyword F.Route = refl
 form_with_sum-keyword F.Default = refl
 form_with_sum-keyword F.Lock = refl
 form_with_sum-keyword F.Large = refl
+form_with_sum-keyword F.Credits = refl
 form_with_sum-keyword F.Send = refl
 form_with_sum-keyword F.Read = refl
 form_with_sum-keyword F.Write = refl
@@ -105,6 +108,7 @@ small_fields F.Route = (tt, (omega arith, (omega arith, tt)))
 small_fields F.Default = (tt, (omega arith, tt))
 small_fields F.Lock = (tt, (omega arith, tt))
 small_fields F.Large = (tt, (omega arith, tt))
+small_fields F.Credits = (tt, tt)
 small_fields F.Send = (tt, (omega arith, (omega arith, (omega arith, (tt, tt)))))
 small_fields F.Read = (tt, (omega arith, (omega arith, (omega arith, (omega arith, (tt, tt))))))
 small_fields F.Write = (tt, (omega arith, (omega arith, (omega arith, (omega arith, (tt, (tt, tt)))))))
@@ -212,6 +216,7 @@ line_of F.Route n vs = Route (node_in (slice_get vs 0)) (number_in (slice_get vs
 line_of F.Default n vs = Default (node_in (slice_get vs 0)) (number_in (slice_get vs 1))
 line_of F.Lock n vs = Lock (node_in (slice_get vs 0)) (number_in (slice_get vs 1))
 line_of F.Large n vs = Large (node_in (slice_get vs 0)) (number_in (slice_get vs 1))
+line_of F.Credits n vs = Credits (port_in (slice_get vs 0))
 line_of F.Send n vs = Send (node_in (slice_get vs 0)) (number_in (slice_get vs 1)) (number_in (slice_get vs 2)) (number_in (slice_get vs 3)) (bytes_in (slice_get vs 4))
 line_of F.Read n vs = Read (node_in (slice_get vs 0)) (number_in (slice_get vs 1)) (number_in (slice_get vs 2)) (number_in (slice_get vs 3)) (number_in (slice_get vs 4)) (number_in (slice_get vs 5))
 line_of F.Write n vs = Write (node_in (slice_get vs 0)) (number_in (slice_get vs 1)) (number_in (slice_get vs 2)) (number_in (slice_get vs 3)) (number_in (slice_get vs 4)) (number_in (slice_get vs 5)) (number_in (slice_get vs 6))
@@ -239,6 +244,7 @@ line_of-line known new (Route node id p) next = refl
 line_of-line known new (Default node p) next = refl
 line_of-line known new (Lock node id) next = refl
 line_of-line known new (Large node id) next = refl
+line_of-line known new (Credits port) next = refl
 line_of-line known new (Send node prio ftype dest hex) next = refl
 line_of-line known new (Read node prio dest hop tid offset) next = refl
 line_of-line known new (Write node prio dest hop tid offset value) next = refl

@@ -9,7 +9,7 @@ use Rattle.std.proofs.lemmas.List.Splits.{slice_split_at}
 use Rattle.fabric_script.specs.declared.forms.Form.{Form}
 use Rattle.fabric_script.specs.declared.forms.Form.TheVariants as F
 use Rattle.fabric_script.specs.declared.lines.Line.{Line}
-use Rattle.fabric_script.specs.declared.lines.Line.TheVariants.{Endpoint, Switch, Link, Buffers, Route, Default, Lock, Large, Send, Read, Write, Send16, Read16, Write16, Pump, Deliver, Alter, Insert, Erase, Timeout, Settle, Move, Collect, Run}
+use Rattle.fabric_script.specs.declared.lines.Line.TheVariants.{Endpoint, Switch, Link, Buffers, Route, Default, Lock, Large, Credits, Send, Read, Write, Send16, Read16, Write16, Pump, Deliver, Alter, Insert, Erase, Timeout, Settle, Move, Collect, Run}
 use Rattle.fabric_script.specs.declared.lines.Numbered.{Numbered}
 use Rattle.fabric_script.specs.Names.{name_of}
 use Rattle.fabric_script.specs.Forms.{Field, NewName, Node, Port, Number, Hex, Digits, Character, keyword_of, fields_of}
@@ -103,6 +103,7 @@ keyword_kept F.Route = refl
 keyword_kept F.Default = refl
 keyword_kept F.Lock = refl
 keyword_kept F.Large = refl
+keyword_kept F.Credits = refl
 keyword_kept F.Send = refl
 keyword_kept F.Read = refl
 keyword_kept F.Write = refl
@@ -180,6 +181,8 @@ named_of known new (Route node id p) names behind may e = within known.names nam
 named_of known new (Default node p) names behind may e = within known.names names behind node may.fit.0 e
 named_of known new (Lock node id) names behind may e = within known.names names behind node may.fit.0 e
 named_of known new (Large node id) names behind may e = within known.names names behind node may.fit.0 e
+named_of known new (Credits port) names behind may e =
+    within known.names names behind port.node may.fit.0.0 e
 named_of known new (Send node prio ftype dest hex) names behind may e = within known.names names behind node may.fit.0 e
 named_of known new (Read node prio dest hop tid offset) names behind may e = within known.names names behind node may.fit.0 e
 named_of known new (Write node prio dest hop tid offset value) names behind may e = within known.names names behind node may.fit.0 e

@@ -7,7 +7,7 @@ use Rattle.fabric_script.specs.declared.forms.Form.{Form}
 use Rattle.fabric_script.specs.declared.reasons.Reason.{Reason}
 use Rattle.fabric_script.specs.declared.reasons.Reason.TheVariants.{UnknownLine}
 use Rattle.fabric_script.specs.declared.lines.Line.{Line}
-use Rattle.fabric_script.specs.declared.lines.Line.TheVariants.{Endpoint, Switch, Link, Buffers, Route, Default, Lock, Large, Send, Read, Write, Send16, Read16, Write16, Pump, Deliver, Alter, Insert, Erase, Timeout, Settle, Move, Collect, Run}
+use Rattle.fabric_script.specs.declared.lines.Line.TheVariants.{Endpoint, Switch, Link, Buffers, Route, Default, Lock, Large, Credits, Send, Read, Write, Send16, Read16, Write16, Pump, Deliver, Alter, Insert, Erase, Timeout, Settle, Move, Collect, Run}
 use Rattle.fabric_script.specs.Forms.{keyword_of, fields_of}
 use Rattle.fabric_script.specs.Texts.{value_text}
 use Rattle.fabric_script.specs.Lines.{form_of, values_of, line_words, words_of}
@@ -31,6 +31,7 @@ own_values text keyword rest (Route node id p) e = refl
 own_values text keyword rest (Default node p) e = refl
 own_values text keyword rest (Lock node id) e = refl
 own_values text keyword rest (Large node id) e = refl
+own_values text keyword rest (Credits port) e = refl
 own_values text keyword rest (Send node prio ftype dest hex) e = refl
 own_values text keyword rest (Read node prio dest hop tid offset) e = refl
 own_values text keyword rest (Write node prio dest hop tid offset value) e = refl

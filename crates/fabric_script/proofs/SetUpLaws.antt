@@ -4,7 +4,7 @@ use Rattle.std.proofs.Common.{◌≡◌, ℕ, ◌&&◌, ◌||◌, not, ◌⊎◌
 use Rattle.fabric_script.specs.declared.known.Mode.{Mode}
 use Rattle.fabric_script.specs.declared.reasons.Reason.TheVariants.{UnknownLine, BadNumber, BadName, NameTaken, UnknownNode, PortOutside, PortTaken, IdTaken, BadHex, BadLength, WrongKind, OutOfPlace, NotLinked, TooMuchWork}
 use Rattle.fabric_script.specs.declared.lines.Line.{Line}
-use Rattle.fabric_script.specs.declared.lines.Line.TheVariants.{Endpoint, Switch, Link, Buffers, Route, Default, Lock, Large, Send, Read, Write, Send16, Read16, Write16, Pump, Deliver, Alter, Insert, Erase, Timeout, Settle, Move, Collect}
+use Rattle.fabric_script.specs.declared.lines.Line.TheVariants.{Endpoint, Switch, Link, Buffers, Route, Default, Lock, Large, Credits, Send, Read, Write, Send16, Read16, Write16, Pump, Deliver, Alter, Insert, Erase, Timeout, Settle, Move, Collect}
 use Rattle.fabric_script.specs.declared.lines.Numbered.{Numbered}
 use Rattle.fabric_script.specs.declared.set_ups.EventEnd.{EventEnd}
 use Rattle.fabric_script.specs.declared.set_ups.EventEnd.TheVariants.{Refused, NoMemory}
@@ -32,6 +32,7 @@ may_same known new (Route node id p) event may = record { fit = may.fit; next = 
 may_same known new (Default node p) event may = record { fit = may.fit; next = may.next }
 may_same known new (Lock node id) event may = record { fit = may.fit; next = may.next }
 may_same known new (Large node id) event may = record { fit = may.fit; next = may.next }
+may_same known new (Credits port) event may = record { fit = may.fit; next = may.next }
 may_same known new _ event may = absurd cc
 
 -- the reasons that do not look at which lines may stand

@@ -6,7 +6,7 @@ use Rattle.std.proofs.lemmas.List.Elements.{All-contains, All-from_recursion}
 use Rattle.fabric_script.specs.declared.known.Node.{Node}
 use Rattle.fabric_script.specs.declared.known.Node.TheVariants as Nodes
 use Rattle.fabric_script.specs.declared.lines.Line.{Line}
-use Rattle.fabric_script.specs.declared.lines.Line.TheVariants.{Endpoint, Switch, Link, Buffers, Route, Default, Lock, Large, Send, Read, Write, Send16, Read16, Write16, Pump, Deliver, Alter, Insert, Erase, Timeout, Settle, Move, Collect, Run}
+use Rattle.fabric_script.specs.declared.lines.Line.TheVariants.{Endpoint, Switch, Link, Buffers, Route, Default, Lock, Large, Credits, Send, Read, Write, Send16, Read16, Write16, Pump, Deliver, Alter, Insert, Erase, Timeout, Settle, Move, Collect, Run}
 use Rattle.fabric_script.specs.declared.lines.Numbered.{Numbered}
 use Rattle.fabric_script.specs.declared.ports.PortRef.{PortRef}
 use Rattle.fabric_script.specs.declared.reasons.Reason.TheVariants.{UnknownLine, BadNumber, BadName, NameTaken, UnknownNode, PortOutside, PortTaken, IdTaken, BadHex, BadLength, WrongKind, OutOfPlace, NotLinked, TooMuchWork}
@@ -393,6 +393,7 @@ passes_events number (Route node id p ∷ lines) begun cost all few = absurd all
 passes_events number (Default node p ∷ lines) begun cost all few = absurd all.0
 passes_events number (Lock node id ∷ lines) begun cost all few = absurd all.0
 passes_events number (Large node id ∷ lines) begun cost all few = absurd all.0
+passes_events number (Credits port ∷ lines) begun cost all few = absurd all.0
 passes_events number (Read node prio dest hop tid offset ∷ lines) begun cost all few = absurd all.0
 passes_events number (Write node prio dest hop tid offset value ∷ lines) begun cost all few = absurd all.0
 passes_events number (Send16 node prio ftype dest hex ∷ lines) begun cost all few = absurd all.0

@@ -1,7 +1,7 @@
 -- The forms of a line: a keyword, and the kinds of the words behind it.
 use Rattle.std.specs.Prelude.{ℕ, List, [], ◌∷◌, codes}
 use Rattle.fabric_script.specs.declared.forms.Form.{Form}
-use Rattle.fabric_script.specs.declared.forms.Form.TheVariants.{Endpoint, Switch, Link, Buffers, Route, Default, Lock, Large, Send, Read, Write, Send16, Read16, Write16, Pump, Deliver, Alter, Insert, Erase, Timeout, Settle, Move, Collect, Run}
+use Rattle.fabric_script.specs.declared.forms.Form.TheVariants.{Endpoint, Switch, Link, Buffers, Route, Default, Lock, Large, Credits, Send, Read, Write, Send16, Read16, Write16, Pump, Deliver, Alter, Insert, Erase, Timeout, Settle, Move, Collect, Run}
 
 -- The kinds of words: the name of a new node, of a node, a port, a number of a range with both its
 -- ends, bytes in hexadecimal digits, so many hexadecimal digits, a character.
@@ -23,6 +23,7 @@ keyword_of Route = codes "route"
 keyword_of Default = codes "default"
 keyword_of Lock = codes "lock"
 keyword_of Large = codes "large"
+keyword_of Credits = codes "credits"
 keyword_of Send = codes "send"
 keyword_of Read = codes "read"
 keyword_of Write = codes "write"
@@ -49,6 +50,7 @@ fields_of Route = Node ∷ Number 0 1023 ∷ Number 0 255 ∷ []
 fields_of Default = Node ∷ Number 0 255 ∷ []
 fields_of Lock = Node ∷ Number 0 65535 ∷ []
 fields_of Large = Node ∷ Number 0 65535 ∷ []
+fields_of Credits = Port ∷ []
 fields_of Send = Node ∷ Number 0 3 ∷ Number 0 15 ∷ Number 0 255 ∷ Hex ∷ []
 fields_of Read = Node ∷ Number 0 3 ∷ Number 0 255 ∷ Number 0 255 ∷ Number 0 255 ∷ Digits 6 ∷ []
 fields_of Write = Node ∷ Number 0 3 ∷ Number 0 255 ∷ Number 0 255 ∷ Number 0 255 ∷ Digits 6

@@ -7,7 +7,7 @@ use Rattle.fabric_script.specs.declared.known.Mode.{Mode}
 use Rattle.fabric_script.specs.declared.known.Mode.TheVariants.{Script, SetUp, Event}
 use Rattle.fabric_script.specs.declared.known.Node.TheVariants.{Endpoint as AnEndpoint, Switch as ASwitch}
 use Rattle.fabric_script.specs.declared.lines.Line.{Line}
-use Rattle.fabric_script.specs.declared.lines.Line.TheVariants.{Endpoint, Switch, Link, Buffers, Route, Default, Lock, Large, Pump, Deliver, Settle, Run}
+use Rattle.fabric_script.specs.declared.lines.Line.TheVariants.{Endpoint, Switch, Link, Buffers, Route, Default, Lock, Large, Credits, Pump, Deliver, Settle, Run}
 use Rattle.fabric_script.specs.Names.{is_name, name_of}
 use Rattle.fabric_script.specs.Lines.{is_event}
 
@@ -94,6 +94,7 @@ cost_of links (Route node id p) = 0
 cost_of links (Default node p) = 0
 cost_of links (Lock node id) = 0
 cost_of links (Large node id) = 0
+cost_of links (Credits port) = 0
 cost_of links (Pump port n) = n
 cost_of links (Deliver port n) = n
 cost_of links (Settle port) = 20

@@ -2,7 +2,7 @@
 use Rattle.std.specs.Prelude.{ℕ, ◌<◌, Bool, true, false, List, [], ◌∷◌, ◌++◌, length}
 use Rattle.std.specs.List.{flat_map}
 use Rattle.fabric_script.specs.declared.lines.Line.{Line}
-use Rattle.fabric_script.specs.declared.lines.Line.TheVariants.{Endpoint, Switch, Link, Buffers, Route, Default, Lock, Large, Send, Read, Write, Send16, Read16, Write16, Pump, Deliver, Alter, Insert, Erase, Timeout, Settle, Move, Collect, Run}
+use Rattle.fabric_script.specs.declared.lines.Line.TheVariants.{Endpoint, Switch, Link, Buffers, Route, Default, Lock, Large, Credits, Send, Read, Write, Send16, Read16, Write16, Pump, Deliver, Alter, Insert, Erase, Timeout, Settle, Move, Collect, Run}
 use Rattle.fabric_script.specs.declared.lines.Numbered.{Numbered}
 use Rattle.fabric_script.specs.Lines.{line_text}
 
@@ -16,6 +16,7 @@ AreNamed names (Route node id p) = node < length names
 AreNamed names (Default node p) = node < length names
 AreNamed names (Lock node id) = node < length names
 AreNamed names (Large node id) = node < length names
+AreNamed names (Credits port) = port.node < length names
 AreNamed names (Send node prio ftype dest hex) = node < length names
 AreNamed names (Read node prio dest hop tid offset) = node < length names
 AreNamed names (Write node prio dest hop tid offset value) = node < length names

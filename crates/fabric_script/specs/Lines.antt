@@ -4,7 +4,7 @@ use Rattle.std.specs.List.{slice_split, join_with_byte}
 use Rattle.fabric_script.specs.declared.forms.Form.{Form}
 use Rattle.fabric_script.specs.declared.forms.Form.TheVariants as F
 use Rattle.fabric_script.specs.declared.lines.Line.{Line}
-use Rattle.fabric_script.specs.declared.lines.Line.TheVariants.{Endpoint, Switch, Link, Buffers, Route, Default, Lock, Large, Send, Read, Write, Send16, Read16, Write16, Pump, Deliver, Alter, Insert, Erase, Timeout, Settle, Move, Collect, Run}
+use Rattle.fabric_script.specs.declared.lines.Line.TheVariants.{Endpoint, Switch, Link, Buffers, Route, Default, Lock, Large, Credits, Send, Read, Write, Send16, Read16, Write16, Pump, Deliver, Alter, Insert, Erase, Timeout, Settle, Move, Collect, Run}
 use Rattle.fabric_script.specs.Names.{name_of}
 use Rattle.fabric_script.specs.Forms.{keyword_of}
 use Rattle.fabric_script.specs.Texts.{Value, Named, AtNode, AtPort, Counted, Bytes, InDigits, Code, value_text}
@@ -18,6 +18,7 @@ form_of (Route node id p) = F.Route
 form_of (Default node p) = F.Default
 form_of (Lock node id) = F.Lock
 form_of (Large node id) = F.Large
+form_of (Credits port) = F.Credits
 form_of (Send node prio ftype dest hex) = F.Send
 form_of (Read node prio dest hop tid offset) = F.Read
 form_of (Write node prio dest hop tid offset value) = F.Write
@@ -45,6 +46,7 @@ values_of new (Route node id p) = AtNode node ∷ Counted id ∷ Counted p ∷ [
 values_of new (Default node p) = AtNode node ∷ Counted p ∷ []
 values_of new (Lock node id) = AtNode node ∷ Counted id ∷ []
 values_of new (Large node id) = AtNode node ∷ Counted id ∷ []
+values_of new (Credits port) = AtPort port ∷ []
 values_of new (Send node prio ftype dest hex) =
     AtNode node ∷ Counted prio ∷ Counted ftype ∷ Counted dest ∷ Bytes hex ∷ []
 values_of new (Read node prio dest hop tid offset) =
@@ -96,4 +98,5 @@ is_event (Route node id p) = false
 is_event (Default node p) = false
 is_event (Lock node id) = false
 is_event (Large node id) = false
+is_event (Credits port) = false
 is_event _ = true

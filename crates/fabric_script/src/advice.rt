@@ -222,7 +222,7 @@ impl Form {
             Form::Pump | Form::Deliver => &[WordKind::Port, COUNT],
             Form::Alter | Form::Insert => &[WordKind::Port, PLACE, WordKind::Character],
             Form::Erase => &[WordKind::Port, PLACE, COUNT],
-            Form::Timeout | Form::Settle => &[WordKind::Port],
+            Form::Credits | Form::Timeout | Form::Settle => &[WordKind::Port],
             Form::Move | Form::Collect => &[WordKind::Name],
             Form::Run => &[COUNT],
         }

@@ -94,7 +94,9 @@ fn put_words(text: &mut Vec<u8>, names: &[Name], line: &Line) -> Result<(), Allo
             put_edit(text, names, *port, *place, *ch)
         }
         Line::Erase { port, place, n } => put_erase(text, names, *port, *place, *n),
-        Line::Timeout { port } | Line::Settle { port } => put_port(text, names, *port),
+        Line::Credits { port } | Line::Timeout { port } | Line::Settle { port } => {
+            put_port(text, names, *port)
+        }
         Line::Move { node } | Line::Collect { node } => put_node(text, names, *node),
         Line::Run { n } => put_number(text, *n),
     }

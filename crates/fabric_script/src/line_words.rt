@@ -35,6 +35,7 @@ pub(crate) fn take_line(
         Form::Default => Ok(default(words, known)),
         Form::Lock => Ok(lock(words, known)),
         Form::Large => Ok(large(words, known)),
+        Form::Credits => Ok(credits(words, known)),
         Form::Send => send(alloc, words, known),
         Form::Read => Ok(read(words, known)),
         Form::Write => Ok(write(words, known)),
@@ -127,6 +128,14 @@ fn large(words: &mut Words, known: &Known) -> Line
     let node = words.node(known);
     let id = words.number(0, MOST_ID) as u16;
     Line::Large { node, id }
+}
+
+/// Takes the word of a `credits` line.
+fn credits(words: &mut Words, known: &Known) -> Line
+    ensures { TakesLine known.now AForm.Credits words.old result words.new }
+{
+    let port = words.port(known);
+    Line::Credits { port }
 }
 
 /// Takes the words of a `send` line.

@@ -51,6 +51,10 @@ pub enum Line {
         node: u8,
         id: u16,
     },
+    /// A port tells its peer how many of its receive buffers are free.
+    Credits {
+        port: PortRef,
+    },
     /// A packet is given to an endpoint: its priority, 0 to 3, its format type, 0 to 15, its
     /// destination ID, and what follows the source ID in its body.
     Send {
@@ -160,7 +164,7 @@ impl Line {
     ghost use Rattle.std.specs.Prelude.{◌≡◌};
     ghost use Rattle.fabric_script.specs.Lines.{is_event};
 
-    /// Whether the line is an event. The first eight kinds set the fabric up.
+    /// Whether the line is an event. The first nine kinds set the fabric up.
     pub fn is_event(&self) -> bool
         ensures { result ≡ is_event self.now }
     {
@@ -174,6 +178,7 @@ impl Line {
                 | Line::Default { .. }
                 | Line::Lock { .. }
                 | Line::Large { .. }
+                | Line::Credits { .. }
         )
     }
 }
@@ -195,6 +200,7 @@ impl Line {
             Line::Default { .. } => Form::Default,
             Line::Lock { .. } => Form::Lock,
             Line::Large { .. } => Form::Large,
+            Line::Credits { .. } => Form::Credits,
             Line::Send { .. } => Form::Send,
             Line::Read { .. } => Form::Read,
             Line::Write { .. } => Form::Write,

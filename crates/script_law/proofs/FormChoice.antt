@@ -4,7 +4,7 @@ use Rattle.std.specs.Str.{bytes_eq}
 use Rattle.rio_chars.specs.declared.chars.Char.TheVariants.{Invalid}
 use Rattle.fabric_script.specs.declared.ports.PortRef.{PortRef}
 use Rattle.fabric_script.specs.declared.lines.Line.{Line}
-use Rattle.fabric_script.specs.declared.lines.Line.TheVariants.{Endpoint, Switch, Link, Buffers, Route, Default, Lock, Large, Send, Read, Write, Send16, Read16, Write16, Pump, Deliver, Alter, Insert, Erase, Timeout, Settle, Move, Collect, Run}
+use Rattle.fabric_script.specs.declared.lines.Line.TheVariants.{Endpoint, Switch, Link, Buffers, Route, Default, Lock, Large, Credits, Send, Read, Write, Send16, Read16, Write16, Pump, Deliver, Alter, Insert, Erase, Timeout, Settle, Move, Collect, Run}
 use Rattle.fabric_script.specs.Forms.{keyword_of}
 use Rattle.fabric_script.specs.Lines.{form_of}
 use Rattle.script_law.proofs.Choosing.{same_or_not, differ}
@@ -12,7 +12,7 @@ use Rattle.script_law.proofs.Choosing.{same_or_not, differ}
 -- a line of each form
 samples : List Line
 samples = Endpoint 0 0 ∷ Switch 0 0 ∷ Link p p ∷ Buffers p 0 ∷ Route 0 0 0 ∷ Default 0 0 ∷ Lock 0 0
-    ∷ Large 0 0 ∷ Send 0 0 0 0 [] ∷ Read 0 0 0 0 0 0 ∷ Write 0 0 0 0 0 0 0
+    ∷ Large 0 0 ∷ Credits p ∷ Send 0 0 0 0 [] ∷ Read 0 0 0 0 0 0 ∷ Write 0 0 0 0 0 0 0
     ∷ Send16 0 0 0 0 [] ∷ Read16 0 0 0 0 0 0 ∷ Write16 0 0 0 0 0 0 0 ∷ Pump p 0 ∷ Deliver p 0
     ∷ Alter p 0 Invalid ∷ Insert p 0 Invalid ∷ Erase p 0 0 ∷ Timeout p ∷ Settle p ∷ Move 0
     ∷ Collect 0 ∷ Run 0 ∷ []

@@ -1,7 +1,7 @@
 -- The words of each form are taken, one by one, as the words of one line.
 use Rattle.std.proofs.Common.{◌≡◌, length, refl}
 use Rattle.fabric_script.specs.declared.lines.Line.{Line}
-use Rattle.fabric_script.specs.declared.lines.Line.TheVariants.{Endpoint, Switch, Link, Buffers, Route, Default, Lock, Large, Send, Read, Write, Send16, Read16, Write16, Pump, Deliver, Alter, Insert, Erase, Timeout, Settle, Move, Collect, Run}
+use Rattle.fabric_script.specs.declared.lines.Line.TheVariants.{Endpoint, Switch, Link, Buffers, Route, Default, Lock, Large, Credits, Send, Read, Write, Send16, Read16, Write16, Pump, Deliver, Alter, Insert, Erase, Timeout, Settle, Move, Collect, Run}
 use Rattle.fabric_script.specs.Forms.{fields_of}
 use Rattle.fabric_script.specs.Lines.{form_of, values_of}
 use Rattle.fabric_script.specs.Known.{Known}
@@ -67,6 +67,9 @@ take_line known (Large node id) left =
     let second = take_number known 0 65535 first.next in
     taken known _ left (Large first.is second.is) second.next refl tt
     (More first.takes (More second.takes Done))
+take_line known (Credits port) left =
+    let first = take_port known left in
+    taken known _ left (Credits first.is) first.next refl tt (More first.takes Done)
 take_line known (Send node prio ftype dest hex) left =
     let first = take_node known left in
     let second = take_number known 0 3 first.next in

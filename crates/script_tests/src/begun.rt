@@ -8,7 +8,7 @@ use std::test::Fail;
 use trace_lines::*;
 
 const SET_UPS: &[u8] = b"> endpoint A 255\n> switch B 16\n> link A.0 B.15\n> buffers A.0 4\n\
-> route B 1023 0\n> default B 254\n> lock B 65535\n> large A 4097\n";
+> route B 1023 0\n> default B 254\n> lock B 65535\n> large A 4097\n> credits B.15\n";
 
 const PACKETS: &[u8] = b"> send A 0 15 2 cafe0001\n> send B 3 9 255 -\n\
 > read A 1 2 255 7 00006c\n> write B 2 254 0 255 fffff8 0123abcd\n";
@@ -48,6 +48,7 @@ fn lines_of_set_up_are_their_words(rt: HostRuntime) -> Result<(), Fail> {
     write_begun(&mut outbox, &names, &Line::Default { node: 1, p: 254 });
     write_begun(&mut outbox, &names, &Line::Lock { node: 1, id: 65535 });
     write_begun(&mut outbox, &names, &Line::Large { node: 0, id: 4097 });
+    write_begun(&mut outbox, &names, &Line::Credits { port: last });
     outbox.flush();
     assert_eq!(rt; sink.written(), SET_UPS);
     Ok(())

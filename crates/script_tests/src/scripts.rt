@@ -20,6 +20,8 @@ const MISSPELLED: &[u8] = b"\
     01 endpoint  C 3|\
     01 move S |\
     01 route S 1|\
+    01 credits|\
+    01 credits A.0 4|\
     02 endpoint C 256|\
     02 endpoint C 03|\
     02 endpoint C |\
@@ -62,6 +64,8 @@ const MISNAMED: &[u8] = b"\
     03 link A B.0|\
     03 link S.0 T.16|\
     03 buffers A.00 4|\
+    03 credits A|\
+    03 credits S.16|\
     03 move a-b|\
     03 settle |\
     03 settle .0|\
@@ -73,8 +77,11 @@ const MISNAMED: &[u8] = b"\
     05 lock AB 1|\
     05 large AB 1|\
     05 settle AB.0|\
+    05 credits AB.0|\
     06 link A.1 S.0|\
     06 settle S.4|\
+    06 credits A.1|\
+    06 credits S.4|\
     06 route S 1 4|\
     06 default T 16|\
     07 link A.0 S.0|\
@@ -168,6 +175,8 @@ const ACCEPTED: &[u8] = b"\
     00 send A 0 8 0 000000000000|\
     00 write B 3 255 255 255 ffffff ffffffff|\
     00 large A 65535|\
+    00 credits T.15|\
+    00 credits A.0\ncredits A.0|\
     00 send16 A 3 15 65535 -|\
     00 send16 A 0 8 0 000000000000|\
     00 read16 A 3 65535 255 255 ffffff|\
@@ -196,6 +205,7 @@ const SET_UP: &[u8] = b"\
     12 default S 0|\
     12 lock A 1|\
     12 large A 1|\
+    12 credits A.0|\
 ";
 
 /// The reason for which the last line of a text is refused, and 0 if the text is accepted. A
@@ -239,8 +249,8 @@ fn passed(
 
 #[test]
 fn each_reason_hits_each_kind_of_word(rt: HostRuntime) -> Result<(), Fail> {
-    assert_eq!(rt; passed(rt.alloc(), BEFORE, MISSPELLED, 6)?, (40, 40));
-    assert_eq!(rt; passed(rt.alloc(), BEFORE, MISNAMED, 6)?, (25, 25));
+    assert_eq!(rt; passed(rt.alloc(), BEFORE, MISSPELLED, 6)?, (42, 42));
+    assert_eq!(rt; passed(rt.alloc(), BEFORE, MISNAMED, 6)?, (30, 30));
     assert_eq!(rt; passed(rt.alloc(), BEFORE, MISPLACED, 6)?, (34, 34));
     Ok(())
 }
@@ -254,7 +264,7 @@ fn least_of_two_reasons_is_told(rt: HostRuntime) -> Result<(), Fail> {
 
 #[test]
 fn limits_are_the_last_that_is_accepted(rt: HostRuntime) -> Result<(), Fail> {
-    assert_eq!(rt; passed(rt.alloc(), BEFORE, ACCEPTED, 6)?, (27, 27));
+    assert_eq!(rt; passed(rt.alloc(), BEFORE, ACCEPTED, 6)?, (29, 29));
     Ok(())
 }
 
@@ -301,7 +311,7 @@ fn data_of_each_size_of_ids_have_their_most_bytes(rt: HostRuntime) -> Result<(),
 
 #[test]
 fn set_up_stands_before_events(rt: HostRuntime) -> Result<(), Fail> {
-    assert_eq!(rt; passed(rt.alloc(), BEGUN, SET_UP, 7)?, (8, 8));
+    assert_eq!(rt; passed(rt.alloc(), BEGUN, SET_UP, 7)?, (9, 9));
     Ok(())
 }
 
@@ -339,7 +349,7 @@ fn sixty_fourth_node_is_the_last(rt: HostRuntime) -> Result<(), Fail> {
 
 /// A line of each kind, as it is printed.
 const EACH_KIND: &[u8] = b"endpoint A 1\nswitch S 4\nlink A.0 S.3\nbuffers A.0 30\nroute S 900 3\n\
-default S 255\nlock S 65535\nlarge A 4097\nsend A 3 15 255 00ff\nsend A 0 15 1 -\n\
+default S 255\nlock S 65535\nlarge A 4097\ncredits S.3\nsend A 3 15 255 00ff\nsend A 0 15 1 -\n\
 read A 1 2 3 4 00000c\nwrite A 1 2 3 4 000070 0000beef\nsend16 A 3 15 65535 00ff\n\
 read16 A 1 258 3 4 00000c\nwrite16 A 1 258 3 4 000070 0000beef\npump A.0 100\n\
 deliver S.3 20\nalter A.0 8 k7c\ninsert A.0 0 inv\nerase A.0 0 4\ntimeout S.3\nsettle A.0\n\
