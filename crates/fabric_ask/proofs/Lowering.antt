@@ -1,11 +1,10 @@
 -- A request or a response as it moves on.
-use Rattle.std.proofs.Common.{◌≡◌, ℕ, zero, suc, ◌+◌, ◌-◌, ◌/◌, ◌%◌, ◌<◌, ◌≤◌, ◌==◌, ◌&&◌, nat_lt, Bool, true, false, List, length, Option, Some, None, option_map, unwrap_or, refl, sym, ap, ◌∙◌, arith, if◌then◌else◌, MatchBool, eqb-true}
+use Rattle.std.proofs.Common.{◌≡◌, ℕ, zero, suc, ◌+◌, ◌-◌, ◌/◌, ◌%◌, ◌<◌, ◌≤◌, ◌==◌, ◌&&◌, Bool, true, false, List, length, Option, Some, None, option_map, unwrap_or, refl, sym, ap, ◌∙◌, arith, if◌then◌else◌, MatchBool, eqb-true}
 use Rattle.std.specs.List.{slice_index}
 use Rattle.std.proofs.lemmas.Bool.{and_parts}
 use Rattle.std.proofs.lemmas.Option.{same_Some}
-use Rattle.rio_packets.specs.Fields.{prio_of, tt_of, ftype_of, ttype_of, dest_of, source_of, hop_of, ids_end, half_word_at, hop_place, crc_place, is_maintenance, is_maintenance_length, is_padded_form, is_request, Lowered}
+use Rattle.rio_packets.specs.Fields.{prio_of, tt_of, ttype_of, dest_of, source_of, hop_of, ids_end, hop_place, crc_place, is_maintenance, is_request, Lowered}
 use Rattle.rio_packets.specs.Hops.{is_large}
-use Rattle.rio_packets.specs.LinkForm.{Passes}
 use Rattle.rio_packets.proofs.PlaceLaws.{Places, places}
 use Rattle.maint_packets.specs.declared.request.Op.TheVariants.{Read, Write, BadRead, BadWrite}
 use Rattle.maint_packets.specs.declared.request.Request.{Request}

@@ -1,9 +1,9 @@
 -- A packet that carries a request or a response is one on its way.
-use Rattle.std.proofs.Common.{◌≡◌, ℕ, ◌==◌, ◌&&◌, ◌||◌, nat_lt, Bool, true, false, List, length, Option, Some, None, unwrap_or, refl, sym, ap, ◌∙◌, subst, ◌+◌, ◌<◌, ◌≤◌, ◌⊎◌, inl, inr, arith, if◌then◌else◌, eqb-true}
+use Rattle.std.proofs.Common.{◌≡◌, ℕ, ◌==◌, ◌&&◌, ◌||◌, nat_lt, Bool, true, false, List, length, Option, Some, None, unwrap_or, refl, sym, ap, ◌∙◌, subst, ◌+◌, ◌<◌, ◌⊎◌, inl, inr, arith, if◌then◌else◌, eqb-true}
 use Rattle.std.specs.List.{slice_index}
 use Rattle.std.proofs.lemmas.Bool.{and_parts}
 use Rattle.std.proofs.lemmas.Option.{same_Some}
-use Rattle.rio_packets.specs.Fields.{crc_place, tt_of, ftype_of, ttype_of, dest_of, hop_of, half_word_at, ids_end, hop_place, is_maintenance, is_maintenance_length, is_padded_form, is_request}
+use Rattle.rio_packets.specs.Fields.{tt_of, ftype_of, ttype_of, dest_of, hop_of, half_word_at, ids_end, hop_place, is_maintenance, is_maintenance_length, is_padded_form, is_request}
 use Rattle.rio_packets.specs.Hops.{is_large}
 use Rattle.rio_packets.specs.LinkForm.{Passes}
 use Rattle.rio_packets.proofs.PlaceLaws.{places}

@@ -19,7 +19,7 @@ use Rattle.fabric_trace.specs.Settings.{with_change}
 use Rattle.fabric_trace.specs.Known.{Seen, peer_of}
 use Rattle.fabric_trace.specs.Fold.{edit_of, edited_by, got_from, fired_from, seen_line, seen}
 use Rattle.fabric_trace.specs.Lines.{Sent, Got, Fired, TraceLine, Begun, Stepped, Signed, Lacked, Ended, Undetected}
-use Rattle.fabric_trace.specs.Parts.{Part, Begins, Lacks, Ends, Names, Steps, Serves, Turns, Delivers, Fires, Made, Done, Then}
+use Rattle.fabric_trace.specs.Parts.{Part, Begins, Lacks, Ends, Names, Steps, Serves, Turns, Tells, Delivers, Fires, Made, Done, Then}
 use Rattle.fabric_trace.proofs.Boards.{seen_board}
 use Rattle.fabric_trace.proofs.Keeping.{IsGood}
 use Rattle.fabric_model.proofs.Lanes.{AreWell}
@@ -198,6 +198,7 @@ module _ (host : ℕ) (device : Device) (endpoint : is_switch device ≡ false) 
   part_own s lines is never (Serves step needs at) =
       Serves step (device_own s.network step is (never_by at never).0 needs) at
   part_own s lines is never (Turns p q n peer none at) = Turns p q n peer none at
+  part_own s lines is never (Tells p q peer none at) = Tells p q peer none at
   part_own s lines is never (Delivers p q n peer none has at) = Delivers p q n peer none has at
   part_own s lines is never (Fires p q peer none silent at) = Fires p q peer none silent at
 

@@ -39,12 +39,14 @@ quiet_same s t a b first second quiet = record {
   wire_b = ap (λ (w : Wire). w.chars) second.wire ∙ quiet.wire_b;
   a_to_b = record {
     ack = quiet.a_to_b.ack;
+    report = quiet.a_to_b.report;
     sender_ok = ap (λ (h : Half). h.output) first.half ∙ quiet.a_to_b.sender_ok;
     receiver_ok = ap (λ (h : Half). h.input) second.half ∙ quiet.a_to_b.receiver_ok;
     place = ap (λ (h : Half). at_rest h.place) second.half ∙ quiet.a_to_b.place;
   };
   b_to_a = record {
     ack = quiet.b_to_a.ack;
+    report = quiet.b_to_a.report;
     sender_ok = ap (λ (h : Half). h.output) second.half ∙ quiet.b_to_a.sender_ok;
     receiver_ok = ap (λ (h : Half). h.input) first.half ∙ quiet.b_to_a.receiver_ok;
     place = ap (λ (h : Half). at_rest h.place) first.half ∙ quiet.b_to_a.place;

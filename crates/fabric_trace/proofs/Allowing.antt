@@ -1,11 +1,11 @@
--- At each free of a trace, the port's allowance is above the number of the packets that it freed before.
+-- At each free of a trace, the port's allowance is above the number of the packets that it freed
+-- before.
 use Rattle.std.proofs.Common.{◌≡◌, ℕ, suc, ◌+◌, ◌%◌, ◌<◌, ◌≤◌, ◌++◌, Bool, true, false, List, [], ◌∷◌, map, take, None, refl, sym, ap, ◌∙◌, subst, arith, append_assoc, if◌then◌else◌}
 use Rattle.std.proofs.lemmas.List.{append-nil}
 use Rattle.rio_chars.specs.declared.chars.Char.{Char}
 use Rattle.link_model.specs.declared.event.Event.{Event}
 use Rattle.link_model.specs.Places.{Place, start, place_after}
 use Rattle.link_model.specs.Said.{said}
-use Rattle.link_rest.proofs.SaidLaws.{said-append}
 use Rattle.link_sound.specs.Meanings.{oldest_of}
 use Rattle.link_sound.proofs.Steps.{exchanged}
 use Rattle.link_watch.specs.declared.note.Note.TheVariants as Notes
@@ -15,10 +15,10 @@ use Rattle.link_wires.specs.Deliveries.{Delivered, Through, Undetected as Unsent
 use Rattle.link_wires.specs.Wires.{bursts, answers}
 use Rattle.link_wires.specs.declared.moves.Move.{Move}
 use Rattle.link_wires.specs.declared.moves.Move.TheVariants.{Held, Freed}
-use Rattle.link_machine.specs.Calls.{sent_notes, has_chars, is_silent, delivery_from, move_note, told_notes, delivery_notes, pump_notes, time_out_notes}
+use Rattle.link_machine.specs.Calls.{sent_notes, has_chars, is_silent, delivery_from, move_note, told_notes, delivery_notes, pump_notes, time_out_notes, tell_notes}
 use Rattle.fabric_script.specs.declared.ports.PortRef.{PortRef}
 use Rattle.fabric_model.specs.Network.{same_port}
-use Rattle.fabric_model.specs.Steps.{Hold, Free, Linked, AtNode, ByDevice}
+use Rattle.fabric_model.specs.Steps.{Free, Linked, AtNode, ByDevice}
 use Rattle.fabric_model.proofs.Peers.{port_is, same_port-refl}
 use Rattle.fabric_trace.specs.Lines.{Sent, Got, Fired, TraceLine, Begun, Stepped, Signed, Lacked, Ended, Undetected}
 use Rattle.fabric_trace.specs.Known.{Seen, port_at, kept_of, link_at}
@@ -26,97 +26,22 @@ use Rattle.fabric_trace.specs.Fold.{says, taken_from}
 use Rattle.fabric_trace.specs.Blocks.{port_at_side, lines_of}
 use Rattle.fabric_trace.specs.Holds.{got}
 use Rattle.fabric_trace.specs.Links.{IsLink}
-use Rattle.fabric_trace.specs.Parts.{Part, Begins, Lacks, Ends, Names, Steps, Serves, Turns, Delivers, Fires, Made, Done, Then}
+use Rattle.fabric_trace.specs.Parts.{Part, Begins, Lacks, Ends, Names, Steps, Serves, Turns, Tells, Delivers, Fires, Made, Done, Then}
 use Rattle.fabric_trace.proofs.Cuts.{taken_again}
 use Rattle.fabric_trace.proofs.Folding.{lines-append}
-use Rattle.fabric_trace.proofs.FreesRead.{frees_all, IsFreed, made_freed}
+use Rattle.fabric_trace.proofs.FreesStill.{frees_all, IsFreed}
+use Rattle.fabric_trace.proofs.FreesRead.{made_freed}
 use Rattle.fabric_trace.proofs.Heard.{freed_count}
-use Rattle.fabric_trace.proofs.HoldsRead.{IsRead, made_read}
+use Rattle.fabric_trace.proofs.HoldsStill.{IsRead}
+use Rattle.fabric_trace.proofs.HoldsRead.{made_read}
 use Rattle.fabric_trace.proofs.Keeping.{IsGood, part_keeps}
 use Rattle.fabric_trace.proofs.Making.{one_part}
 use Rattle.fabric_trace.specs.Allowance.{raised_all, got_with, freed_with, FreesAllowed}
-use Rattle.fabric_trace.proofs.Raising.{raised_all_more, raised-append, HaveRaised, delivered_raises}
-
--- ---- folds
-
--- all that a port got, and how many packets it freed
-abbrev pub got_after : PortRef → List Char → List TraceLine → List Char
-got_after p chars [] = chars
-got_after p chars (line ∷ lines) = got_after p (got_with p chars line) lines
-
-abbrev pub freed_after : PortRef → ℕ → List TraceLine → ℕ
-freed_after p j [] = j
-freed_after p j (line ∷ lines) = freed_after p (freed_with p j line) lines
-
-pub heard-append : (p : PortRef) (xs ys : List TraceLine) (chars : List Char)
-    → got_after p chars (xs ++ ys) ≡ got_after p (got_after p chars xs) ys
-heard-append p [] ys chars = refl
-heard-append p (x ∷ xs) ys chars = heard-append p xs ys (got_with p chars x)
-
-pub freed-append : (p : PortRef) (xs ys : List TraceLine) (j : ℕ)
-    → freed_after p j (xs ++ ys) ≡ freed_after p (freed_after p j xs) ys
-freed-append p [] ys j = refl
-freed-append p (x ∷ xs) ys j = freed-append p xs ys (freed_with p j x)
-
-allowed-join : (p : PortRef) (xs ys : List TraceLine) (chars : List Char) (j : ℕ)
-    → FreesAllowed p chars j xs → FreesAllowed p (got_after p chars xs) (freed_after p j xs) ys
-    → FreesAllowed p chars j (xs ++ ys)
-allowed-join p [] ys chars j first rest = rest
-allowed-join p (x ∷ xs) ys chars j first rest =
-    (first.0, allowed-join p xs ys (got_with p chars x) (freed_with p j x) first.1 rest)
-
--- the same as what the laws of holds and frees fold
-own_heard : (own : Bool) (chars more : List Char)
-    → (if own then chars ++ more else chars) ≡ chars ++ (if own then more else [])
-own_heard true chars more = refl
-own_heard false chars more = sym (append-nil chars)
-
-pub heard_is : (p : PortRef) (xs : List TraceLine) (chars : List Char)
-    → got_after p chars xs ≡ chars ++ got p xs
-heard_is p [] chars = sym (append-nil chars)
-heard_is p (Begun line ∷ xs) chars = heard_is p xs chars
-heard_is p (Stepped step ∷ xs) chars = heard_is p xs chars
-heard_is p (Signed (Sent q more) ∷ xs) chars = heard_is p xs chars
-heard_is p (Signed (Got q more) ∷ xs) chars =
-    heard_is p xs (if same_port p q then chars ++ more else chars) ∙ ap (λ (l : List Char). l ++ got p xs) (own_heard (same_port p q) chars more) ∙ append_assoc chars (if same_port p q then more else []) (got p xs)
-heard_is p (Signed (Fired q) ∷ xs) chars = heard_is p xs chars
-heard_is p (Lacked lack ∷ xs) chars = heard_is p xs chars
-heard_is p (Ended ∷ xs) chars = heard_is p xs chars
-heard_is p (Undetected number q e ∷ xs) chars = heard_is p xs chars
-
-own_freed : (own : Bool) (j : ℕ) → (if own then suc j else j) ≡ j + (if own then 1 else 0)
-own_freed true j = omega arith
-own_freed false j = omega arith
-
-pub freed_is : (p : PortRef) (xs : List TraceLine) (j : ℕ) → freed_after p j xs ≡ j + frees_all p xs
-freed_is p [] j = omega arith
-freed_is p (Begun line ∷ xs) j = (let more = freed_is p xs j in omega (arith, more))
-freed_is p (Stepped (Linked (Hold q packet)) ∷ xs) j = (let more = freed_is p xs j in omega (arith, more))
-freed_is p (Stepped (Linked (Free q packet)) ∷ xs) j =
-    let more = freed_is p xs (if same_port p q then suc j else j) in
-    let one = own_freed (same_port p q) j in
-    omega (arith, more, one)
-freed_is p (Stepped (AtNode step) ∷ xs) j = (let more = freed_is p xs j in omega (arith, more))
-freed_is p (Stepped (ByDevice step) ∷ xs) j = (let more = freed_is p xs j in omega (arith, more))
-freed_is p (Signed (Sent q more) ∷ xs) j = (let more = freed_is p xs j in omega (arith, more))
-freed_is p (Signed (Got q more) ∷ xs) j = (let more = freed_is p xs j in omega (arith, more))
-freed_is p (Signed (Fired q) ∷ xs) j = (let more = freed_is p xs j in omega (arith, more))
-freed_is p (Lacked lack ∷ xs) j = (let more = freed_is p xs j in omega (arith, more))
-freed_is p (Ended ∷ xs) j = (let more = freed_is p xs j in omega (arith, more))
-freed_is p (Undetected number q e ∷ xs) j = (let more = freed_is p xs j in omega (arith, more))
-
--- ---- the allowance after more characters
-
-says_more : (chars more : List Char)
-    → says (chars ++ more) ≡ says chars ++ said (place_after start chars) more
-says_more chars more = said-append start chars more
-
-heard_more : (p : PortRef) (xs : List TraceLine) (chars : List Char)
-    → raised_all 0 (says chars) ≤ raised_all 0 (says (got_after p chars xs))
-heard_more p xs chars =
-    let grows = raised_all_more (said (place_after start chars) (got p xs)) (raised_all 0 (says chars)) in
-    let same = ap (λ (l : List Char). raised_all 0 (says l)) (heard_is p xs chars) ∙ ap (raised_all 0) (says_more chars (got p xs)) ∙ raised-append (says chars) (said (place_after start chars) (got p xs)) 0 in
-    omega (arith, grows, same)
+use Rattle.fabric_trace.proofs.RaisedRows.{raised-append}
+use Rattle.fabric_trace.proofs.Raising.{HaveRaised, delivered_raises}
+use Rattle.link_port.specs.Turns.{tell_sends}
+use Rattle.fabric_trace.proofs.Allowances.{got_after, freed_after, heard-append, freed-append, allowed-join, says_more, heard_more}
+pub use Rattle.fabric_trace.proofs.Allowances.{freed_is, heard_is}
 
 -- ---- of a port, after lines
 
@@ -130,7 +55,9 @@ raised_on : (p : PortRef) (before xs : List TraceLine)
     (says (got_after p (got_after p [] before) xs)) → IsRaised before p → IsRaised (before ++ xs) p
 raised_on p before xs all low h = record {
   all = allowed-join p before xs [] 0 h.all all;
-  low = (let freed = freed-append p before xs 0 in let heard = ap (λ (l : List Char). raised_all 0 (says l)) (heard-append p before xs []) in omega (arith, low, freed, heard));
+  low = (let freed = freed-append p before xs 0 in let heard =
+      ap (λ (l : List Char). raised_all 0 (says l)) (heard-append p before xs []) in omega
+      (arith, low, freed, heard));
 }
 
 -- ---- lines with no step at a link
@@ -144,16 +71,27 @@ still_allowed : (p : PortRef) (xs : List TraceLine) (chars : List Char) (j : ℕ
     → FreesAllowed p chars j xs × (freed_after p j xs ≡ j)
 unfolding AreStill
 still_allowed p [] chars j still = (tt, refl)
-still_allowed p (Begun line ∷ xs) chars j still = (let more = still_allowed p xs chars j still in ((tt, more.0), more.1))
+still_allowed p (Begun line ∷ xs) chars j still =
+    (let more = still_allowed p xs chars j still in ((tt, more.0), more.1))
 still_allowed p (Stepped (Linked step) ∷ xs) chars j still = absurd still
-still_allowed p (Stepped (AtNode step) ∷ xs) chars j still = (let more = still_allowed p xs chars j still in ((tt, more.0), more.1))
-still_allowed p (Stepped (ByDevice step) ∷ xs) chars j still = (let more = still_allowed p xs chars j still in ((tt, more.0), more.1))
-still_allowed p (Signed (Sent q more) ∷ xs) chars j still = (let rest = still_allowed p xs chars j still in ((tt, rest.0), rest.1))
-still_allowed p (Signed (Got q more) ∷ xs) chars j still = (let rest = still_allowed p xs (if same_port p q then chars ++ more else chars) j still in ((tt, rest.0), rest.1))
-still_allowed p (Signed (Fired q) ∷ xs) chars j still = (let rest = still_allowed p xs chars j still in ((tt, rest.0), rest.1))
-still_allowed p (Lacked lack ∷ xs) chars j still = (let more = still_allowed p xs chars j still in ((tt, more.0), more.1))
-still_allowed p (Ended ∷ xs) chars j still = (let more = still_allowed p xs chars j still in ((tt, more.0), more.1))
-still_allowed p (Undetected number q e ∷ xs) chars j still = (let more = still_allowed p xs chars j still in ((tt, more.0), more.1))
+still_allowed p (Stepped (AtNode step) ∷ xs) chars j still =
+    (let more = still_allowed p xs chars j still in ((tt, more.0), more.1))
+still_allowed p (Stepped (ByDevice step) ∷ xs) chars j still =
+    (let more = still_allowed p xs chars j still in ((tt, more.0), more.1))
+still_allowed p (Signed (Sent q more) ∷ xs) chars j still =
+    (let rest = still_allowed p xs chars j still in ((tt, rest.0), rest.1))
+still_allowed p (Signed (Got q more) ∷ xs) chars j still =
+    (let rest =
+    still_allowed p xs (if same_port p q then chars ++ more else chars) j
+    still in ((tt, rest.0), rest.1))
+still_allowed p (Signed (Fired q) ∷ xs) chars j still =
+    (let rest = still_allowed p xs chars j still in ((tt, rest.0), rest.1))
+still_allowed p (Lacked lack ∷ xs) chars j still =
+    (let more = still_allowed p xs chars j still in ((tt, more.0), more.1))
+still_allowed p (Ended ∷ xs) chars j still =
+    (let more = still_allowed p xs chars j still in ((tt, more.0), more.1))
+still_allowed p (Undetected number q e ∷ xs) chars j still =
+    (let more = still_allowed p xs chars j still in ((tt, more.0), more.1))
 
 still_raised : (p : PortRef) (before xs : List TraceLine) → AreStill xs → IsRaised before p
     → IsRaised (before ++ xs) p
@@ -190,29 +128,38 @@ own_one q j = ap (λ x. if x then suc j else j) (same_port-refl q)
 moves_own : (a b : PortRef) (side : Side) (moves : List Move) (chars : List Char) (j : ℕ)
     → j + freed_count moves ≤ raised_all 0 (says chars)
     → FreesAllowed (port_at_side a b side) chars j (lines_of a b (map (move_note side) moves)) ×
-    (freed_after (port_at_side a b side) j (lines_of a b (map (move_note side) moves)) ≡ j + freed_count moves)
+    (freed_after (port_at_side a b side) j (lines_of a b (map (move_note side) moves))
+    ≡ j + freed_count moves)
 moves_own a b side [] chars j low = (tt, omega arith)
-moves_own a b side (Held packet ∷ moves) chars j low = (let more = moves_own a b side moves chars j low in ((tt, more.0), more.1))
+moves_own a b side (Held packet ∷ moves) chars j low =
+    (let more = moves_own a b side moves chars j low in ((tt, more.0), more.1))
 moves_own a b side (Freed packet ∷ moves) chars j low =
     let q = port_at_side a b side in
     let lines = lines_of a b (map (move_note side) moves) in
     let more = moves_own a b side moves chars (suc j) (omega (arith, low)) in
     let one = own_one q j in
     let count = more.1 in
-    let same = ap (λ k. freed_after q k lines) one in
-    ((λ own. omega (arith, low), subst (λ k. FreesAllowed q chars k lines) (sym one) more.0), omega (arith, same, count))
+    let same = ap (λ k. freed_after q k lines) one in (
+      (λ own. omega (arith, low), subst (λ k. FreesAllowed q chars k lines) (sym one) more.0),
+      omega
+          (arith, same, count),
+    )
 
 moves_other : (c a b : PortRef) (side : Side) (moves : List Move) (chars : List Char) (j : ℕ)
     → same_port c (port_at_side a b side) ≡ false
     → FreesAllowed c chars j (lines_of a b (map (move_note side) moves)) ×
     (freed_after c j (lines_of a b (map (move_note side) moves)) ≡ j)
 moves_other c a b side [] chars j apart = (tt, refl)
-moves_other c a b side (Held packet ∷ moves) chars j apart = (let more = moves_other c a b side moves chars j apart in ((tt, more.0), more.1))
+moves_other c a b side (Held packet ∷ moves) chars j apart =
+    (let more = moves_other c a b side moves chars j apart in ((tt, more.0), more.1))
 moves_other c a b side (Freed packet ∷ moves) chars j apart =
     let lines = lines_of a b (map (move_note side) moves) in
     let more = moves_other c a b side moves chars j apart in
-    let one : (if same_port c (port_at_side a b side) then suc j else j) ≡ j = ap (λ x. if x then suc j else j) apart in
-    ((λ own. absurd (cc (own, apart)), subst (λ k. FreesAllowed c chars k lines) (sym one) more.0), ap (λ k. freed_after c k lines) one ∙ more.1)
+    let one : (if same_port c (port_at_side a b side) then suc j else j) ≡ j =
+    ap (λ x. if x then suc j else j) apart in (
+      (λ own. absurd (cc (own, apart)), subst (λ k. FreesAllowed c chars k lines) (sym one) more.0),
+      ap (λ k. freed_after c k lines) one ∙ more.1,
+    )
 
 abbrev got_lines : PortRef → PortRef → List Char → List Move → List TraceLine
 got_lines p q chars moves = Signed (Got q chars) ∷ lines_of p q (map (move_note B) moves)
@@ -238,28 +185,52 @@ got_raised before s p q c chars d none link is read freed h = by_port (same_port
         let zeroth = freed_is c before 0 in
         let count : j ≡ frees_all c before = omega (arith, zeroth) in
         let got_is : heard ≡ got c before = heard_is c before [] in
-        let place : (s.halves c).place ≡ place_after start heard = read.place none ∙ ap (place_after start) (sym got_is) in
-        let raises = subst (λ x. HaveRaised j (raised_all 0 (says heard)) (said (s.halves x).place chars) (taken_from s p x chars)) (sym one)
-        (delivered_raises j (raised_all 0 (says heard)) (port_at s q) (port_at s p) (kept_of (s.wires q)) (kept_of (s.wires p)) chars link.sound.port_b link.sound.port_a
-        (exchanged (port_at s p) (port_at s q) (kept_of (s.wires p)) (kept_of (s.wires q)) link.sound.sound)
-        (ap (λ x. oldest_of (s.halves x).output) (sym one) ∙ freed.oldest none ∙ ap (λ k. k % 32) (sym count)) h.low) in
+        let place : (s.halves c).place ≡ place_after start heard =
+        read.place none ∙ ap (place_after start) (sym got_is) in
+        let raises =
+        subst (λ x. HaveRaised j (raised_all 0 (says heard)) (said (s.halves x).place chars)
+        (taken_from s p x chars)) (sym one)
+        (delivered_raises j (raised_all 0 (says heard)) (port_at s q) (port_at s p)
+        (kept_of (s.wires q)) (kept_of (s.wires p)) chars link.sound.port_b link.sound.port_a
+        (exchanged (port_at s p) (port_at s q) (kept_of (s.wires p)) (kept_of (s.wires q))
+        link.sound.sound)
+        (ap (λ x. oldest_of (s.halves x).output) (sym one) ∙ freed.oldest none
+        ∙ ap (λ k. k % 32) (sym count)) h.low) in
         let there : taken_from s p c chars ≡ d = ap (λ x. taken_from s p x chars) one ∙ is in
-        let most = all_raised j (raised_all 0 (says heard)) (said (s.halves c).place chars) d (subst (HaveRaised j (raised_all 0 (says heard)) (said (s.halves c).place chars)) there raises) in
-        let after : raised_all 0 (says (heard ++ chars)) ≡ raised_all (raised_all 0 (says heard)) (said (s.halves c).place chars) =
-        ap (raised_all 0) (says_more heard chars) ∙ raised-append (says heard) (said (place_after start heard) chars) 0 ∙ ap (λ (x : Place). raised_all (raised_all 0 (says heard)) (said x chars)) (sym place) in
-        let low : j + freed_count (told_of d).moves ≤ raised_all 0 (says (heard ++ chars)) = omega (arith, most, after) in
-        let moves = subst (λ x. FreesAllowed x (heard ++ chars) j (lines_of p q (map (move_note B) (told_of d).moves)) × (freed_after x j (lines_of p q (map (move_note B) (told_of d).moves)) ≡ j + freed_count (told_of d).moves)) (sym one)
+        let most =
+        all_raised j (raised_all 0 (says heard)) (said (s.halves c).place chars) d
+        (subst (HaveRaised j (raised_all 0 (says heard)) (said (s.halves c).place chars)) there
+        raises) in
+        let after : raised_all 0 (says (heard ++ chars))
+        ≡ raised_all (raised_all 0 (says heard)) (said (s.halves c).place chars) =
+        ap (raised_all 0) (says_more heard chars)
+        ∙ raised-append (says heard) (said (place_after start heard) chars) 0
+        ∙ ap (λ (x : Place). raised_all (raised_all 0 (says heard)) (said x chars)) (sym place) in
+        let low : j + freed_count (told_of d).moves ≤ raised_all 0 (says (heard ++ chars)) =
+        omega (arith, most, after) in
+        let moves =
+        subst (λ x. FreesAllowed x (heard ++ chars) j
+        (lines_of p q (map (move_note B) (told_of d).moves))
+        × (freed_after x j (lines_of p q (map (move_note B) (told_of d).moves))
+        ≡ j + freed_count (told_of d).moves)) (sym one)
         (moves_own p q B (told_of d).moves (heard ++ chars) j low) in
-        let gets : (if same_port c q then heard ++ chars else heard) ≡ heard ++ chars = ap (λ x. if x then heard ++ chars else heard) same in
+        let gets : (if same_port c q then heard ++ chars else heard) ≡ heard ++ chars =
+        ap (λ x. if x then heard ++ chars else heard) same in
         let lines = lines_of p q (map (move_note B) (told_of d).moves) in
-        let end : got_after c heard (got_lines p q chars (told_of d).moves) ≡ heard ++ chars = moves_heard c p q B (told_of d).moves (if same_port c q then heard ++ chars else heard) ∙ gets in
+        let end : got_after c heard (got_lines p q chars (told_of d).moves) ≡ heard ++ chars =
+        moves_heard c p q B (told_of d).moves (if same_port c q then heard ++ chars else heard)
+        ∙ gets in
         let ends = ap (λ (l : List Char). raised_all 0 (says l)) end in
         let total = moves.1 in
-        raised_on c before (got_lines p q chars (told_of d).moves) (tt, subst (λ (l : List Char). FreesAllowed c l j lines) (sym gets) moves.0) (omega (arith, low, ends, total)) h
+        raised_on c before (got_lines p q chars (told_of d).moves)
+        (tt, subst (λ (l : List Char). FreesAllowed c l j lines) (sym gets) moves.0)
+        (omega (arith, low, ends, total)) h
     by_port false apart =
         let heard = got_after c [] before in
         let j = freed_after c 0 before in
-        let moves = moves_other c p q B (told_of d).moves (if same_port c q then heard ++ chars else heard) j apart in
+        let moves =
+        moves_other c p q B (told_of d).moves (if same_port c q then heard ++ chars else heard) j
+        apart in
         let grows = heard_more c (got_lines p q chars (told_of d).moves) heard in
         let low = h.low in
         let total = moves.1 in
@@ -276,13 +247,23 @@ delivery_raised before s p q c n none link has read freed h =
     let d = delivery_from A n l in
     let told = told_of d in
     let sent = (answers told.replies).chars in
-    let notes : delivery_notes A n l ≡ told_notes B chars told = ap (λ x. if x then told_notes B chars told else []) has in
+    let notes : delivery_notes A n l ≡ told_notes B chars told =
+    ap (λ x. if x then told_notes B chars told else []) has in
     let first = got_lines p q (take told.count chars) told.moves in
-    let lines : lines_of p q (told_notes B chars told) ≡ first ++ lines_of p q (sent_notes B sent) = ap (λ (x : List TraceLine). Signed (Got q (take told.count chars)) ∷ x) (lines-append p q (map (move_note B) told.moves) (sent_notes B sent)) in
-    let one = got_raised before s p q c (take told.count chars) d none link (taken_again (port_at s q) (kept_of (s.wires p)) chars d refl) read freed h in
-    let two = still_raised c (before ++ first) (lines_of p q (sent_notes B sent)) (sent_still p q B sent) one in
-    let all : IsRaised (before ++ (first ++ lines_of p q (sent_notes B sent))) c = subst (λ (x : List TraceLine). IsRaised x c) (append_assoc before first (lines_of p q (sent_notes B sent))) two in
-    subst (λ (x : List TraceLine). IsRaised (before ++ x) c) (sym (ap (lines_of p q) notes ∙ lines)) all
+    let lines : lines_of p q (told_notes B chars told) ≡ first ++ lines_of p q (sent_notes B sent) =
+    ap (λ (x : List TraceLine). Signed (Got q (take told.count chars)) ∷ x)
+    (lines-append p q (map (move_note B) told.moves) (sent_notes B sent)) in
+    let one =
+    got_raised before s p q c (take told.count chars) d none link
+    (taken_again (port_at s q) (kept_of (s.wires p)) chars d refl) read freed h in
+    let two =
+    still_raised c (before ++ first) (lines_of p q (sent_notes B sent)) (sent_still p q B sent)
+    one in
+    let all : IsRaised (before ++ (first ++ lines_of p q (sent_notes B sent))) c =
+    subst (λ (x : List TraceLine). IsRaised x c)
+    (append_assoc before first (lines_of p q (sent_notes B sent))) two in
+    subst (λ (x : List TraceLine). IsRaised (before ++ x) c) (sym (ap (lines_of p q) notes ∙ lines))
+    all
 
 -- ---- parts
 
@@ -290,28 +271,54 @@ part_raised : {s : Seen} {lines : List TraceLine} (before : List TraceLine) (c :
     → Part s lines → IsRead before s c → IsFreed before s c → IsRaised before c
     → IsRaised (before ++ lines) c
 unfolding AreStill
-part_raised {s} before c good (Begins line is) read freed h = subst (λ (x : List TraceLine). IsRaised (before ++ x) c) (sym is) (still_raised c before (Begun line ∷ []) tt h)
-part_raised {s} before c good (Lacks lack is) read freed h = subst (λ (x : List TraceLine). IsRaised (before ++ x) c) (sym is) (still_raised c before (Lacked lack ∷ []) tt h)
-part_raised {s} before c good (Ends is) read freed h = subst (λ (x : List TraceLine). IsRaised (before ++ x) c) (sym is) (still_raised c before (Ended ∷ []) tt h)
-part_raised {s} before c good (Names number q e found is) read freed h = subst (λ (x : List TraceLine). IsRaised (before ++ x) c) (sym is) (still_raised c before (Undetected number q e ∷ []) tt h)
-part_raised {s} before c good (Steps step needs few is) read freed h = subst (λ (x : List TraceLine). IsRaised (before ++ x) c) (sym is) (still_raised c before (Stepped (AtNode step) ∷ []) tt h)
-part_raised {s} before c good (Serves step needs is) read freed h = subst (λ (x : List TraceLine). IsRaised (before ++ x) c) (sym is) (still_raised c before (Stepped (ByDevice step) ∷ []) tt h)
+part_raised {s} before c good (Begins line is) read freed h =
+    subst (λ (x : List TraceLine). IsRaised (before ++ x) c) (sym is)
+    (still_raised c before (Begun line ∷ []) tt h)
+part_raised {s} before c good (Lacks lack is) read freed h =
+    subst (λ (x : List TraceLine). IsRaised (before ++ x) c) (sym is)
+    (still_raised c before (Lacked lack ∷ []) tt h)
+part_raised {s} before c good (Ends is) read freed h =
+    subst (λ (x : List TraceLine). IsRaised (before ++ x) c) (sym is)
+    (still_raised c before (Ended ∷ []) tt h)
+part_raised {s} before c good (Names number q e found is) read freed h =
+    subst (λ (x : List TraceLine). IsRaised (before ++ x) c) (sym is)
+    (still_raised c before (Undetected number q e ∷ []) tt h)
+part_raised {s} before c good (Steps step needs few is) read freed h =
+    subst (λ (x : List TraceLine). IsRaised (before ++ x) c) (sym is)
+    (still_raised c before (Stepped (AtNode step) ∷ []) tt h)
+part_raised {s} before c good (Serves step needs is) read freed h =
+    subst (λ (x : List TraceLine). IsRaised (before ++ x) c) (sym is)
+    (still_raised c before (Stepped (ByDevice step) ∷ []) tt h)
 part_raised {s} before c good (Turns p q n peer none is) read freed h =
-    subst (λ (x : List TraceLine). IsRaised (before ++ x) c) (sym is) (still_raised c before (lines_of p q (pump_notes A n (link_at s p q))) (sent_still p q A (bursts n (link_at s p q).a).chars) h)
+    subst (λ (x : List TraceLine). IsRaised (before ++ x) c) (sym is)
+    (still_raised c before (lines_of p q (pump_notes A n (link_at s p q)))
+    (sent_still p q A (bursts n (link_at s p q).a).chars) h)
+part_raised {s} before c good (Tells p q peer none is) read freed h =
+    subst (λ (x : List TraceLine). IsRaised (before ++ x) c) (sym is)
+    (still_raised c before (lines_of p q (tell_notes A (link_at s p q)))
+    (sent_still p q A (tell_sends (link_at s p q).a).chars) h)
 part_raised {s} before c good (Delivers p q n peer none has is) read freed h =
-    subst (λ (x : List TraceLine). IsRaised (before ++ x) c) (sym is) (delivery_raised before s p q c n none (good.links none p q peer) has read freed h)
+    subst (λ (x : List TraceLine). IsRaised (before ++ x) c) (sym is)
+    (delivery_raised before s p q c n none (good.links none p q peer) has read freed h)
 part_raised {s} before c good (Fires p q peer none silent is) read freed h =
-    subst (λ (x : List TraceLine). IsRaised (before ++ x) c) (sym is) (still_raised c before (lines_of p q (time_out_notes A (link_at s p q))) (fired_still p q (is_silent (link_at s p q))) h)
+    subst (λ (x : List TraceLine). IsRaised (before ++ x) c) (sym is)
+    (still_raised c before (lines_of p q (time_out_notes A (link_at s p q)))
+    (fired_still p q (is_silent (link_at s p q))) h)
 
 pub made_raised : {s : Seen} {lines : List TraceLine} (before : List TraceLine) (c : PortRef)
     → IsGood s → Made s lines → IsRead before s c → IsFreed before s c → IsRaised before c
     → IsRaised (before ++ lines) c
-made_raised {s} before c good (Done is) read freed h = subst (λ (x : List TraceLine). IsRaised (before ++ x) c) (sym is) (subst (λ (x : List TraceLine). IsRaised x c) (sym (append-nil before)) h)
+made_raised {s} before c good (Done is) read freed h =
+    subst (λ (x : List TraceLine). IsRaised (before ++ x) c) (sym is)
+    (subst (λ (x : List TraceLine). IsRaised x c) (sym (append-nil before)) h)
 made_raised {s} before c good (Then first rest is own more) read freed h =
     let made = one_part own in
     let one = part_raised before c good own read freed h in
-    let two = made_raised (before ++ first) c (part_keeps good own).good more (made_read before c good made read) (made_freed before c good made freed) one in
-    subst (λ (x : List TraceLine). IsRaised (before ++ x) c) (sym is) (subst (λ (x : List TraceLine). IsRaised x c) (append_assoc before first rest) two)
+    let two =
+    made_raised (before ++ first) c (part_keeps good own).good more
+    (made_read before c good made read) (made_freed before c good made freed) one in
+    subst (λ (x : List TraceLine). IsRaised (before ++ x) c) (sym is)
+    (subst (λ (x : List TraceLine). IsRaised x c) (append_assoc before first rest) two)
 
 -- ---- whole lines, and their fronts
 

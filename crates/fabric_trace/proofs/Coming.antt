@@ -5,7 +5,7 @@ use Rattle.std.proofs.lemmas.List.{append-nil}
 use Rattle.rio_chars.specs.declared.chars.Char.{Char}
 use Rattle.rio_packets.specs.CauseNumbers.{number_of}
 use Rattle.rio_packets.specs.Fields.{prio_of}
-use Rattle.link_buffers.specs.Queues.{room_for}
+use Rattle.link_buffers.specs.Queues.{room_for, stored}
 use Rattle.link_model.specs.declared.event.Event.{Event}
 use Rattle.link_model.specs.declared.event.Event.TheVariants.{Ctl, Pkt, Bad}
 use Rattle.link_model.specs.Input as in_half
@@ -16,6 +16,7 @@ use Rattle.link_model.specs.Said.{said}
 use Rattle.link_port.specs.Ports.{PortState}
 use Rattle.link_port.specs.States.{expected_of}
 use Rattle.link_port.specs.Steps.{acts, is_acted}
+use Rattle.link_port.specs.Prelude.{buffer_status}
 use Rattle.link_sound.proofs.Receiving.{next_expected}
 use Rattle.link_wires.specs.Deliveries.{Flow, Delivered, Through, Undetected as Unsent, begun, moves_of, done, met, comes, goes_on, come, ended, delivered}
 use Rattle.link_wires.specs.Kept.{behind, IsSubsequence}
@@ -30,17 +31,24 @@ pub none_within : (ys : List Event) → IsSubsequence [] ys
 none_within [] = Ends
 none_within (y ∷ ys) = Skips y (none_within ys)
 
-pub within-append : {xs ys us vs : List Event} → IsSubsequence xs ys → IsSubsequence us vs → IsSubsequence (xs ++ us) (ys ++ vs)
+pub within-append : {xs ys us vs : List Event} → IsSubsequence xs ys → IsSubsequence us vs
+    → IsSubsequence (xs ++ us) (ys ++ vs)
 within-append Ends more = more
 within-append (Takes e rest) more = Takes e (within-append rest more)
 within-append (Skips y rest) more = Skips y (within-append rest more)
 
-pub within_more : {xs ys : List Event} (more : List Event) → IsSubsequence xs ys → IsSubsequence xs (ys ++ more)
-within_more {xs} {ys} more within = subst (λ (l : List Event). IsSubsequence l (ys ++ more)) (append-nil xs) (within-append within (none_within more))
+pub within_more : {xs ys : List Event} (more : List Event) → IsSubsequence xs ys
+    → IsSubsequence xs (ys ++ more)
+within_more {xs} {ys} more within =
+    subst (λ (l : List Event). IsSubsequence l (ys ++ more)) (append-nil xs)
+    (within-append within (none_within more))
 
-pub numbered-append : (n m : ℕ) (ps qs : List (List ℕ)) → m ≡ n + length ps → numbered n (ps ++ qs) ≡ numbered n ps ++ numbered m qs
+pub numbered-append : (n m : ℕ) (ps qs : List (List ℕ)) → m ≡ n + length ps
+    → numbered n (ps ++ qs) ≡ numbered n ps ++ numbered m qs
 numbered-append n m [] qs is = let same : n ≡ m = omega (arith, is) in ap (λ k. numbered k qs) same
-numbered-append n m (p ∷ ps) qs is = ap (λ (l : List Event). Pkt (n % 32) p ∷ l) (numbered-append (suc n) m ps qs (omega (arith, is)))
+numbered-append n m (p ∷ ps) qs is =
+    ap (λ (l : List Event). Pkt (n % 32) p ∷ l)
+    (numbered-append (suc n) m ps qs (omega (arith, is)))
 
 -- ---- the packets held
 
@@ -58,22 +66,30 @@ freed_none : (packets : List (List ℕ)) → held_in (map (λ packet. Freed pack
 freed_none [] = refl
 freed_none (packet ∷ packets) = freed_none packets
 
-held_of : (held : Option (List ℕ)) (freed : List (List ℕ)) → held_in (map (λ packet. Held packet) (option_to_list held) ++ map (λ packet. Freed packet) freed) ≡ option_to_list held
+held_of : (held : Option (List ℕ)) (freed : List (List ℕ))
+    → held_in (map (λ packet. Held packet) (option_to_list held) ++ map (λ packet. Freed packet)
+    freed) ≡ option_to_list held
 held_of None freed = freed_none freed
 held_of (Some packet) freed = ap (λ (l : List (List ℕ)). packet ∷ l) (freed_none freed)
 
 -- ---- one event
 
--- an event that has a port hold nothing leaves the expected ackID; one that has it hold a packet is that packet with it
+-- an event that has a port hold nothing leaves the expected ackID; one that has it hold a packet is
+-- that packet with it
 abbrev IsHeld : PortState → Event → Type 0
-IsHeld port e = (((acts port e).held ≡ None) × (expected_of (acts port e).port.input ≡ expected_of port.input))
-    ⊎ ((packet : List ℕ) × ((acts port e).held ≡ Some packet) × (e ≡ Pkt (expected_of port.input) packet) × (expected_of (acts port e).port.input ≡ (expected_of port.input + 1) % 32))
+IsHeld port e =
+    (((acts port e).held ≡ None) × (expected_of (acts port e).port.input ≡ expected_of port.input))
+    ⊎ ((packet : List ℕ) × ((acts port e).held ≡ Some packet)
+    × (e ≡ Pkt (expected_of port.input) packet)
+    × (expected_of (acts port e).port.input ≡ (expected_of port.input + 1) % 32))
 
 -- of a state of a port's input
 abbrev IsSame : Arrival → in_half.Input → Type 0
 IsSame what input = expected_of (receives what input).state ≡ expected_of input
 
-symbol_same : (first second : Bool) (input : in_half.Input) → IsSame (if first then RestartFromRetry else (if second then LinkRequest else OtherStype1)) input
+symbol_same : (first second : Bool) (input : in_half.Input)
+    → IsSame (if first then RestartFromRetry else (if second then LinkRequest else OtherStype1))
+    input
 symbol_same true second (in_half.Input.Ok x) = refl
 symbol_same true second (in_half.Input.RetryStopped x) = refl
 symbol_same true second (in_half.Input.ErrorStopped x) = refl
@@ -91,37 +107,58 @@ damaged_same cause (in_half.Input.ErrorStopped x) = refl
 
 -- what a packet does, by whether it is expected and has room
 abbrev Packet : Arrival → in_half.Input → ℕ → List ℕ → Type 0
-Packet what input ack packet = (((if (receives what input).held then Some packet else None) ≡ None) × (expected_of (receives what input).state ≡ expected_of input))
-    ⊎ ((p : List ℕ) × ((if (receives what input).held then Some packet else None) ≡ Some p) × (Pkt ack packet ≡ Pkt (expected_of input) p) × (expected_of (receives what input).state ≡ (expected_of input + 1) % 32))
+Packet what input ack packet =
+    (((if (receives what input).held then Some packet else None) ≡ None)
+    × (expected_of (receives what input).state ≡ expected_of input))
+    ⊎ ((p : List ℕ) × ((if (receives what input).held then Some packet else None) ≡ Some p)
+    × (Pkt ack packet ≡ Pkt (expected_of input) p)
+    × (expected_of (receives what input).state ≡ (expected_of input + 1) % 32))
 
-unexpected : (room : Bool) (input : in_half.Input) (ack : ℕ) (packet : List ℕ) → Packet UnexpectedAck input ack packet
+unexpected : (room : Bool) (input : in_half.Input) (ack : ℕ) (packet : List ℕ)
+    → Packet UnexpectedAck input ack packet
 unexpected room (in_half.Input.Ok x) ack packet = inl (refl, refl)
 unexpected room (in_half.Input.RetryStopped x) ack packet = inl (refl, refl)
 unexpected room (in_half.Input.ErrorStopped x) ack packet = inl (refl, refl)
 
-expected_comes : (room : Bool) (input : in_half.Input) (ack : ℕ) (packet : List ℕ) → ack ≡ expected_of input → Packet (if room then ExpectedWithRoom else ExpectedWithoutRoom) input ack packet
-expected_comes true (in_half.Input.Ok x) ack packet is = inr (packet, refl, ap (λ n. Pkt n packet) is, refl)
-expected_comes true (in_half.Input.RetryStopped x) ack packet is = inl (refl, refl)
-expected_comes true (in_half.Input.ErrorStopped x) ack packet is = inl (refl, refl)
-expected_comes false (in_half.Input.Ok x) ack packet is = inl (refl, refl)
-expected_comes false (in_half.Input.RetryStopped x) ack packet is = inl (refl, refl)
-expected_comes false (in_half.Input.ErrorStopped x) ack packet is = inl (refl, refl)
+-- an expected packet
+abbrev wanted : Bool → ℕ → Arrival
+wanted room buffers = if room then ExpectedWithRoom buffers else ExpectedWithoutRoom buffers
 
-packet_comes : (room : Bool) (input : in_half.Input) (ack : ℕ) (packet : List ℕ) → Packet (packet_arrival (expected_of input) ack room) input ack packet
-packet_comes room input ack packet =
+expected_comes : (room : Bool) (buffers : ℕ) (input : in_half.Input) (ack : ℕ) (packet : List ℕ)
+    → ack ≡ expected_of input → Packet (wanted room buffers) input ack packet
+expected_comes true buffers (in_half.Input.Ok x) ack packet is =
+    inr (packet, refl, ap (λ n. Pkt n packet) is, refl)
+expected_comes true buffers (in_half.Input.RetryStopped x) ack packet is = inl (refl, refl)
+expected_comes true buffers (in_half.Input.ErrorStopped x) ack packet is = inl (refl, refl)
+expected_comes false buffers (in_half.Input.Ok x) ack packet is = inl (refl, refl)
+expected_comes false buffers (in_half.Input.RetryStopped x) ack packet is = inl (refl, refl)
+expected_comes false buffers (in_half.Input.ErrorStopped x) ack packet is = inl (refl, refl)
+
+packet_comes : (room : Bool) (buffers : ℕ) (input : in_half.Input) (ack : ℕ) (packet : List ℕ)
+    → Packet (packet_arrival (expected_of input) ack room buffers) input ack packet
+packet_comes room buffers input ack packet =
     elim (eqb_tells ack (expected_of input)) [
-      | inl (test, same) ↦ subst (λ b. Packet (if b then (if room then ExpectedWithRoom else ExpectedWithoutRoom) else UnexpectedAck) input ack packet) (sym test) (expected_comes room input ack packet same)
-      | inr (test, different) ↦ subst (λ b. Packet (if b then (if room then ExpectedWithRoom else ExpectedWithoutRoom) else UnexpectedAck) input ack packet) (sym test) (unexpected room input ack packet)
+      | inl (test, same) ↦
+          subst (λ b. Packet (if b then wanted room buffers else UnexpectedAck) input ack packet)
+          (sym test) (expected_comes room buffers input ack packet same)
+      | inr (test, different) ↦
+          subst (λ b. Packet (if b then wanted room buffers else UnexpectedAck) input ack packet)
+          (sym test) (unexpected room input ack packet)
     ]
 
 event_held : (port : PortState) (e : Event) → IsHeld port e
-event_held port (Ctl symbol) = inl (refl, symbol_same (symbol.s1 == 3) ((symbol.s1 == 4) && (symbol.cmd == 4)) port.input)
-event_held port (Pkt ack packet) = packet_comes (room_for port.received (prio_of packet)) port.input ack packet
+event_held port (Ctl symbol) =
+    inl (refl, symbol_same (symbol.s1 == 3) ((symbol.s1 == 4) && (symbol.cmd == 4)) port.input)
+event_held port (Pkt ack packet) =
+    let room = room_for port.received (prio_of packet) in
+    packet_comes room (buffer_status port.tells (stored room port.received packet)) port.input ack
+    packet
 event_held port (Bad cause) = inl (refl, damaged_same (number_of cause) port.input)
 
 -- ---- a flow
 
--- after these events: the packets held, numbered from n on, are among them, and the next number is expected
+-- after these events: the packets held, numbered from n on, are among them, and the next number is
+-- expected
 pub record HasCome (n : ℕ) (said : List Event) (flow : Flow) : Type 0 where
   pub expected : expected_of flow.port.input ≡ (n + length (held_in flow.told.moves)) % 32
   pub within : IsSubsequence (numbered n (held_in flow.told.moves)) said
@@ -130,41 +167,62 @@ abbrev pub HaveCome : ℕ → List Event → Delivered → Type 0
 HaveCome n said (Through flow) = HasCome n said flow
 HaveCome n said (Unsent told e) = IsSubsequence (numbered n (held_in told.moves)) said
 
-done_held : (e : Event) (acted kept : List Event) (flow : Flow) → held_in (done e acted kept flow).told.moves ≡ held_in flow.told.moves ++ option_to_list (acts flow.port e).held
+done_held : (e : Event) (acted kept : List Event) (flow : Flow)
+    → held_in (done e acted kept flow).told.moves ≡ held_in flow.told.moves
+    ++ option_to_list (acts flow.port e).held
 done_held e acted kept flow =
-    held-append flow.told.moves (moves_of (acts flow.port e)) ∙ ap (λ (l : List (List ℕ)). held_in flow.told.moves ++ l) (held_of (acts flow.port e).held (acts flow.port e).freed)
+    held-append flow.told.moves (moves_of (acts flow.port e))
+    ∙ ap (λ (l : List (List ℕ)). held_in flow.told.moves ++ l)
+    (held_of (acts flow.port e).held (acts flow.port e).freed)
 
-done_comes : (n : ℕ) (said : List Event) (e : Event) (acted kept : List Event) (flow : Flow) → HasCome n said flow → HasCome n (said ++ e ∷ []) (done e acted kept flow)
+done_comes : (n : ℕ) (said : List Event) (e : Event) (acted kept : List Event) (flow : Flow)
+    → HasCome n said flow → HasCome n (said ++ e ∷ []) (done e acted kept flow)
 done_comes n said e acted kept flow h = by_held (event_held flow.port e)
   where
     by_held : IsHeld flow.port e → HasCome n (said ++ e ∷ []) (done e acted kept flow)
     by_held (inl (none, same)) =
-        let held : held_in (done e acted kept flow).told.moves ≡ held_in flow.told.moves = done_held e acted kept flow ∙ ap (λ (o : Option (List ℕ)). held_in flow.told.moves ++ option_to_list o) none ∙ append-nil (held_in flow.told.moves) in
+        let held : held_in (done e acted kept flow).told.moves ≡ held_in flow.told.moves =
+        done_held e acted kept flow
+        ∙ ap (λ (o : Option (List ℕ)). held_in flow.told.moves ++ option_to_list o) none
+        ∙ append-nil (held_in flow.told.moves) in
         record {
           expected = same ∙ h.expected ∙ ap (λ (l : List (List ℕ)). (n + length l) % 32) (sym held);
-          within = subst (λ (l : List (List ℕ)). IsSubsequence (numbered n l) (said ++ e ∷ [])) (sym held) (within_more (e ∷ []) h.within);
+          within = subst (λ (l : List (List ℕ)). IsSubsequence (numbered n l) (said ++ e ∷ []))
+              (sym held) (within_more (e ∷ []) h.within);
         }
     by_held (inr (packet, some, is, next)) =
         let ps = held_in flow.told.moves in
-        let held : held_in (done e acted kept flow).told.moves ≡ ps ++ packet ∷ [] = done_held e acted kept flow ∙ ap (λ (o : Option (List ℕ)). ps ++ option_to_list o) some in
+        let held : held_in (done e acted kept flow).told.moves ≡ ps ++ packet ∷ [] =
+        done_held e acted kept flow ∙ ap (λ (o : Option (List ℕ)). ps ++ option_to_list o) some in
         let longer = length-append ps (packet ∷ []) in
         let count : suc (n + length ps) ≡ n + length (ps ++ packet ∷ []) = omega (arith, longer) in
-        let number : (expected_of flow.port.input + 1) % 32 ≡ (n + length (ps ++ packet ∷ [])) % 32 = next_expected (expected_of flow.port.input) (n + length ps) h.expected ∙ ap (λ k. k % 32) count in
-        let last : Pkt ((n + length ps) % 32) packet ≡ e = ap (λ k. Pkt k packet) (sym h.expected) ∙ sym is in
+        let number : (expected_of flow.port.input + 1) % 32
+        ≡ (n + length (ps ++ packet ∷ [])) % 32 =
+        next_expected (expected_of flow.port.input) (n + length ps) h.expected
+        ∙ ap (λ k. k % 32) count in
+        let last : Pkt ((n + length ps) % 32) packet ≡ e =
+        ap (λ k. Pkt k packet) (sym h.expected) ∙ sym is in
         record {
           expected = next ∙ number ∙ ap (λ (l : List (List ℕ)). (n + length l) % 32) (sym held);
-          within = subst (λ (l : List (List ℕ)). IsSubsequence (numbered n l) (said ++ e ∷ [])) (sym held)
-              (subst (λ (l : List Event). IsSubsequence l (said ++ e ∷ [])) (sym (numbered-append n (n + length ps) ps (packet ∷ []) refl))
-              (within-append h.within (subst (λ (x : Event). IsSubsequence (x ∷ []) (e ∷ [])) (sym last) (Takes e Ends))));
+          within = subst (λ (l : List (List ℕ)). IsSubsequence (numbered n l) (said ++ e ∷ []))
+              (sym held)
+              (subst (λ (l : List Event). IsSubsequence l (said ++ e ∷ []))
+              (sym (numbered-append n (n + length ps) ps (packet ∷ []) refl))
+              (within-append h.within (subst (λ (x : Event). IsSubsequence (x ∷ []) (e ∷ []))
+              (sym last) (Takes e Ends))));
         }
 
-met_comes : (n : ℕ) (said : List Event) (at : ℕ) (e : Event) (kept : Option (List Event)) (flow : Flow) → HasCome n said flow → HaveCome n (said ++ e ∷ []) (met at e kept flow)
+met_comes : (n : ℕ) (said : List Event) (at : ℕ) (e : Event) (kept : Option (List Event))
+    (flow : Flow) → HasCome n said flow → HaveCome n (said ++ e ∷ []) (met at e kept flow)
 met_comes n said at e None flow h = within_more (e ∷ []) h.within
 met_comes n said at e (Some kept) flow h = done_comes n said e (e ∷ []) kept flow h
 
-comes_comes : (n : ℕ) (said : List Event) (flow : Flow) (placed : ℕ × Event) → HasCome n said flow → HaveCome n (said ++ placed.1 ∷ []) (comes flow placed)
+comes_comes : (n : ℕ) (said : List Event) (flow : Flow) (placed : ℕ × Event) → HasCome n said flow
+    → HaveCome n (said ++ placed.1 ∷ []) (comes flow placed)
 comes_comes n said flow placed h =
-    elim (is_acted flow.port placed.1) as (λ b. HaveCome n (said ++ placed.1 ∷ []) (if b then met placed.0 placed.1 (behind placed.1 flow.kept) flow else Through (done placed.1 [] flow.kept flow))) [
+    elim (is_acted flow.port placed.1) as (λ b. HaveCome n (said ++ placed.1 ∷ [])
+    (if b then met placed.0 placed.1 (behind placed.1 flow.kept) flow else Through
+    (done placed.1 [] flow.kept flow))) [
       | true ↦ met_comes n said placed.0 placed.1 (behind placed.1 flow.kept) flow h
       | false ↦ done_comes n said placed.1 [] flow.kept flow h
     ]
@@ -172,24 +230,38 @@ comes_comes n said flow placed h =
 abbrev events_of : List (ℕ × Event) → List Event
 events_of events = map (λ (event : ℕ × Event). event.1) events
 
-on_comes : (n : ℕ) (said rest : List Event) (more : Flow → Delivered) (d : Delivered) → ((f : Flow) → HasCome n said f → HaveCome n (said ++ rest) (more f)) → HaveCome n said d → HaveCome n (said ++ rest) (goes_on more d)
+on_comes : (n : ℕ) (said rest : List Event) (more : Flow → Delivered) (d : Delivered)
+    → ((f : Flow) → HasCome n said f → HaveCome n (said ++ rest) (more f)) → HaveCome n said d
+    → HaveCome n (said ++ rest) (goes_on more d)
 on_comes n said rest more (Through f) next h = next f h
 on_comes n said rest more (Unsent told e) next h = within_more rest h
 
-come_comes : (n : ℕ) (events : List (ℕ × Event)) (said : List Event) (flow : Flow) → HasCome n said flow → HaveCome n (said ++ events_of events) (come events flow)
+come_comes : (n : ℕ) (events : List (ℕ × Event)) (said : List Event) (flow : Flow)
+    → HasCome n said flow → HaveCome n (said ++ events_of events) (come events flow)
 unfolding come
 come_comes n [] said flow h = subst (λ (l : List Event). HasCome n l flow) (sym (append-nil said)) h
 come_comes n (placed ∷ events) said flow h =
-    subst (λ (l : List Event). HaveCome n l (goes_on (come events) (comes flow placed))) (append_assoc said (placed.1 ∷ []) (events_of events))
-    (on_comes n (said ++ placed.1 ∷ []) (events_of events) (come events) (comes flow placed) (λ f g. come_comes n events (said ++ placed.1 ∷ []) f g) (comes_comes n said flow placed h))
+    subst (λ (l : List Event). HaveCome n l (goes_on (come events) (comes flow placed)))
+    (append_assoc said (placed.1 ∷ []) (events_of events))
+    (on_comes n (said ++ placed.1 ∷ []) (events_of events) (come events) (comes flow placed)
+    (λ f g. come_comes n events (said ++ placed.1 ∷ []) f g) (comes_comes n said flow placed h))
 
-ended_comes : (n : ℕ) (said : List Event) (place : Place) (count : ℕ) (d : Delivered) → HaveCome n said d → HaveCome n said (ended place count d)
-ended_comes n said place count (Through flow) h = record { expected = h.expected; within = h.within }
+ended_comes : (n : ℕ) (said : List Event) (place : Place) (count : ℕ) (d : Delivered)
+    → HaveCome n said d → HaveCome n said (ended place count d)
+ended_comes n said place count (Through flow) h =
+    record { expected = h.expected; within = h.within }
 ended_comes n said place count (Unsent told e) h = h
 
 -- a delivery to a port that expects the n-th packet
-pub delivered_comes : (n : ℕ) (port : PortState) (kept : List Event) (chars : List Char) → expected_of port.input ≡ n % 32 → HaveCome n (said port.place chars) (delivered port kept chars)
+pub delivered_comes : (n : ℕ) (port : PortState) (kept : List Event) (chars : List Char)
+    → expected_of port.input ≡ n % 32
+    → HaveCome n (said port.place chars) (delivered port kept chars)
 delivered_comes n port kept chars is =
-    let none : n % 32 ≡ (n + length {A = List ℕ} []) % 32 = (let same : n ≡ n + 0 = omega arith in ap (λ k. k % 32) same) in
-    ended_comes n (said port.place chars) (place_after port.place chars) _ (come (run port.place 0 chars) (begun port kept))
-    (come_comes n (run port.place 0 chars) [] (begun port kept) (record { expected = is ∙ none; within = Ends }))
+    let none : n % 32 ≡ (n + length {A = List ℕ} []) % 32 =
+    (let same : n ≡ n + 0 = omega arith in ap (λ k. k % 32) same) in
+    ended_comes n (said port.place chars) (place_after port.place chars) _
+    (come (run port.place 0 chars) (begun port kept))
+    (come_comes n (run port.place 0 chars) [] (begun port kept) (record {
+      expected = is ∙ none;
+      within = Ends;
+    }))

@@ -1,285 +1,186 @@
 -- The frees of a port are acknowledged in what it got.
-use Rattle.std.proofs.Common.{◌≡◌, ℕ, suc, ◌+◌, ◌%◌, ◌<◌, ◌==◌, ◌++◌, Bool, true, false, List, [], ◌∷◌, map, take, Option, Some, None, refl, sym, ap, ◌∙◌, subst, arith, append_assoc, if◌then◌else◌}
+use Rattle.std.proofs.Common.{◌≡◌, ℕ, suc, ◌+◌, ◌%◌, ◌<◌, ◌++◌, Bool, true, false, List, [], ◌∷◌, map, take, Some, None, refl, sym, ap, ◌∙◌, subst, arith, append_assoc, if◌then◌else◌}
 use Rattle.std.proofs.lemmas.List.{append-nil}
 use Rattle.rio_chars.specs.declared.chars.Char.{Char}
 use Rattle.link_model.specs.declared.event.Event.{Event}
-use Rattle.link_model.specs.declared.event.Event.TheVariants.{Ctl, Pkt, Bad}
-use Rattle.rio_symbols.specs.declared.stype1.TheConstants.{RESTART_FROM_RETRY, LINK_REQUEST}
-use Rattle.link_model.specs.Outstanding.{Outstanding, from_ack}
-use Rattle.link_model.specs.Output as out
 use Rattle.link_model.specs.Places.{Place, start, place_after}
 use Rattle.link_model.specs.Said.{said}
 use Rattle.link_model.proofs.PlacesLaws.{place_after-append, place_after-none}
-use Rattle.link_port.specs.Turns.{timed_out}
+use Rattle.link_port.specs.Turns.{tell_sends}
 use Rattle.link_sound.specs.Meanings.{oldest_of}
 use Rattle.link_sound.proofs.Steps.{exchanged}
-use Rattle.link_watch.specs.declared.note.Note.TheVariants as Notes
 use Rattle.link_watch.specs.declared.side.Side.{Side}
 use Rattle.link_watch.specs.declared.side.Side.TheVariants.{A, B}
 use Rattle.link_wires.specs.Deliveries.{Delivered, Through, Undetected as Unsent, delivered, told_of, undetected}
 use Rattle.link_wires.specs.Wires.{bursts, answers}
-use Rattle.link_wires.specs.declared.edits.Edit.{Edit}
 use Rattle.link_wires.specs.declared.moves.Move.{Move}
 use Rattle.link_wires.specs.declared.moves.Move.TheVariants.{Held, Freed}
-use Rattle.link_machine.specs.Calls.{sent_notes, has_chars, is_silent, delivery_from, move_note, told_notes, delivery_notes, pump_notes, time_out_notes}
+use Rattle.link_machine.specs.Calls.{sent_notes, has_chars, is_silent, delivery_from, move_note, told_notes, delivery_notes, pump_notes, time_out_notes, tell_notes}
 use Rattle.link_machine.specs.Queues as queues
 use Rattle.fabric_script.specs.declared.ports.PortRef.{PortRef}
 use Rattle.fabric_model.specs.Network.{same_port}
-use Rattle.fabric_model.specs.Steps.{Linked, AtNode, ByDevice, after_all}
+use Rattle.fabric_model.specs.Steps.{AtNode, ByDevice, after_all}
 use Rattle.fabric_model.proofs.Peers.{port_is, same_port-refl}
-use Rattle.fabric_trace.specs.Lines.{Sent, Got, Fired, TraceLine, Begun, Stepped, Signed, Lacked, Ended, Undetected}
-use Rattle.fabric_trace.specs.Views.{Half, half_of}
-use Rattle.fabric_trace.specs.Known.{Seen, with_half, peer_of, port_at, kept_of, link_at}
-use Rattle.fabric_trace.specs.Fold.{edit_of, edited_by, event_leaves, sends, says, half_sent, taken_from, half_after, found_at, got_from, fired_from, signed, seen}
+use Rattle.fabric_trace.specs.Lines.{Got, TraceLine, Begun, Stepped, Signed, Lacked, Ended, Undetected}
+use Rattle.fabric_trace.specs.Views.{Half}
+use Rattle.fabric_trace.specs.Known.{Seen, peer_of, port_at, kept_of, link_at}
+use Rattle.fabric_trace.specs.Fold.{taken_from, half_after, found_at, got_from, seen}
 use Rattle.fabric_trace.specs.Blocks.{port_at_side, lines_of}
-use Rattle.fabric_trace.specs.Frees.{IsSaid, Gotten, nothing_got, gets, completed, frees_by, FreeSaid, FreesSaid}
+use Rattle.fabric_trace.specs.Frees.{IsSaid, Gotten, nothing_got, gets, completed, FreesSaid}
 use Rattle.fabric_trace.specs.Links.{IsLink}
-use Rattle.fabric_trace.specs.Parts.{Part, Begins, Lacks, Ends, Names, Steps, Serves, Turns, Delivers, Fires, Made, Done, Then}
+use Rattle.fabric_trace.specs.Parts.{Part, Begins, Lacks, Ends, Names, Steps, Serves, Turns, Tells, Delivers, Fires, Made, Done, Then}
 use Rattle.fabric_trace.proofs.Cuts.{taken_again, through_place}
 use Rattle.fabric_trace.proofs.Folding.{seen-append, lines-append, half_own, half_other, moves_seen}
 use Rattle.fabric_trace.proofs.Heard.{freed_count, HaveFreed, delivered_frees}
 use Rattle.fabric_trace.proofs.Keeping.{IsGood, good_peers, part_keeps}
 use Rattle.fabric_trace.proofs.Walks.{net_steps}
-
--- ---- folds
-
-abbrev pub gets_all : PortRef → Gotten → List TraceLine → Gotten
-gets_all p known [] = known
-gets_all p known (line ∷ lines) = gets_all p (gets p known line) lines
-
-abbrev pub frees_all : PortRef → List TraceLine → ℕ
-frees_all p [] = 0
-frees_all p (line ∷ lines) = frees_by p line + frees_all p lines
-
-gets-append : (p : PortRef) (known : Gotten) (xs ys : List TraceLine) → gets_all p known (xs ++ ys) ≡ gets_all p (gets_all p known xs) ys
-gets-append p known [] ys = refl
-gets-append p known (x ∷ xs) ys = gets-append p (gets p known x) xs ys
-
-frees-append : (p : PortRef) (xs ys : List TraceLine) → frees_all p (xs ++ ys) ≡ frees_all p xs + frees_all p ys
-frees-append p [] ys = omega arith
-frees-append p (x ∷ xs) ys = let more = frees-append p xs ys in omega (arith, more)
-
-said-join : (p : PortRef) (xs ys : List TraceLine) (known : Gotten) (j : ℕ) → FreesSaid p known j xs → FreesSaid p (gets_all p known xs) (j + frees_all p xs) ys → FreesSaid p known j (xs ++ ys)
-said-join p [] ys known j first rest = let same : j + 0 ≡ j = omega arith in subst (λ k. FreesSaid p known k ys) same rest
-said-join p (x ∷ xs) ys known j first rest =
-    let same : j + (frees_by p x + frees_all p xs) ≡ (j + frees_by p x) + frees_all p xs = omega arith in
-    (first.0, said-join p xs ys (gets p known x) (j + frees_by p x) first.1 (subst (λ k. FreesSaid p (gets_all p (gets p known x) xs) k ys) same rest))
-
--- everything that a port got
-abbrev all_got : Gotten → List Char
-all_got known = known.before ++ known.last
-
--- Of a port, after lines: its frees are acknowledged; its framer stands behind what it got; and its oldest packet is the
--- next to be freed.
-pub record IsFreed (before : List TraceLine) (s : Seen) (p : PortRef) : Type 0 where
-  pub said : FreesSaid p nothing_got 0 before
-  pub place : s.unfaithful ≡ None → (s.halves p).place ≡ place_after start (all_got (gets_all p nothing_got before))
-  pub oldest : s.unfaithful ≡ None → oldest_of (s.halves p).output ≡ frees_all p before % 32
-
--- ---- lines in which a port gets and frees nothing
-
-unfoldable AreStill : List TraceLine → Type 0
-AreStill [] = Unit {0}
-AreStill (Signed (Got q chars) ∷ lines) = ⊥
-AreStill (Stepped (Linked step) ∷ lines) = ⊥
-AreStill (line ∷ lines) = AreStill lines
-
-record StaysFreed (s t : Seen) (c : PortRef) : Type 0 where
-  pub place : (t.halves c).place ≡ (s.halves c).place
-  pub oldest : oldest_of (t.halves c).output ≡ oldest_of (s.halves c).output
-  pub unfaithful : t.unfaithful ≡ s.unfaithful
-
-stays_here : (s : Seen) (c : PortRef) → StaysFreed s s c
-stays_here s c = record { place = refl; oldest = refl; unfaithful = refl }
-
-half_stays : (halves : PortRef → Half) (p : PortRef) (half : Half) (c : PortRef) → half.place ≡ (halves p).place → oldest_of half.output ≡ oldest_of (halves p).output
-    → ((with_half halves p half c).place ≡ (halves c).place) × (oldest_of (with_half halves p half c).output ≡ oldest_of (halves c).output)
-half_stays halves p half c place oldest = elim (same_port c p) as (λ x. same_port c p ≡ x → ((if x then half else halves c).place ≡ (halves c).place) × (oldest_of (if x then half else halves c).output ≡ oldest_of (halves c).output)) [
-  | true ↦ λ (is : same_port c p ≡ true). (place ∙ ap (λ x. (halves x).place) (sym (port_is c p is)), oldest ∙ ap (λ x. oldest_of (halves x).output) (sym (port_is c p is)))
-  | false ↦ λ (is : same_port c p ≡ false). (refl, refl)
-] refl
-
-restart_oldest : (b : Bool) (w : Outstanding) → oldest_of (if b then out.Output.Ok (from_ack w.oldest) else out.Output.RetryStopped w) ≡ w.oldest
-restart_oldest true w = refl
-restart_oldest false w = refl
-
-request_oldest : (b asked : Bool) (w : Outstanding) → oldest_of (if b then out.Output.ErrorStopped true w else out.Output.ErrorStopped asked w) ≡ w.oldest
-request_oldest true asked w = refl
-request_oldest false asked w = refl
-
-event_oldest : (e : Event) (output : out.Output) → oldest_of (event_leaves e output) ≡ oldest_of output
-event_oldest (Ctl symbol) (out.Output.Ok w) = refl
-event_oldest (Ctl symbol) (out.Output.RetryStopped w) = restart_oldest (symbol.s1 == RESTART_FROM_RETRY) w
-event_oldest (Ctl symbol) (out.Output.ErrorStopped asked w) = request_oldest (symbol.s1 == LINK_REQUEST) asked w
-event_oldest (Ctl symbol) out.Output.Failed = refl
-event_oldest (Pkt ack packet) (out.Output.Ok w) = refl
-event_oldest (Pkt ack packet) (out.Output.RetryStopped w) = refl
-event_oldest (Pkt ack packet) (out.Output.ErrorStopped asked w) = refl
-event_oldest (Pkt ack packet) out.Output.Failed = refl
-event_oldest (Bad cause) output = refl
-
-sends_oldest : (es : List Event) (output : out.Output) → oldest_of (sends output es) ≡ oldest_of output
-unfolding sends
-sends_oldest [] output = refl
-sends_oldest (e ∷ es) output = sends_oldest es (event_leaves e output) ∙ event_oldest e output
-
-time_out_oldest : (output : out.Output) → oldest_of (out.times_out output) ≡ oldest_of output
-time_out_oldest (out.Output.Ok w) = refl
-time_out_oldest (out.Output.RetryStopped w) = refl
-time_out_oldest (out.Output.ErrorStopped asked w) = refl
-time_out_oldest out.Output.Failed = refl
-
-edited_stays : (s : Seen) (edit : Option (PortRef × Edit)) (c : PortRef) → StaysFreed s (edited_by s edit) c
-edited_stays s None c = stays_here s c
-edited_stays s (Some edit) c = record { place = refl; oldest = refl; unfaithful = refl }
-
-fired_stays : (s : Seen) (peer : Option PortRef) (p c : PortRef) → StaysFreed s (fired_from s peer p) c
-fired_stays s None p c = stays_here s c
-fired_stays s (Some q) p c =
-    let both = half_stays s.halves p (half_of (timed_out (port_at s p))) c refl (time_out_oldest (s.halves p).output) in
-    record { place = both.0; oldest = both.1; unfaithful = refl }
-
-sent_stays : (s : Seen) (p : PortRef) (chars : List Char) (c : PortRef) → StaysFreed s (signed s (Sent p chars)) c
-sent_stays s p chars c =
-    let both = half_stays s.halves p (half_sent (s.halves p) chars) c refl (sends_oldest (says chars) (s.halves p).output) in
-    record { place = both.0; oldest = both.1; unfaithful = refl }
-
-one_freed : (before : List TraceLine) (s t : Seen) (line : TraceLine) (c : PortRef) → ((known : Gotten) → gets c known line ≡ known) → frees_by c line ≡ 0 → ((known : Gotten) (j : ℕ) → FreeSaid c known j line)
-    → StaysFreed s t c → IsFreed before s c → IsFreed (before ++ line ∷ []) t c
-one_freed before s t line c same none said stays h =
-    let got : gets_all c nothing_got (before ++ line ∷ []) ≡ gets_all c nothing_got before = gets-append c nothing_got before (line ∷ []) ∙ same (gets_all c nothing_got before) in
-    let frees : frees_all c (before ++ line ∷ []) ≡ frees_all c before = (let all = frees-append c before (line ∷ []) in omega (arith, all, none)) in
-    record {
-      said = said-join c before (line ∷ []) nothing_got 0 h.said (said (gets_all c nothing_got before) (0 + frees_all c before), tt);
-      place = λ still. stays.place ∙ h.place (sym stays.unfaithful ∙ still) ∙ ap (λ (g : Gotten). place_after start (all_got g)) (sym got);
-      oldest = λ still. stays.oldest ∙ h.oldest (sym stays.unfaithful ∙ still) ∙ ap (λ k. k % 32) (sym frees);
-    }
-
-still_more : (x : TraceLine) (xs before : List TraceLine) (t : Seen) (c : PortRef) → IsFreed ((before ++ x ∷ []) ++ xs) t c → IsFreed (before ++ x ∷ xs) t c
-still_more x xs before t c h = subst (λ (l : List TraceLine). IsFreed l t c) (append_assoc before (x ∷ []) xs) h
-
-still_freed : (lines before : List TraceLine) (s : Seen) (c : PortRef) → AreStill lines → IsFreed before s c → IsFreed (before ++ lines) (seen s lines) c
-unfolding AreStill
-still_freed [] before s c still h = subst (λ (l : List TraceLine). IsFreed l s c) (sym (append-nil before)) h
-still_freed (Begun line ∷ lines) before s c still h =
-    still_more _ lines before _ c (still_freed lines (before ++ Begun line ∷ []) _ c still (one_freed before s _ (Begun line) c (λ k. refl) refl (λ k j. tt) (edited_stays s (edit_of line) c) h))
-still_freed (Stepped (Linked step) ∷ lines) before s c still h = absurd still
-still_freed (Stepped (AtNode step) ∷ lines) before s c still h =
-    still_more _ lines before _ c (still_freed lines (before ++ Stepped (AtNode step) ∷ []) _ c still (one_freed before s _ (Stepped (AtNode step)) c (λ k. refl) refl (λ k j. tt) (record { place = refl; oldest = refl; unfaithful = refl }) h))
-still_freed (Stepped (ByDevice step) ∷ lines) before s c still h =
-    still_more _ lines before _ c (still_freed lines (before ++ Stepped (ByDevice step) ∷ []) _ c still (one_freed before s _ (Stepped (ByDevice step)) c (λ k. refl) refl (λ k j. tt) (record { place = refl; oldest = refl; unfaithful = refl }) h))
-still_freed (Signed (Sent p chars) ∷ lines) before s c still h =
-    still_more _ lines before _ c (still_freed lines (before ++ Signed (Sent p chars) ∷ []) _ c still (one_freed before s _ (Signed (Sent p chars)) c (λ k. refl) refl (λ k j. tt) (sent_stays s p chars c) h))
-still_freed (Signed (Got q chars) ∷ lines) before s c still h = absurd still
-still_freed (Signed (Fired p) ∷ lines) before s c still h =
-    still_more _ lines before _ c (still_freed lines (before ++ Signed (Fired p) ∷ []) _ c still (one_freed before s _ (Signed (Fired p)) c (λ k. refl) refl (λ k j. tt) (fired_stays s (peer_of s p) p c) h))
-still_freed (Lacked lack ∷ lines) before s c still h =
-    still_more _ lines before _ c (still_freed lines (before ++ Lacked lack ∷ []) s c still (one_freed before s s (Lacked lack) c (λ k. refl) refl (λ k j. tt) (stays_here s c) h))
-still_freed (Ended ∷ lines) before s c still h =
-    still_more _ lines before _ c (still_freed lines (before ++ Ended ∷ []) s c still (one_freed before s s Ended c (λ k. refl) refl (λ k j. tt) (stays_here s c) h))
-still_freed (Undetected number q e ∷ lines) before s c still h =
-    still_more _ lines before _ c (still_freed lines (before ++ Undetected number q e ∷ []) s c still (one_freed before s s (Undetected number q e) c (λ k. refl) refl (λ k j. tt) (stays_here s c) h))
-
-sent_still : (a b : PortRef) (side : Side) (chars : List Char) → AreStill (lines_of a b (sent_notes side chars))
-unfolding AreStill
-sent_still a b side [] = tt
-sent_still a b side (c ∷ chars) = tt
-
-fired_still : (a b : PortRef) (x : Bool) → AreStill (lines_of a b (if x then Notes.Fire A ∷ [] else []))
-unfolding AreStill
-fired_still a b true = tt
-fired_still a b false = tt
+use Rattle.fabric_trace.proofs.FreesStill.{gets_all, gets-append, frees-append, said-join, all_got, IsFreed, AreStill, still_freed, sent_still, fired_still}
+pub use Rattle.fabric_trace.proofs.FreesStill.{frees_all}
 
 -- ---- a delivery
 
 abbrev one_if : Bool → ℕ
 one_if own = if own then 1 else 0
 
-moves_kept : (c a b : PortRef) (side : Side) (moves : List Move) (known : Gotten) → gets_all c known (lines_of a b (map (move_note side) moves)) ≡ known
+moves_kept : (c a b : PortRef) (side : Side) (moves : List Move) (known : Gotten)
+    → gets_all c known (lines_of a b (map (move_note side) moves)) ≡ known
 moves_kept c a b side [] known = refl
 moves_kept c a b side (Held packet ∷ moves) known = moves_kept c a b side moves known
 moves_kept c a b side (Freed packet ∷ moves) known = moves_kept c a b side moves known
 
-moves_own : (a b : PortRef) (side : Side) (moves : List Move) → frees_all (port_at_side a b side) (lines_of a b (map (move_note side) moves)) ≡ freed_count moves
+moves_own : (a b : PortRef) (side : Side) (moves : List Move)
+    → frees_all (port_at_side a b side) (lines_of a b (map (move_note side) moves))
+    ≡ freed_count moves
 moves_own a b side [] = refl
-moves_own a b side (Held packet ∷ moves) = let more = moves_own a b side moves in omega (arith, more)
+moves_own a b side (Held packet ∷ moves) = let more =
+    moves_own a b side moves in omega (arith, more)
 moves_own a b side (Freed packet ∷ moves) =
     let more = moves_own a b side moves in
-    let one : one_if (same_port (port_at_side a b side) (port_at_side a b side)) ≡ 1 = ap one_if (same_port-refl (port_at_side a b side)) in
+    let one : one_if (same_port (port_at_side a b side) (port_at_side a b side)) ≡ 1 =
+    ap one_if (same_port-refl (port_at_side a b side)) in
     omega (arith, more, one)
 
-moves_other : (c a b : PortRef) (side : Side) (moves : List Move) → same_port c (port_at_side a b side) ≡ false → frees_all c (lines_of a b (map (move_note side) moves)) ≡ 0
+moves_other : (c a b : PortRef) (side : Side) (moves : List Move)
+    → same_port c (port_at_side a b side) ≡ false
+    → frees_all c (lines_of a b (map (move_note side) moves)) ≡ 0
 moves_other c a b side [] apart = refl
-moves_other c a b side (Held packet ∷ moves) apart = let more = moves_other c a b side moves apart in omega (arith, more)
+moves_other c a b side (Held packet ∷ moves) apart = let more =
+    moves_other c a b side moves apart in omega (arith, more)
 moves_other c a b side (Freed packet ∷ moves) apart =
     let more = moves_other c a b side moves apart in
     let one : one_if (same_port c (port_at_side a b side)) ≡ 0 = ap one_if apart in
     omega (arith, more, one)
 
 -- the frees of moves are said, if each is
-moves_said : (a b : PortRef) (side : Side) (moves : List Move) (known : Gotten) (j : ℕ) → ((i : ℕ) → i < freed_count moves → IsSaid (j + i) (completed known))
+moves_said : (a b : PortRef) (side : Side) (moves : List Move) (known : Gotten) (j : ℕ)
+    → ((i : ℕ) → i < freed_count moves → IsSaid (j + i) (completed known))
     → FreesSaid (port_at_side a b side) known j (lines_of a b (map (move_note side) moves))
 moves_said a b side [] known j said = tt
 moves_said a b side (Held packet ∷ moves) known j said =
-    let same : j ≡ j + 0 = omega arith in
-    (tt, subst (λ k. FreesSaid (port_at_side a b side) known k (lines_of a b (map (move_note side) moves))) same (moves_said a b side moves known j said))
+    let same : j ≡ j + 0 = omega arith in (
+      tt,
+      subst (λ k. FreesSaid (port_at_side a b side) known k
+          (lines_of a b (map (move_note side) moves))) same
+          (moves_said a b side moves known j said),
+    )
 moves_said a b side (Freed packet ∷ moves) known j said =
     let first : j + 0 ≡ j = omega arith in
-    let one : one_if (same_port (port_at_side a b side) (port_at_side a b side)) ≡ 1 = ap one_if (same_port-refl (port_at_side a b side)) in
-    let next : suc j ≡ j + one_if (same_port (port_at_side a b side) (port_at_side a b side)) = omega (arith, one) in (
+    let one : one_if (same_port (port_at_side a b side) (port_at_side a b side)) ≡ 1 =
+    ap one_if (same_port-refl (port_at_side a b side)) in
+    let next : suc j ≡ j + one_if (same_port (port_at_side a b side) (port_at_side a b side)) =
+    omega (arith, one) in (
       λ own. subst (λ k. IsSaid k (completed known)) first (said 0 (omega arith)),
-      subst (λ k. FreesSaid (port_at_side a b side) known k (lines_of a b (map (move_note side) moves))) next
-          (moves_said a b side moves known (suc j) (λ i few. (let number : j + suc i ≡ suc j + i = omega arith in subst (λ k. IsSaid k (completed known)) number (said (suc i) (omega (arith, few)))))),
+      subst (λ k. FreesSaid (port_at_side a b side) known k
+          (lines_of a b (map (move_note side) moves))) next
+          (moves_said a b side moves known (suc j)
+          (λ i few. (let number : j + suc i ≡ suc j + i = omega arith in subst
+          (λ k. IsSaid k (completed known)) number (said (suc i) (omega (arith, few)))))),
     )
 
-moves_quiet : (c a b : PortRef) (side : Side) (moves : List Move) (known : Gotten) (j : ℕ) → same_port c (port_at_side a b side) ≡ false → FreesSaid c known j (lines_of a b (map (move_note side) moves))
+moves_quiet : (c a b : PortRef) (side : Side) (moves : List Move) (known : Gotten) (j : ℕ)
+    → same_port c (port_at_side a b side) ≡ false
+    → FreesSaid c known j (lines_of a b (map (move_note side) moves))
 moves_quiet c a b side [] known j apart = tt
-moves_quiet c a b side (Held packet ∷ moves) known j apart = (tt, moves_quiet c a b side moves known (j + 0) apart)
-moves_quiet c a b side (Freed packet ∷ moves) known j apart =
-    (λ own. absurd (cc (own, apart)), moves_quiet c a b side moves known (j + one_if (same_port c (port_at_side a b side))) apart)
+moves_quiet c a b side (Held packet ∷ moves) known j apart =
+    (tt, moves_quiet c a b side moves known (j + 0) apart)
+moves_quiet c a b side (Freed packet ∷ moves) known j apart = (
+  λ own. absurd (cc (own, apart)),
+  moves_quiet c a b side moves known
+      (j + one_if (same_port c (port_at_side a b side))) apart,
+)
 
 abbrev got_lines : PortRef → PortRef → List Char → List Move → List TraceLine
 got_lines p q chars moves = Signed (Got q chars) ∷ lines_of p q (map (move_note B) moves)
 
 -- the port that got the characters, by what came of them
-own_freed : (before : List TraceLine) (s t : Seen) (p q : PortRef) (kept : List Event) (chars : List Char) (d : Delivered) → s.unfaithful ≡ None → delivered (port_at s q) kept chars ≡ d
-    → HaveFreed (frees_all q before) (said (s.halves q).place chars) d → t.halves q ≡ half_after (s.halves q) d → t.unfaithful ≡ found_at q (undetected d)
+own_freed : (before : List TraceLine) (s t : Seen) (p q : PortRef) (kept : List Event)
+    (chars : List Char) (d : Delivered) → s.unfaithful ≡ None
+    → delivered (port_at s q) kept chars ≡ d
+    → HaveFreed (frees_all q before) (said (s.halves q).place chars) d
+    → t.halves q ≡ half_after (s.halves q) d → t.unfaithful ≡ found_at q (undetected d)
     → IsFreed before s q → IsFreed (before ++ got_lines p q chars (told_of d).moves) t q
 own_freed before s t p q kept chars d none is freed half found h = by_end d is freed half found
   where
-    next : (moves : List Move) → gets_all q (gets_all q nothing_got before) (got_lines p q chars moves) ≡ record { before = all_got (gets_all q nothing_got before); last = chars }
+    next : (moves : List Move)
+        → gets_all q (gets_all q nothing_got before) (got_lines p q chars moves) ≡ record {
+          before = all_got (gets_all q nothing_got before);
+          last = chars;
+        }
     next moves =
         moves_kept q p q B moves (gets q (gets_all q nothing_got before) (Signed (Got q chars)))
-        ∙ ap (λ x. if x then record { before = all_got (gets_all q nothing_got before); last = chars } else gets_all q nothing_got before) (same_port-refl q)
+        ∙ ap (λ x. if x then record {
+          before = all_got (gets_all q nothing_got before);
+          last = chars;
+        } else gets_all q nothing_got before) (same_port-refl q)
 
-    gotten : (moves : List Move) → gets_all q nothing_got (before ++ got_lines p q chars moves) ≡ record { before = all_got (gets_all q nothing_got before); last = chars }
+    gotten : (moves : List Move)
+        → gets_all q nothing_got (before ++ got_lines p q chars moves) ≡ record {
+          before = all_got (gets_all q nothing_got before);
+          last = chars;
+        }
     gotten moves = gets-append q nothing_got before (got_lines p q chars moves) ∙ next moves
 
-    count : (moves : List Move) → frees_all q (before ++ got_lines p q chars moves) ≡ frees_all q before + freed_count moves
-    count moves = let all = frees-append q before (got_lines p q chars moves) in let own = moves_own p q B moves in omega (arith, all, own)
+    count : (moves : List Move)
+        → frees_all q (before ++ got_lines p q chars moves) ≡ frees_all q before + freed_count moves
+    count moves = let all = frees-append q before (got_lines p q chars moves) in let own =
+        moves_own p q B moves in omega (arith, all, own)
 
-    all_said : (moves : List Move) → ((i : ℕ) → i < freed_count moves → IsSaid (frees_all q before + i) (said (s.halves q).place chars)) → FreesSaid q nothing_got 0 (before ++ got_lines p q chars moves)
+    all_said : (moves : List Move)
+        → ((i : ℕ) → i < freed_count moves
+        → IsSaid (frees_all q before + i) (said (s.halves q).place chars))
+        → FreesSaid q nothing_got 0 (before ++ got_lines p q chars moves)
     all_said moves each =
-        let last : Gotten = record { before = all_got (gets_all q nothing_got before); last = chars } in
-        let here : completed last ≡ said (s.halves q).place chars = ap (λ (x : Place). said x chars) (sym (h.place none)) in
-        let one : gets q (gets_all q nothing_got before) (Signed (Got q chars)) ≡ last = ap (λ x. if x then last else gets_all q nothing_got before) (same_port-refl q) in
+        let last : Gotten =
+        record { before = all_got (gets_all q nothing_got before); last = chars } in
+        let here : completed last ≡ said (s.halves q).place chars =
+        ap (λ (x : Place). said x chars) (sym (h.place none)) in
+        let one : gets q (gets_all q nothing_got before) (Signed (Got q chars)) ≡ last =
+        ap (λ x. if x then last else gets_all q nothing_got before) (same_port-refl q) in
         let number : frees_all q before ≡ (0 + frees_all q before) + 0 = omega arith in
         said-join q before (got_lines p q chars moves) nothing_got 0 h.said (
           tt,
-          subst (λ (g : Gotten). FreesSaid q g ((0 + frees_all q before) + 0) (lines_of p q (map (move_note B) moves))) (sym one)
+          subst (λ (g : Gotten). FreesSaid q g ((0 + frees_all q before) + 0)
+              (lines_of p q (map (move_note B) moves))) (sym one)
               (subst (λ k. FreesSaid q last k (lines_of p q (map (move_note B) moves))) number
-              (moves_said p q B moves last (frees_all q before) (λ i few. subst (IsSaid (frees_all q before + i)) (sym here) (each i few)))),
+              (moves_said p q B moves last (frees_all q before)
+              (λ i few. subst (IsSaid (frees_all q before + i)) (sym here) (each i few)))),
         )
 
-    by_end : (d : Delivered) → delivered (port_at s q) kept chars ≡ d → HaveFreed (frees_all q before) (said (s.halves q).place chars) d → t.halves q ≡ half_after (s.halves q) d
-        → t.unfaithful ≡ found_at q (undetected d) → IsFreed (before ++ got_lines p q chars (told_of d).moves) t q
+    by_end : (d : Delivered) → delivered (port_at s q) kept chars ≡ d
+        → HaveFreed (frees_all q before) (said (s.halves q).place chars) d
+        → t.halves q ≡ half_after (s.halves q) d
+        → t.unfaithful ≡ found_at q (undetected d)
+        → IsFreed (before ++ got_lines p q chars (told_of d).moves) t q
     by_end (Through flow) is freed half found =
         let place = through_place (port_at s q) kept chars flow is in
         record {
           said = all_said flow.told.moves freed.all;
-          place = λ still. ap (λ (x : Half). x.place) half ∙ place ∙ ap (λ (x : Place). place_after x chars) (h.place none) ∙ sym (place_after-append start (all_got (gets_all q nothing_got before)) chars)
+          place = λ still. ap (λ (x : Half). x.place) half ∙ place
+              ∙ ap (λ (x : Place). place_after x chars) (h.place none)
+              ∙ sym (place_after-append start (all_got (gets_all q nothing_got before)) chars)
               ∙ ap (λ (g : Gotten). place_after start (all_got g)) (sym (gotten flow.told.moves));
-          oldest = λ still. ap (λ (x : Half). oldest_of x.output) half ∙ freed.oldest ∙ ap (λ k. k % 32) (sym (count flow.told.moves));
+          oldest = λ still. ap (λ (x : Half). oldest_of x.output) half ∙ freed.oldest
+              ∙ ap (λ k. k % 32) (sym (count flow.told.moves));
         }
     by_end (Unsent told e) is freed half found = record {
       said = all_said told.moves freed;
@@ -288,85 +189,166 @@ own_freed before s t p q kept chars d none is freed half found h = by_end d is f
     }
 
 -- a port that got nothing
-other_freed : (before : List TraceLine) (s t : Seen) (p q c : PortRef) (chars : List Char) (moves : List Move) → s.unfaithful ≡ None → same_port c q ≡ false → t.halves c ≡ s.halves c
+other_freed : (before : List TraceLine) (s t : Seen) (p q c : PortRef) (chars : List Char)
+    (moves : List Move) → s.unfaithful ≡ None → same_port c q ≡ false → t.halves c ≡ s.halves c
     → IsFreed before s c → IsFreed (before ++ got_lines p q chars moves) t c
 other_freed before s t p q c chars moves none apart half h =
     let known = gets_all c nothing_got before in
-    let one : gets c known (Signed (Got q chars)) ≡ known = ap (λ x. if x then record { before = all_got known; last = chars } else known) apart in
-    let got : gets_all c nothing_got (before ++ got_lines p q chars moves) ≡ known = gets-append c nothing_got before (got_lines p q chars moves) ∙ moves_kept c p q B moves (gets c known (Signed (Got q chars))) ∙ one in
-    let frees : frees_all c (before ++ got_lines p q chars moves) ≡ frees_all c before = (let all = frees-append c before (got_lines p q chars moves) in let none_freed = moves_other c p q B moves apart in omega (arith, all, none_freed)) in
+    let one : gets c known (Signed (Got q chars)) ≡ known =
+    ap (λ x. if x then record { before = all_got known; last = chars } else known) apart in
+    let got : gets_all c nothing_got (before ++ got_lines p q chars moves) ≡ known =
+    gets-append c nothing_got before (got_lines p q chars moves)
+    ∙ moves_kept c p q B moves (gets c known (Signed (Got q chars))) ∙ one in
+    let frees : frees_all c (before ++ got_lines p q chars moves) ≡ frees_all c before =
+    (let all = frees-append c before (got_lines p q chars moves) in let none_freed =
+    moves_other c p q B moves apart in omega (arith, all, none_freed)) in
     record {
-      said = said-join c before (got_lines p q chars moves) nothing_got 0 h.said (tt, moves_quiet c p q B moves (gets c known (Signed (Got q chars))) ((0 + frees_all c before) + 0) apart);
-      place = λ still. ap (λ (x : Half). x.place) half ∙ h.place none ∙ ap (λ (g : Gotten). place_after start (all_got g)) (sym got);
-      oldest = λ still. ap (λ (x : Half). oldest_of x.output) half ∙ h.oldest none ∙ ap (λ k. k % 32) (sym frees);
+      said = said-join c before (got_lines p q chars moves) nothing_got 0 h.said (
+        tt,
+        moves_quiet c p q B moves (gets c known (Signed (Got q chars)))
+            ((0 + frees_all c before) + 0) apart,
+      );
+      place = λ still. ap (λ (x : Half). x.place) half ∙ h.place none
+          ∙ ap (λ (g : Gotten). place_after start (all_got g)) (sym got);
+      oldest = λ still. ap (λ (x : Half). oldest_of x.output) half ∙ h.oldest none
+          ∙ ap (λ k. k % 32) (sym frees);
     }
 
-got_freed : (before : List TraceLine) (s : Seen) (p q c : PortRef) (chars : List Char) (d : Delivered) → peer_of s q ≡ Some p → s.unfaithful ≡ None → IsLink s p q → taken_from s p q chars ≡ d
-    → IsFreed before s c → IsFreed (before ++ got_lines p q chars (told_of d).moves) (seen s (got_lines p q chars (told_of d).moves)) c
+got_freed : (before : List TraceLine) (s : Seen) (p q c : PortRef) (chars : List Char)
+    (d : Delivered) → peer_of s q ≡ Some p → s.unfaithful ≡ None → IsLink s p q
+    → taken_from s p q chars ≡ d
+    → IsFreed before s c → IsFreed (before ++ got_lines p q chars (told_of d).moves)
+    (seen s (got_lines p q chars (told_of d).moves)) c
 got_freed before s p q c chars d back none link is h = by_port (same_port c q) refl
   where
-    there : seen s (got_lines p q chars (told_of d).moves) ≡ record (got_from s (Some p) q chars) { network = after_all s.network (net_steps p q (queues.steps_at B (told_of d).moves)) }
-    there = ap (λ o. seen (got_from s o q chars) (lines_of p q (map (move_note B) (told_of d).moves))) back ∙ moves_seen (got_from s (Some p) q chars) p q B (told_of d).moves
+    there : seen s (got_lines p q chars (told_of d).moves)
+        ≡ record (got_from s (Some p) q chars) {
+          network = after_all s.network (net_steps p q (queues.steps_at B (told_of d).moves));
+        }
+    there = ap (λ o. seen (got_from s o q chars)
+        (lines_of p q (map (move_note B) (told_of d).moves))) back
+        ∙ moves_seen (got_from s (Some p) q chars) p q B (told_of d).moves
 
-    by_port : (x : Bool) → same_port c q ≡ x → IsFreed (before ++ got_lines p q chars (told_of d).moves) (seen s (got_lines p q chars (told_of d).moves)) c
+    by_port : (x : Bool) → same_port c q ≡ x
+        → IsFreed (before ++ got_lines p q chars (told_of d).moves)
+        (seen s (got_lines p q chars (told_of d).moves)) c
     by_port true same =
         let lines = got_lines p q chars (told_of d).moves in
         let one : c ≡ q = port_is c q same in
         let own = subst (IsFreed before s) one h in
-        let half : (seen s lines).halves q ≡ half_after (s.halves q) d = ap (λ (x : Seen). x.halves q) there ∙ half_own s.halves q (half_after (s.halves q) (taken_from s p q chars)) ∙ ap (half_after (s.halves q)) is in
-        let found : (seen s lines).unfaithful ≡ found_at q (undetected d) = ap (λ (x : Seen). x.unfaithful) there ∙ ap (λ (x : Delivered). found_at q (undetected x)) is in
+        let half : (seen s lines).halves q ≡ half_after (s.halves q) d =
+        ap (λ (x : Seen). x.halves q) there
+        ∙ half_own s.halves q (half_after (s.halves q) (taken_from s p q chars))
+        ∙ ap (half_after (s.halves q)) is in
+        let found : (seen s lines).unfaithful ≡ found_at q (undetected d) =
+        ap (λ (x : Seen). x.unfaithful) there
+        ∙ ap (λ (x : Delivered). found_at q (undetected x)) is in
         let frees = subst (HaveFreed (frees_all q before) (said (s.halves q).place chars)) is
-        (delivered_frees (frees_all q before) (port_at s q) (port_at s p) (kept_of (s.wires q)) (kept_of (s.wires p)) chars link.sound.port_b link.sound.port_a
-        (exchanged (port_at s p) (port_at s q) (kept_of (s.wires p)) (kept_of (s.wires q)) link.sound.sound) (own.oldest none)) in
-        subst (λ x. IsFreed (before ++ lines) (seen s lines) x) (sym one) (own_freed before s (seen s lines) p q (kept_of (s.wires p)) chars d none is frees half found own)
+        (delivered_frees (frees_all q before) (port_at s q) (port_at s p) (kept_of (s.wires q))
+        (kept_of (s.wires p)) chars link.sound.port_b link.sound.port_a
+        (exchanged (port_at s p) (port_at s q) (kept_of (s.wires p)) (kept_of (s.wires q))
+        link.sound.sound) (own.oldest none)) in
+        subst (λ x. IsFreed (before ++ lines) (seen s lines) x) (sym one)
+        (own_freed before s (seen s lines) p q (kept_of (s.wires p)) chars d none is frees half
+        found own)
     by_port false apart =
         let lines = got_lines p q chars (told_of d).moves in
-        let half : (seen s lines).halves c ≡ s.halves c = ap (λ (x : Seen). x.halves c) there ∙ half_other s.halves q (half_after (s.halves q) (taken_from s p q chars)) c apart in
+        let half : (seen s lines).halves c ≡ s.halves c =
+        ap (λ (x : Seen). x.halves c) there
+        ∙ half_other s.halves q (half_after (s.halves q) (taken_from s p q chars)) c apart in
         other_freed before s (seen s lines) p q c chars (told_of d).moves none apart half h
 
-delivery_freed : (before : List TraceLine) (s : Seen) (p q c : PortRef) (n : ℕ) → peer_of s q ≡ Some p → s.unfaithful ≡ None → IsLink s p q → has_chars A n (link_at s p q) ≡ true
-    → IsFreed before s c → IsFreed (before ++ lines_of p q (delivery_notes A n (link_at s p q))) (seen s (lines_of p q (delivery_notes A n (link_at s p q)))) c
+delivery_freed : (before : List TraceLine) (s : Seen) (p q c : PortRef) (n : ℕ)
+    → peer_of s q ≡ Some p → s.unfaithful ≡ None → IsLink s p q
+    → has_chars A n (link_at s p q) ≡ true
+    → IsFreed before s c → IsFreed (before ++ lines_of p q (delivery_notes A n (link_at s p q)))
+    (seen s (lines_of p q (delivery_notes A n (link_at s p q)))) c
 delivery_freed before s p q c n back none link has h =
     let l = link_at s p q in
     let chars = take n (s.wires p).chars in
     let d = delivery_from A n l in
     let told = told_of d in
     let sent = (answers told.replies).chars in
-    let notes : delivery_notes A n l ≡ told_notes B chars told = ap (λ x. if x then told_notes B chars told else []) has in
+    let notes : delivery_notes A n l ≡ told_notes B chars told =
+    ap (λ x. if x then told_notes B chars told else []) has in
     let first = got_lines p q (take told.count chars) told.moves in
-    let lines : lines_of p q (told_notes B chars told) ≡ first ++ lines_of p q (sent_notes B sent) = ap (λ (x : List TraceLine). Signed (Got q (take told.count chars)) ∷ x) (lines-append p q (map (move_note B) told.moves) (sent_notes B sent)) in
-    let one = got_freed before s p q c (take told.count chars) d back none link (taken_again (port_at s q) (kept_of (s.wires p)) chars d refl) h in
-    let two = still_freed (lines_of p q (sent_notes B sent)) (before ++ first) (seen s first) c (sent_still p q B sent) one in
-    let all : IsFreed (before ++ (first ++ lines_of p q (sent_notes B sent))) (seen s (first ++ lines_of p q (sent_notes B sent))) c =
-    subst (λ (x : Seen). IsFreed (before ++ (first ++ lines_of p q (sent_notes B sent))) x c) (sym (seen-append s first (lines_of p q (sent_notes B sent))))
-    (subst (λ (x : List TraceLine). IsFreed x (seen (seen s first) (lines_of p q (sent_notes B sent))) c) (append_assoc before first (lines_of p q (sent_notes B sent))) two) in
-    subst (λ (x : List TraceLine). IsFreed (before ++ x) (seen s x) c) (sym (ap (lines_of p q) notes ∙ lines)) all
+    let lines : lines_of p q (told_notes B chars told) ≡ first ++ lines_of p q (sent_notes B sent) =
+    ap (λ (x : List TraceLine). Signed (Got q (take told.count chars)) ∷ x)
+    (lines-append p q (map (move_note B) told.moves) (sent_notes B sent)) in
+    let one =
+    got_freed before s p q c (take told.count chars) d back none link
+    (taken_again (port_at s q) (kept_of (s.wires p)) chars d refl) h in
+    let two =
+    still_freed (lines_of p q (sent_notes B sent)) (before ++ first) (seen s first) c
+    (sent_still p q B sent) one in
+    let all : IsFreed (before ++ (first ++ lines_of p q (sent_notes B sent)))
+    (seen s (first ++ lines_of p q (sent_notes B sent))) c =
+    subst (λ (x : Seen). IsFreed (before ++ (first ++ lines_of p q (sent_notes B sent))) x c)
+    (sym (seen-append s first (lines_of p q (sent_notes B sent))))
+    (subst (λ (x : List TraceLine). IsFreed x
+    (seen (seen s first) (lines_of p q (sent_notes B sent))) c)
+    (append_assoc before first (lines_of p q (sent_notes B sent))) two) in
+    subst (λ (x : List TraceLine). IsFreed (before ++ x) (seen s x) c)
+    (sym (ap (lines_of p q) notes ∙ lines)) all
 
 -- ---- parts
 
-part_freed : {s : Seen} {lines : List TraceLine} (before : List TraceLine) (c : PortRef) → IsGood s → Part s lines → IsFreed before s c → IsFreed (before ++ lines) (seen s lines) c
+part_freed : {s : Seen} {lines : List TraceLine} (before : List TraceLine) (c : PortRef) → IsGood s
+    → Part s lines → IsFreed before s c → IsFreed (before ++ lines) (seen s lines) c
 unfolding AreStill
-part_freed {s} before c good (Begins line is) h = subst (λ (x : List TraceLine). IsFreed (before ++ x) (seen s x) c) (sym is) (still_freed (Begun line ∷ []) before s c tt h)
-part_freed {s} before c good (Lacks lack is) h = subst (λ (x : List TraceLine). IsFreed (before ++ x) (seen s x) c) (sym is) (still_freed (Lacked lack ∷ []) before s c tt h)
-part_freed {s} before c good (Ends is) h = subst (λ (x : List TraceLine). IsFreed (before ++ x) (seen s x) c) (sym is) (still_freed (Ended ∷ []) before s c tt h)
-part_freed {s} before c good (Names number q e found is) h = subst (λ (x : List TraceLine). IsFreed (before ++ x) (seen s x) c) (sym is) (still_freed (Undetected number q e ∷ []) before s c tt h)
-part_freed {s} before c good (Steps step needs few is) h = subst (λ (x : List TraceLine). IsFreed (before ++ x) (seen s x) c) (sym is) (still_freed (Stepped (AtNode step) ∷ []) before s c tt h)
-part_freed {s} before c good (Serves step needs is) h = subst (λ (x : List TraceLine). IsFreed (before ++ x) (seen s x) c) (sym is) (still_freed (Stepped (ByDevice step) ∷ []) before s c tt h)
+part_freed {s} before c good (Begins line is) h =
+    subst (λ (x : List TraceLine). IsFreed (before ++ x) (seen s x) c) (sym is)
+    (still_freed (Begun line ∷ []) before s c tt h)
+part_freed {s} before c good (Lacks lack is) h =
+    subst (λ (x : List TraceLine). IsFreed (before ++ x) (seen s x) c) (sym is)
+    (still_freed (Lacked lack ∷ []) before s c tt h)
+part_freed {s} before c good (Ends is) h =
+    subst (λ (x : List TraceLine). IsFreed (before ++ x) (seen s x) c) (sym is)
+    (still_freed (Ended ∷ []) before s c tt h)
+part_freed {s} before c good (Names number q e found is) h =
+    subst (λ (x : List TraceLine). IsFreed (before ++ x) (seen s x) c) (sym is)
+    (still_freed (Undetected number q e ∷ []) before s c tt h)
+part_freed {s} before c good (Steps step needs few is) h =
+    subst (λ (x : List TraceLine). IsFreed (before ++ x) (seen s x) c) (sym is)
+    (still_freed (Stepped (AtNode step) ∷ []) before s c tt h)
+part_freed {s} before c good (Serves step needs is) h =
+    subst (λ (x : List TraceLine). IsFreed (before ++ x) (seen s x) c) (sym is)
+    (still_freed (Stepped (ByDevice step) ∷ []) before s c tt h)
 part_freed {s} before c good (Turns p q n peer none is) h =
-    subst (λ (x : List TraceLine). IsFreed (before ++ x) (seen s x) c) (sym is) (still_freed (lines_of p q (pump_notes A n (link_at s p q))) before s c (sent_still p q A (bursts n (link_at s p q).a).chars) h)
+    subst (λ (x : List TraceLine). IsFreed (before ++ x) (seen s x) c) (sym is)
+    (still_freed (lines_of p q (pump_notes A n (link_at s p q))) before s c
+    (sent_still p q A (bursts n (link_at s p q).a).chars) h)
+part_freed {s} before c good (Tells p q peer none is) h =
+    subst (λ (x : List TraceLine). IsFreed (before ++ x) (seen s x) c) (sym is)
+    (still_freed (lines_of p q (tell_notes A (link_at s p q))) before s c
+    (sent_still p q A (tell_sends (link_at s p q).a).chars) h)
 part_freed {s} before c good (Delivers p q n peer none has is) h =
-    subst (λ (x : List TraceLine). IsFreed (before ++ x) (seen s x) c) (sym is) (delivery_freed before s p q c n (good_peers p q good peer).back none (good.links none p q peer) has h)
+    subst (λ (x : List TraceLine). IsFreed (before ++ x) (seen s x) c) (sym is)
+    (delivery_freed before s p q c n (good_peers p q good peer).back none (good.links none p q peer)
+    has h)
 part_freed {s} before c good (Fires p q peer none silent is) h =
-    subst (λ (x : List TraceLine). IsFreed (before ++ x) (seen s x) c) (sym is) (still_freed (lines_of p q (time_out_notes A (link_at s p q))) before s c (fired_still p q (is_silent (link_at s p q))) h)
+    subst (λ (x : List TraceLine). IsFreed (before ++ x) (seen s x) c) (sym is)
+    (still_freed (lines_of p q (time_out_notes A (link_at s p q))) before s c
+    (fired_still p q (is_silent (link_at s p q))) h)
 
-pub made_freed : {s : Seen} {lines : List TraceLine} (before : List TraceLine) (c : PortRef) → IsGood s → Made s lines → IsFreed before s c → IsFreed (before ++ lines) (seen s lines) c
-made_freed {s} before c good (Done is) h = subst (λ (x : List TraceLine). IsFreed (before ++ x) (seen s x) c) (sym is) (subst (λ (x : List TraceLine). IsFreed x s c) (sym (append-nil before)) h)
+pub made_freed : {s : Seen} {lines : List TraceLine} (before : List TraceLine) (c : PortRef)
+    → IsGood s → Made s lines → IsFreed before s c → IsFreed (before ++ lines) (seen s lines) c
+made_freed {s} before c good (Done is) h =
+    subst (λ (x : List TraceLine). IsFreed (before ++ x) (seen s x) c) (sym is)
+    (subst (λ (x : List TraceLine). IsFreed x s c) (sym (append-nil before)) h)
 made_freed {s} before c good (Then first rest is own more) h =
     let one = part_freed before c good own h in
     let two = made_freed (before ++ first) c (part_keeps good own).good more one in
     subst (λ (x : List TraceLine). IsFreed (before ++ x) (seen s x) c) (sym is)
     (subst (λ (x : Seen). IsFreed (before ++ (first ++ rest)) x c) (sym (seen-append s first rest))
-    (subst (λ (x : List TraceLine). IsFreed x (seen (seen s first) rest) c) (append_assoc before first rest) two))
+    (subst (λ (x : List TraceLine). IsFreed x (seen (seen s first) rest) c)
+    (append_assoc before first rest) two))
 
-pub start_freed : (s : Seen) (c : PortRef) → (s.halves c).place ≡ start → oldest_of (s.halves c).output ≡ 0 → IsFreed [] s c
-start_freed s c place oldest = record { said = tt; place = λ none. place ∙ sym (place_after-none start); oldest = λ none. oldest }
+pub start_freed : (s : Seen) (c : PortRef) → (s.halves c).place ≡ start
+    → oldest_of (s.halves c).output ≡ 0 → IsFreed [] s c
+start_freed s c place oldest =
+    record {
+      said = tt;
+      place = λ none. place ∙ sym (place_after-none start);
+      oldest = λ none. oldest;
+    }

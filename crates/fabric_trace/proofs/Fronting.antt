@@ -18,24 +18,28 @@ use Rattle.fabric_trace.specs.Lines.{TraceLine, Begun, Stepped, Signed, Lacked, 
 use Rattle.fabric_trace.specs.Known.{Seen, link_at}
 use Rattle.fabric_trace.specs.Fold.{says, seen}
 use Rattle.fabric_trace.specs.Blocks.{lines_of}
-use Rattle.fabric_trace.specs.Parts.{Part, Begins, Lacks, Ends, Names, Steps, Serves, Turns, Delivers, Fires, Made, Done, Then}
+use Rattle.fabric_trace.specs.Parts.{Part, Begins, Lacks, Ends, Names, Steps, Serves, Turns, Tells, Delivers, Fires, Made, Done, Then}
 use Rattle.fabric_trace.specs.Wires.{WireChars, WireFold, on_wires}
 use Rattle.fabric_trace.specs.Holds.{got, holds, numbered, HoldsCame}
 use Rattle.fabric_trace.specs.Frees.{Gotten, FreesSaid, gets, frees_by}
 use Rattle.fabric_trace.proofs.Coming.{none_within, numbered-append}
 use Rattle.fabric_trace.proofs.Folding.{seen-append}
-use Rattle.fabric_trace.proofs.HoldsRead.{got-append, holds-append}
+use Rattle.fabric_trace.proofs.HoldsStill.{got-append, holds-append}
 use Rattle.fabric_trace.proofs.Making.{one_part, made-append}
+use Rattle.link_port.specs.Turns.{tell_sends}
 
 -- ---- laws that are read from the front
 
-pub fold_front : (xs ys : List TraceLine) (links : List (PortRef × PortRef)) (wires : WireChars) → WireFold links wires (xs ++ ys) → WireFold links wires xs
+pub fold_front : (xs ys : List TraceLine) (links : List (PortRef × PortRef)) (wires : WireChars)
+    → WireFold links wires (xs ++ ys) → WireFold links wires xs
 fold_front [] ys links wires h = tt
 fold_front (x ∷ xs) ys links wires h = (h.0, fold_front xs ys links (on_wires links wires x) h.1)
 
-pub frees_front : (p : PortRef) (known : Gotten) (j : ℕ) (xs ys : List TraceLine) → FreesSaid p known j (xs ++ ys) → FreesSaid p known j xs
+pub frees_front : (p : PortRef) (known : Gotten) (j : ℕ) (xs ys : List TraceLine)
+    → FreesSaid p known j (xs ++ ys) → FreesSaid p known j xs
 frees_front p known j [] ys h = tt
-frees_front p known j (x ∷ xs) ys h = (h.0, frees_front p (gets p known x) (j + frees_by p x) xs ys h.1)
+frees_front p known j (x ∷ xs) ys h =
+    (h.0, frees_front p (gets p known x) (j + frees_by p x) xs ys h.1)
 
 -- ---- where a front of lines that are made of parts ends: within a part, or behind one
 
@@ -44,7 +48,8 @@ data Cuts {A : Type 0} (xs ys us vs : List A) : Type 0 where
   Before : (more : List A) → us ≡ xs ++ more → ys ≡ more ++ vs → Cuts xs ys us vs
   Behind : (more : List A) → xs ≡ us ++ more → vs ≡ more ++ ys → Cuts xs ys us vs
 
-cuts_more : {A : Type 0} (x u : A) (xs ys us vs : List A) → x ≡ u → Cuts xs ys us vs → Cuts (x ∷ xs) ys (u ∷ us) vs
+cuts_more : {A : Type 0} (x u : A) (xs ys us vs : List A) → x ≡ u → Cuts xs ys us vs
+    → Cuts (x ∷ xs) ys (u ∷ us) vs
 cuts_more x u xs ys us vs same (Before more is rest) = Before more (cc (same, is)) rest
 cuts_more x u xs ys us vs same (Behind more is rest) = Behind more (cc (same, is)) rest
 
@@ -63,12 +68,14 @@ GotNone [] = Unit {0}
 GotNone (Signed (Got q chars) ∷ lines) = ⊥
 GotNone (line ∷ lines) = GotNone lines
 
-sent_none : (a b : PortRef) (side : Side) (chars : List Char) → GotNone (lines_of a b (sent_notes side chars))
+sent_none : (a b : PortRef) (side : Side) (chars : List Char)
+    → GotNone (lines_of a b (sent_notes side chars))
 unfolding GotNone
 sent_none a b side [] = tt
 sent_none a b side (c ∷ chars) = tt
 
-moves_none : (a b : PortRef) (side : Side) (moves : List Move) (chars : List Char) → GotNone (lines_of a b (map (move_note side) moves ++ sent_notes side chars))
+moves_none : (a b : PortRef) (side : Side) (moves : List Move) (chars : List Char)
+    → GotNone (lines_of a b (map (move_note side) moves ++ sent_notes side chars))
 unfolding GotNone
 moves_none a b side [] chars = sent_none a b side chars
 moves_none a b side (Held packet ∷ moves) chars = moves_none a b side moves chars
@@ -78,18 +85,22 @@ abbrev pub GetsFirst : List TraceLine → Type 0
 GetsFirst [] = Unit {0}
 GetsFirst (line ∷ lines) = GotNone lines
 
-sent_first : (a b : PortRef) (side : Side) (chars : List Char) → GetsFirst (lines_of a b (sent_notes side chars))
+sent_first : (a b : PortRef) (side : Side) (chars : List Char)
+    → GetsFirst (lines_of a b (sent_notes side chars))
 unfolding GotNone
 sent_first a b side [] = tt
 sent_first a b side (c ∷ chars) = tt
 
-fired_first : (a b : PortRef) (x : Bool) → GetsFirst (lines_of a b (if x then Notes.Fire A ∷ [] else []))
+fired_first : (a b : PortRef) (x : Bool)
+    → GetsFirst (lines_of a b (if x then Notes.Fire A ∷ [] else []))
 unfolding GotNone
 fired_first a b true = tt
 fired_first a b false = tt
 
 told_first : (s : Seen) (p q : PortRef) (n : ℕ) (x : Bool)
-    → GetsFirst (lines_of p q (if x then told_notes B (take n (s.wires p).chars) (told_of (delivery_from A n (link_at s p q))) else []))
+    → GetsFirst (lines_of p q
+    (if x then told_notes B (take n (s.wires p).chars)
+    (told_of (delivery_from A n (link_at s p q))) else []))
 unfolding GotNone
 told_first s p q n true =
     let told = told_of (delivery_from A n (link_at s p q)) in
@@ -104,9 +115,14 @@ gets_first {s} (Ends is) = subst GetsFirst (sym is) tt
 gets_first {s} (Names number q e found is) = subst GetsFirst (sym is) tt
 gets_first {s} (Steps step needs few is) = subst GetsFirst (sym is) tt
 gets_first {s} (Serves step needs is) = subst GetsFirst (sym is) tt
-gets_first {s} (Turns p q n peer none is) = subst GetsFirst (sym is) (sent_first p q A (bursts n (link_at s p q).a).chars)
-gets_first {s} (Delivers p q n peer none has is) = subst GetsFirst (sym is) (told_first s p q n (has_chars A n (link_at s p q)))
-gets_first {s} (Fires p q peer none silent is) = subst GetsFirst (sym is) (fired_first p q (is_silent (link_at s p q)))
+gets_first {s} (Turns p q n peer none is) =
+    subst GetsFirst (sym is) (sent_first p q A (bursts n (link_at s p q).a).chars)
+gets_first {s} (Tells p q peer none is) =
+    subst GetsFirst (sym is) (sent_first p q A (tell_sends (link_at s p q).a).chars)
+gets_first {s} (Delivers p q n peer none has is) =
+    subst GetsFirst (sym is) (told_first s p q n (has_chars A n (link_at s p q)))
+gets_first {s} (Fires p q peer none silent is) =
+    subst GetsFirst (sym is) (fired_first p q (is_silent (link_at s p q)))
 
 none_got : (q : PortRef) (lines : List TraceLine) → GotNone lines → got q lines ≡ []
 unfolding GotNone
@@ -144,18 +160,22 @@ pub record IsCut (s : Seen) (front : List TraceLine) : Type 0 where
   pub more : Made (seen s before) (beyond ++ behind)
   pub first : GetsFirst (beyond ++ behind)
 
-cut_behind : {s : Seen} {first more : List TraceLine} → Part s first → IsCut (seen s first) more → IsCut s (first ++ more)
+cut_behind : {s : Seen} {first more : List TraceLine} → Part s first → IsCut (seen s first) more
+    → IsCut s (first ++ more)
 cut_behind {s} {first} {more} own cut = record {
   before = first ++ cut.before;
   beyond = cut.beyond;
   behind = cut.behind;
-  is = ap (λ (l : List TraceLine). first ++ l) cut.is ∙ sym (append_assoc first cut.before cut.beyond);
+  is = ap (λ (l : List TraceLine). first ++ l) cut.is
+      ∙ sym (append_assoc first cut.before cut.beyond);
   made = Then first cut.before refl own cut.made;
-  more = subst (λ (x : Seen). Made x (cut.beyond ++ cut.behind)) (sym (seen-append s first cut.before)) cut.more;
+  more = subst (λ (x : Seen). Made x (cut.beyond ++ cut.behind))
+      (sym (seen-append s first cut.before)) cut.more;
   first = cut.first;
 }
 
-cut_within : {s : Seen} (front more first : List TraceLine) → first ≡ front ++ more → Part s first → IsCut s front
+cut_within : {s : Seen} (front more first : List TraceLine) → first ≡ front ++ more → Part s first
+    → IsCut s front
 cut_within {s} front more first is own = record {
   before = [];
   beyond = front;
@@ -167,48 +187,79 @@ cut_within {s} front more first is own = record {
 }
 
 cut_nowhere : (s : Seen) → IsCut s []
-cut_nowhere s = record { before = []; beyond = []; behind = []; is = refl; made = Done refl; more = Done refl; first = tt }
+cut_nowhere s =
+    record {
+      before = [];
+      beyond = [];
+      behind = [];
+      is = refl;
+      made = Done refl;
+      more = Done refl;
+      first = tt;
+    }
 
 nothing_cut : (front rest : List TraceLine) → [] ≡ front ++ rest → front ≡ []
 nothing_cut [] rest is = refl
 nothing_cut (x ∷ front) rest is = absurd cc
 
-pub cut : {s : Seen} {lines : List TraceLine} (front rest : List TraceLine) → lines ≡ front ++ rest → Made s lines → IsCut s front
-cut {s} front rest is (Done none) = subst (IsCut s) (sym (nothing_cut front rest (sym none ∙ is))) (cut_nowhere s)
-cut {s} front rest is (Then first more whole own made) = by_cuts (cuts front rest first more (sym is ∙ whole)) (λ extra same. cut extra rest same made)
+pub cut : {s : Seen} {lines : List TraceLine} (front rest : List TraceLine) → lines ≡ front ++ rest
+    → Made s lines → IsCut s front
+cut {s} front rest is (Done none) =
+    subst (IsCut s) (sym (nothing_cut front rest (sym none ∙ is))) (cut_nowhere s)
+cut {s} front rest is (Then first more whole own made) =
+    by_cuts (cuts front rest first more (sym is ∙ whole)) (λ extra same. cut extra rest same made)
   where
-    by_cuts : Cuts front rest first more → ((extra : List TraceLine) → more ≡ extra ++ rest → IsCut (seen s first) extra) → IsCut s front
+    by_cuts : Cuts front rest first more
+        → ((extra : List TraceLine) → more ≡ extra ++ rest → IsCut (seen s first) extra)
+        → IsCut s front
     by_cuts (Before extra same behind) later = cut_within front extra first same own
-    by_cuts (Behind extra same behind) later = subst (IsCut s) (sym same) (cut_behind own (later extra behind))
+    by_cuts (Behind extra same behind) later =
+        subst (IsCut s) (sym same) (cut_behind own (later extra behind))
 
 -- ---- holds
 
-within_front : {zs ys : List Event} (xs us : List Event) → zs ≡ xs ++ us → IsSubsequence zs ys → IsSubsequence xs ys
+within_front : {zs ys : List Event} (xs us : List Event) → zs ≡ xs ++ us → IsSubsequence zs ys
+    → IsSubsequence xs ys
 within_front {zs} {ys} [] us is within = none_within ys
 within_front (x ∷ xs) us is EndsWithin = absurd cc
 within_front (x ∷ xs) us is (Takes {acted} {sent} e rest) =
     let same : e ≡ x = cc in
     let tail : acted ≡ xs ++ us = cc in
-    subst (λ (y : Event). IsSubsequence (x ∷ xs) (y ∷ sent)) (sym same) (Takes x (within_front xs us tail rest))
+    subst (λ (y : Event). IsSubsequence (x ∷ xs) (y ∷ sent)) (sym same)
+    (Takes x (within_front xs us tail rest))
 within_front (x ∷ xs) us is (Skips y rest) = Skips y (within_front (x ∷ xs) us is rest)
 
-same_got : (q : PortRef) (beyond behind : List TraceLine) → GetsFirst (beyond ++ behind) → (beyond ≡ []) ⊎ (got q behind ≡ [])
+same_got : (q : PortRef) (beyond behind : List TraceLine) → GetsFirst (beyond ++ behind)
+    → (beyond ≡ []) ⊎ (got q behind ≡ [])
 same_got q [] behind first = inl refl
 same_got q (x ∷ beyond) behind first = inr (none_got q behind (none_behind beyond behind first))
 
-came_front : (q : PortRef) (front behind : List TraceLine) → got q behind ≡ [] → HoldsCame q (front ++ behind) → HoldsCame q front
+came_front : (q : PortRef) (front behind : List TraceLine) → got q behind ≡ []
+    → HoldsCame q (front ++ behind) → HoldsCame q front
 came_front q front behind none came =
-    let same : got q (front ++ behind) ≡ got q front = got-append q front behind ∙ ap (λ (l : List Char). got q front ++ l) none ∙ append-nil (got q front) in
-    let split : numbered 0 (holds q (front ++ behind)) ≡ numbered 0 (holds q front) ++ numbered (length (holds q front)) (holds q behind) =
-    ap (numbered 0) (holds-append q front behind) ∙ numbered-append 0 (length (holds q front)) (holds q front) (holds q behind) (omega arith) in
-    within_front (numbered 0 (holds q front)) _ split (subst (λ (l : List Char). IsSubsequence (numbered 0 (holds q (front ++ behind))) (says l)) same came)
+    let same : got q (front ++ behind) ≡ got q front =
+    got-append q front behind ∙ ap (λ (l : List Char). got q front ++ l) none
+    ∙ append-nil (got q front) in
+    let split : numbered 0 (holds q (front ++ behind)) ≡ numbered 0 (holds q front)
+    ++ numbered (length (holds q front)) (holds q behind) =
+    ap (numbered 0) (holds-append q front behind)
+    ∙ numbered-append 0 (length (holds q front)) (holds q front) (holds q behind) (omega arith) in
+    within_front (numbered 0 (holds q front)) _ split
+    (subst (λ (l : List Char). IsSubsequence (numbered 0 (holds q (front ++ behind))) (says l)) same
+    came)
 
 -- where what was made came, each front of it did
-pub cut_came : (q : PortRef) (s : Seen) (front : List TraceLine) → ((lines : List TraceLine) → Made s lines → HoldsCame q lines) → IsCut s front → HoldsCame q front
+pub cut_came : (q : PortRef) (s : Seen) (front : List TraceLine)
+    → ((lines : List TraceLine) → Made s lines → HoldsCame q lines) → IsCut s front
+    → HoldsCame q front
 cut_came q s front came cut = by_got (same_got q cut.beyond cut.behind cut.first)
   where
     by_got : (cut.beyond ≡ []) ⊎ (got q cut.behind ≡ []) → HoldsCame q front
-    by_got (inl none) = subst (HoldsCame q) (sym (cut.is ∙ ap (λ (l : List TraceLine). cut.before ++ l) none ∙ append-nil cut.before)) (came cut.before cut.made)
+    by_got (inl none) =
+        subst (HoldsCame q) (sym
+        (cut.is ∙ ap (λ (l : List TraceLine). cut.before ++ l) none ∙ append-nil cut.before))
+        (came cut.before cut.made)
     by_got (inr none) =
         subst (HoldsCame q) (sym cut.is) (came_front q (cut.before ++ cut.beyond) cut.behind none
-        (subst (HoldsCame q) (sym (append_assoc cut.before cut.beyond cut.behind)) (came _ (made-append cut.made cut.more))))
+        (subst (HoldsCame q) (sym (append_assoc cut.before cut.beyond cut.behind))
+        (came _ (made-append cut.made cut.more))))

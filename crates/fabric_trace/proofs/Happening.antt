@@ -1,4 +1,5 @@
--- What a script that passes gives: its lines of set-up may stand behind each other, and its events may happen.
+-- What a script that passes gives: its lines of set-up may stand behind each other, and its events
+-- may happen.
 use Rattle.std.proofs.Common.{◌≡◌, ℕ, ◌%◌, ◌<◌, ◌≤◌, zero, suc, nat_lt, nat_le, ◌==◌, Bool, true, false, not, ◌&&◌, ◌||◌, List, [], ◌∷◌, ◌++◌, Option, Some, None, map, get_or, length, length-append, All, is_some, refl, sym, ap, ◌∙◌, subst, arith, append-nil}
 use Rattle.std.proofs.lemmas.Bool.{and_parts, or_parts, eqb-true, true≢false, false≢true}
 use Rattle.std.proofs.lemmas.Bool.Decides.{nat_tests}
@@ -9,7 +10,7 @@ use Rattle.std.specs.List.{slice_get}
 use Rattle.rio_packets.specs.Making.{most_rest}
 use Rattle.fabric_script.specs.declared.ports.PortRef.{PortRef}
 use Rattle.fabric_script.specs.declared.lines.Line.{Line}
-use Rattle.fabric_script.specs.declared.lines.Line.TheVariants.{Endpoint, Switch, Link, Buffers, Route, Default, Lock, Large, Send, Read, Write, Pump, Deliver, Alter, Insert, Erase, Timeout, Settle, Move, Collect, Run, Send16, Read16, Write16}
+use Rattle.fabric_script.specs.declared.lines.Line.TheVariants.{Endpoint, Switch, Link, Buffers, Route, Default, Lock, Large, Send, Read, Write, Pump, Deliver, Alter, Insert, Erase, Timeout, Settle, Move, Collect, Run, Send16, Read16, Write16, Credits}
 use Rattle.fabric_script.specs.declared.lines.Numbered.{Numbered}
 use Rattle.fabric_script.specs.declared.reasons.Reason.TheVariants.{PortTaken, BadLength, WrongKind, OutOfPlace, NotLinked}
 use Rattle.fabric_script.specs.Lines.{is_event, new_name}
@@ -31,21 +32,28 @@ not_not false e = absurd (true≢false e)
 
 -- ---- links
 
-no_peer : (links : List (PortRef × PortRef)) (p : PortRef) → is_linked links p ≡ false → peer_in links p ≡ None
+no_peer : (links : List (PortRef × PortRef)) (p : PortRef) → is_linked links p ≡ false
+    → peer_in links p ≡ None
 no_peer [] p e = refl
 no_peer (link ∷ links) p e =
     let parts = or_parts (same_port link.0 p || same_port link.1 p) (is_linked links p) e in
     let ends = or_parts (same_port link.0 p) (same_port link.1 p) parts.0 in
     rw (ends.0, ends.1) (no_peer links p parts.1)
 
-a_peer : (links : List (PortRef × PortRef)) (p : PortRef) → is_linked links p ≡ true → is_some (peer_in links p) ≡ true
+a_peer : (links : List (PortRef × PortRef)) (p : PortRef) → is_linked links p ≡ true
+    → is_some (peer_in links p) ≡ true
 a_peer [] p e = absurd (false≢true e)
-a_peer (link ∷ links) p e = by_tests (same_port link.0 p) (same_port link.1 p) refl refl (a_peer links p)
+a_peer (link ∷ links) p e =
+    by_tests (same_port link.0 p) (same_port link.1 p) refl refl (a_peer links p)
   where
-    by_tests : (s t : Bool) → same_port link.0 p ≡ s → same_port link.1 p ≡ t → (is_linked links p ≡ true → is_some (peer_in links p) ≡ true) → is_some (peer_in (link ∷ links) p) ≡ true
+    by_tests : (s t : Bool) → same_port link.0 p ≡ s → same_port link.1 p ≡ t
+        → (is_linked links p ≡ true → is_some (peer_in links p) ≡ true)
+        → is_some (peer_in (link ∷ links) p) ≡ true
     by_tests true t a b later = rw a refl
     by_tests false true a b later = rw (a, b) refl
-    by_tests false false a b later = rw (a, b) (later (sym (ap (λ x. (x || same_port link.1 p) || is_linked links p) a ∙ ap (λ x. x || is_linked links p) b) ∙ e))
+    by_tests false false a b later =
+        rw (a, b) (later (sym (ap (λ x. (x || same_port link.1 p) || is_linked links p) a
+        ∙ ap (λ x. x || is_linked links p) b) ∙ e))
 
 -- ---- what is known of earlier lines, and the network that they set up
 
@@ -54,58 +62,83 @@ record Stage (known : Known) (net : Network) : Type 0 where
   count : length known.nodes ≡ length known.names
   kinds : map is_switch net.registers ≡ map (λ node. node_is_switch (Some node)) known.nodes
 
-kinds-made : (known : Known) (line : Line) → map (λ node. node_is_switch (Some node)) known.nodes ++ map is_switch (made_by line) ≡ map (λ node. node_is_switch (Some node)) (nodes_after known.nodes line)
-kinds-made known (Endpoint name id) = sym (map-append (λ node. node_is_switch (Some node)) known.nodes _)
-kinds-made known (Switch name ports) = sym (map-append (λ node. node_is_switch (Some node)) known.nodes _)
+kinds-made : (known : Known) (line : Line)
+    → map (λ node. node_is_switch (Some node)) known.nodes ++ map is_switch (made_by line)
+    ≡ map (λ node. node_is_switch (Some node)) (nodes_after known.nodes line)
+kinds-made known (Endpoint name id) =
+    sym (map-append (λ node. node_is_switch (Some node)) known.nodes _)
+kinds-made known (Switch name ports) =
+    sym (map-append (λ node. node_is_switch (Some node)) known.nodes _)
 kinds-made known _ = append-nil _
 
-one_more : {A B : Type 0} (xs : List A) (ys : List B) (x : A) (y : B) → length xs ≡ length ys → length (xs ++ x ∷ []) ≡ length (ys ++ y ∷ [])
+one_more : {A B : Type 0} (xs : List A) (ys : List B) (x : A) (y : B) → length xs ≡ length ys
+    → length (xs ++ x ∷ []) ≡ length (ys ++ y ∷ [])
 one_more xs ys x y same = omega (arith, length-append xs (x ∷ []), length-append ys (y ∷ []))
 
-count-made : (known : Known) (new : List ℕ) (line : Line) → length known.nodes ≡ length known.names → length (nodes_after known.nodes line) ≡ length (names_after known.names new line)
+count-made : (known : Known) (new : List ℕ) (line : Line) → length known.nodes ≡ length known.names
+    → length (nodes_after known.nodes line) ≡ length (names_after known.names new line)
 count-made known new (Endpoint name id) same = one_more known.nodes known.names _ new same
 count-made known new (Switch name ports) same = one_more known.nodes known.names _ new same
 count-made known new _ same = same
 
-stage-after : (known : Known) (new : List ℕ) (net : Network) (line : Line) → Stage known net → Stage (known_after known new line) (set_up net line)
+stage-after : (known : Known) (new : List ℕ) (net : Network) (line : Line) → Stage known net
+    → Stage (known_after known new line) (set_up net line)
 stage-after known new net line s = record {
   linked = set_up-links net line ∙ ap (λ links. links_after links line) s.linked;
   count = count-made known new line s.count;
-  kinds = set_up-kinds net line ∙ ap (λ kinds. kinds ++ map is_switch (made_by line)) s.kinds ∙ kinds-made known line;
+  kinds = set_up-kinds net line ∙ ap (λ kinds. kinds ++ map is_switch (made_by line)) s.kinds
+      ∙ kinds-made known line;
 }
 
 -- a node that is known is a switch of the network, or an endpoint, as it is known to be
-kind_at : (known : Known) (net : Network) (n : ℕ) → Stage known net → n < length known.names → switch_at net n ≡ Some (is_known_switch known.nodes n)
+kind_at : (known : Known) (net : Network) (n : ℕ) → Stage known net → n < length known.names
+    → switch_at net n ≡ Some (is_known_switch known.nodes n)
 kind_at known net n s within =
     let same = s.count in
-    sym (slice_get-map is_switch net.registers n) ∙ ap (λ kinds. slice_get kinds n) s.kinds ∙ there node_is_switch known.nodes n (omega arith)
+    sym (slice_get-map is_switch net.registers n) ∙ ap (λ kinds. slice_get kinds n) s.kinds
+    ∙ there node_is_switch known.nodes n (omega arith)
   where
-    there : {N : Type 0} (f : Option N → Bool) (nodes : List N) (n : ℕ) → n < length nodes → slice_get (map (λ node. f (Some node)) nodes) n ≡ Some (f (slice_get nodes n))
+    there : {N : Type 0} (f : Option N → Bool) (nodes : List N) (n : ℕ) → n < length nodes
+        → slice_get (map (λ node. f (Some node)) nodes) n ≡ Some (f (slice_get nodes n))
     there f [] n within = absurd (omega arith)
     there f (node ∷ nodes) zero within = refl
     there f (node ∷ nodes) (suc n) within = there f nodes n (omega arith)
 
-endpoint_at : (known : Known) (net : Network) (n : ℕ) → Stage known net → n < length known.names → is_known_switch known.nodes n ≡ false → IsEndpoint net n
+endpoint_at : (known : Known) (net : Network) (n : ℕ) → Stage known net → n < length known.names
+    → is_known_switch known.nodes n ≡ false → IsEndpoint net n
 endpoint_at known net n s within own = kind_at known net n s within ∙ ap Some own
 
-switch_is_at : (known : Known) (net : Network) (n : ℕ) → Stage known net → n < length known.names → not (is_known_switch known.nodes n) ≡ false → IsSwitch net n
-switch_is_at known net n s within own = kind_at known net n s within ∙ ap Some (not_not (is_known_switch known.nodes n) own)
+switch_is_at : (known : Known) (net : Network) (n : ℕ) → Stage known net → n < length known.names
+    → not (is_known_switch known.nodes n) ≡ false → IsSwitch net n
+switch_is_at known net n s within own =
+    kind_at known net n s within ∙ ap Some (not_not (is_known_switch known.nodes n) own)
 
-device_at : (known : Known) (net : Network) (n : ℕ) → Stage known net → n < length known.names → n < length net.registers
+device_at : (known : Known) (net : Network) (n : ℕ) → Stage known net → n < length known.names
+    → n < length net.registers
 device_at known net n s within =
     let names = s.count in
-    let nodes : length net.registers ≡ length known.nodes = sym (length-map net.registers is_switch) ∙ ap length s.kinds ∙ length-map known.nodes (λ node. node_is_switch (Some node)) in
+    let nodes : length net.registers ≡ length known.nodes =
+    sym (length-map net.registers is_switch) ∙ ap length s.kinds
+    ∙ length-map known.nodes (λ node. node_is_switch (Some node)) in
     omega arith
 
 -- ---- each line of set-up may stand behind those before it
 
-may_one : (known : Known) (new : List ℕ) (net : Network) (line : Line) → Stage known net → MayBe known new line → IsFree known line → MaySetUp net line
+may_one : (known : Known) (new : List ℕ) (net : Network) (line : Line) → Stage known net
+    → MayBe known new line → IsFree known line → MaySetUp net line
 may_one known new net (Endpoint name id) s may free = let id_in = may.fit.1.0.1 in omega arith
 may_one known new net (Switch name ports) s may free = may.fit.1.0
 may_one known new net (Link a b) s may free =
-    let parts = or_parts (same_port a b) (is_linked known.links a || is_linked known.links b) (free PortTaken) in
-    let ends = or_parts (is_linked known.links a) (is_linked known.links b) parts.1 in
-    (parts.0, ap (λ links. peer_in links a) s.linked ∙ no_peer known.links a ends.0, ap (λ links. peer_in links b) s.linked ∙ no_peer known.links b ends.1)
+    let parts =
+    or_parts (same_port a b) (is_linked known.links a || is_linked known.links b)
+    (free PortTaken) in
+    let ends = or_parts (is_linked known.links a) (is_linked known.links b) parts.1 in (
+      parts.0,
+      ap (λ links. peer_in links a) s.linked
+          ∙ no_peer known.links a ends.0,
+      ap (λ links. peer_in links b) s.linked
+          ∙ no_peer known.links b ends.1,
+    )
 may_one known new net (Buffers port n) s may free = may.fit.1.0
 may_one known new net (Route node id p) s may free =
     let id_in = may.fit.1.0.1 in
@@ -122,18 +155,21 @@ may_one known new net (Large node id) s may free =
     (endpoint_at known net node s may.fit.0 (free WrongKind), omega arith)
 may_one known new net _ s may free = tt
 
-may_all : (known : Known) (names : List (List ℕ)) (net : Network) (lines : List Numbered) → Stage known net → PassesFrom known names lines → MaySetUpAll net lines
+may_all : (known : Known) (names : List (List ℕ)) (net : Network) (lines : List Numbered)
+    → Stage known net → PassesFrom known names lines → MaySetUpAll net lines
 may_all known names net [] s passes = tt
 may_all known names net (line ∷ lines) s passes = (
   may_one known (new_name names line.line) net line.line s passes.0 passes.1,
-  may_all (known_after known (new_name names line.line) line.line) names (set_up net line.line) lines (stage-after known (new_name names line.line) net line.line s) passes.2,
+  may_all (known_after known (new_name names line.line) line.line) names (set_up net line.line)
+      lines (stage-after known (new_name names line.line) net line.line s) passes.2,
 )
 
 -- before the first line
 bare_stage : Stage nothing bare
 bare_stage = record { linked = refl; count = refl; kinds = refl }
 
-pub may_set_up : (names : List (List ℕ)) (lines : List Numbered) → Passes names lines → MaySetUpAll bare lines
+pub may_set_up : (names : List (List ℕ)) (lines : List Numbered) → Passes names lines
+    → MaySetUpAll bare lines
 may_set_up names lines passes = may_all nothing names bare lines bare_stage passes
 
 -- ---- nothing is set up behind an event
@@ -151,12 +187,18 @@ begun_by : (begun event : Bool) → event ≡ true → begun || event ≡ true
 begun_by true event e = refl
 begun_by false event e = e
 
-stays : (known : Known) (names : List (List ℕ)) (net : Network) (lines : List Numbered) → known.mode ≡ of_script → known.begun ≡ true → PassesFrom known names lines → set_up_all net lines ≡ net
+stays : (known : Known) (names : List (List ℕ)) (net : Network) (lines : List Numbered)
+    → known.mode ≡ of_script → known.begun ≡ true → PassesFrom known names lines
+    → set_up_all net lines ≡ net
 stays known names net [] mode begun passes = refl
 stays known names net (line ∷ lines) mode begun passes =
-    let event = event_of known.begun (is_event line.line) begun (ap (λ m. out_of_place_in m known.begun (is_event line.line)) (sym mode) ∙ passes.1 OutOfPlace) in
+    let event =
+    event_of known.begun (is_event line.line) begun
+    (ap (λ m. out_of_place_in m known.begun (is_event line.line)) (sym mode)
+    ∙ passes.1 OutOfPlace) in
     ap (λ (n : Network). set_up_all n lines) (set_up-event net line.line event)
-    ∙ stays (known_after known (new_name names line.line) line.line) names net lines mode (begun_stays known.begun (is_event line.line) begun) passes.2
+    ∙ stays (known_after known (new_name names line.line) line.line) names net lines mode
+    (begun_stays known.begun (is_event line.line) begun) passes.2
 
 -- ---- an event may happen
 
@@ -164,24 +206,33 @@ data_length : (large : Bool) (ftype count : ℕ) → is_bad_length large ftype c
     → IsDataLength large ftype count
 data_length large ftype count e =
     let forms : Bool = not (nat_le 6 count && nat_le count 70 && (count % 8 == 6)) in
-    let parts = or_parts (not (count % 2 == 0) || nat_lt (most_rest large) count) ((ftype == 8) && forms) e in
+    let parts =
+    or_parts (not (count % 2 == 0) || nat_lt (most_rest large) count) ((ftype == 8) && forms) e in
     let both = or_parts (not (count % 2 == 0)) (nat_lt (most_rest large) count) parts.0 in
     let long = both.1 in
     record {
       even = eqb-true (count % 2) 0 (not_not (count % 2 == 0) both.0);
       most = grind (arith, nat_tests, long);
-      maintenance = λ is. of_form (not_not (nat_le 6 count && nat_le count 70 && (count % 8 == 6)) (sym (ap (λ f. (f == 8) && forms) is) ∙ parts.1));
+      maintenance =
+          λ is. of_form (not_not (nat_le 6 count && nat_le count 70 && (count % 8 == 6))
+          (sym (ap (λ f. (f == 8) && forms) is) ∙ parts.1));
     }
   where
-    of_form : nat_le 6 count && nat_le count 70 && (count % 8 == 6) ≡ true → (6 ≤ count) × (count ≤ 70) × (count % 8 ≡ 6)
+    of_form : nat_le 6 count && nat_le count 70 && (count % 8 == 6) ≡ true
+        → (6 ≤ count) × (count ≤ 70) × (count % 8 ≡ 6)
     of_form is =
         let outer = and_parts (nat_le 6 count && nat_le count 70) (count % 8 == 6) is in
         let inner = and_parts (nat_le 6 count) (nat_le count 70) outer.0 in
         let least = inner.0 in
-        let most = inner.1 in
-        (grind (arith, nat_tests, least), grind (arith, nat_tests, most), eqb-true (count % 8) 6 outer.1)
+        let most = inner.1 in (
+          grind (arith, nat_tests, least),
+          grind (arith, nat_tests, most),
+          eqb-true (count % 8) 6
+              outer.1,
+        )
 
-in_range : (known : Known) (new : List ℕ) (line : Line) → MayBe known new line → IsFree known line → IsInRange line
+in_range : (known : Known) (new : List ℕ) (line : Line) → MayBe known new line → IsFree known line
+    → IsInRange line
 in_range known new (Send node prio ftype dest hex) may free =
     let prio_in = may.fit.1.0.1 in
     let ftype_in = may.fit.1.1.0.1 in
@@ -210,18 +261,30 @@ in_range known new (Erase port place n) may free = (may.fit.1.0.1, may.fit.1.1.0
 in_range known new (Run n) may free = may.fit.0
 in_range known new _ may free = tt
 
-link_at : (known : Known) (net : Network) (p : PortRef) → Stage known net → not (is_linked known.links p) ≡ false → HasLink net p
-link_at known net p s e = subst (λ links. is_some (peer_in links p) ≡ true) (sym s.linked) (a_peer known.links p (not_not (is_linked known.links p) e))
+link_at : (known : Known) (net : Network) (p : PortRef) → Stage known net
+    → not (is_linked known.links p) ≡ false → HasLink net p
+link_at known net p s e =
+    subst (λ links. is_some (peer_in links p) ≡ true) (sym s.linked)
+    (a_peer known.links p (not_not (is_linked known.links p) e))
 
-is_there : (known : Known) (new : List ℕ) (net : Network) (line : Line) → Stage known net → MayBe known new line → IsFree known line → IsThere net line
-is_there known new net (Send node prio ftype dest hex) s may free = endpoint_at known net node s may.fit.0 (free WrongKind)
-is_there known new net (Read node prio dest hop tid offset) s may free = endpoint_at known net node s may.fit.0 (free WrongKind)
-is_there known new net (Write node prio dest hop tid offset value) s may free = endpoint_at known net node s may.fit.0 (free WrongKind)
-is_there known new net (Send16 node prio ftype dest hex) s may free = endpoint_at known net node s may.fit.0 (free WrongKind)
-is_there known new net (Read16 node prio dest hop tid offset) s may free = endpoint_at known net node s may.fit.0 (free WrongKind)
-is_there known new net (Write16 node prio dest hop tid offset value) s may free = endpoint_at known net node s may.fit.0 (free WrongKind)
-is_there known new net (Move node) s may free = switch_is_at known net node s may.fit.0 (free WrongKind)
-is_there known new net (Collect node) s may free = endpoint_at known net node s may.fit.0 (free WrongKind)
+is_there : (known : Known) (new : List ℕ) (net : Network) (line : Line) → Stage known net
+    → MayBe known new line → IsFree known line → IsThere net line
+is_there known new net (Send node prio ftype dest hex) s may free =
+    endpoint_at known net node s may.fit.0 (free WrongKind)
+is_there known new net (Read node prio dest hop tid offset) s may free =
+    endpoint_at known net node s may.fit.0 (free WrongKind)
+is_there known new net (Write node prio dest hop tid offset value) s may free =
+    endpoint_at known net node s may.fit.0 (free WrongKind)
+is_there known new net (Send16 node prio ftype dest hex) s may free =
+    endpoint_at known net node s may.fit.0 (free WrongKind)
+is_there known new net (Read16 node prio dest hop tid offset) s may free =
+    endpoint_at known net node s may.fit.0 (free WrongKind)
+is_there known new net (Write16 node prio dest hop tid offset value) s may free =
+    endpoint_at known net node s may.fit.0 (free WrongKind)
+is_there known new net (Move node) s may free =
+    switch_is_at known net node s may.fit.0 (free WrongKind)
+is_there known new net (Collect node) s may free =
+    endpoint_at known net node s may.fit.0 (free WrongKind)
 is_there known new net (Pump port n) s may free = link_at known net port s (free NotLinked)
 is_there known new net (Deliver port n) s may free = link_at known net port s (free NotLinked)
 is_there known new net (Alter port place ch) s may free = link_at known net port s (free NotLinked)
@@ -235,22 +298,37 @@ is_there known new net _ s may free = tt
 abbrev Happens : Network → Numbered → Type 0
 Happens net line = is_event line.line ≡ true → IsInRange line.line × IsThere net line.line
 
-happen_from : (known : Known) (names : List (List ℕ)) (net : Network) (lines : List Numbered) → known.mode ≡ of_script → Stage known net → PassesFrom known names lines → All (Happens (set_up_all net lines)) lines
+happen_from : (known : Known) (names : List (List ℕ)) (net : Network) (lines : List Numbered)
+    → known.mode ≡ of_script → Stage known net → PassesFrom known names lines
+    → All (Happens (set_up_all net lines)) lines
 happen_from known names net [] mode s passes = All-nil (Happens net)
 happen_from known names net (line ∷ lines) mode s passes =
     let new = new_name names line.line in
     let next = known_after known new line.line in
     let quiet : is_event line.line ≡ true → set_up_all net (line ∷ lines) ≡ net = λ event.
-    ap (λ (n : Network). set_up_all n lines) (set_up-event net line.line event) ∙ stays next names net lines mode (begun_by known.begun (is_event line.line) event) passes.2 in
+    ap (λ (n : Network). set_up_all n lines) (set_up-event net line.line event)
+    ∙ stays next names net lines mode (begun_by known.begun (is_event line.line) event) passes.2 in
     All-cons (Happens (set_up_all net (line ∷ lines))) line lines
-    (λ event. (in_range known new line.line passes.0 passes.1, subst (λ (n : Network). IsThere n line.line) (sym (quiet event)) (is_there known new net line.line s passes.0 passes.1)))
-    (happen_from next names (set_up net line.line) lines mode (stage-after known new net line.line s) passes.2)
+    (λ event. (
+      in_range known new line.line passes.0 passes.1,
+      subst
+          (λ (n : Network). IsThere n line.line) (sym (quiet event))
+          (is_there known new net line.line s passes.0 passes.1),
+    ))
+    (happen_from next names (set_up net line.line) lines mode
+    (stage-after known new net line.line s) passes.2)
 
-pub may_happen : (names : List (List ℕ)) (lines : List Numbered) → Passes names lines → All (λ line. is_event line.line ≡ true → MayHappen names (set_up_all bare lines) line.line) lines
+pub may_happen : (names : List (List ℕ)) (lines : List Numbered) → Passes names lines
+    → All (λ line. is_event line.line ≡ true → MayHappen names (set_up_all bare lines) line.line)
+    lines
 may_happen names lines passes =
     let all = happen_from nothing names bare lines refl bare_stage passes in
     let named = named_all nothing names lines passes in
-    λ k d within event. record { named = named k d within; range = (all k d within event).0; there = (all k d within event).1 }
+    λ k d within event. record {
+      named = named k d within;
+      range = (all k d within event).0;
+      there = (all k d within event).1;
+    }
 
 -- ---- the ports that lines name are there
 
@@ -258,25 +336,41 @@ may_happen names lines passes =
 record Counts (known : Known) (counts : List ℕ) : Type 0 where
   counted : map (λ node. node_ports (Some node)) known.nodes ≡ counts
 
-counts-after : (known : Known) (new : List ℕ) (counts : List ℕ) (line : Line) → Counts known counts → Counts (known_after known new line) (counts_after counts line)
-counts-after known new counts (Endpoint name id) c = record { counted = map-append (λ node. node_ports (Some node)) known.nodes _ ∙ ap (λ xs. xs ++ 1 ∷ []) c.counted }
-counts-after known new counts (Switch name ports) c = record { counted = map-append (λ node. node_ports (Some node)) known.nodes _ ∙ ap (λ xs. xs ++ ports ∷ []) c.counted }
+counts-after : (known : Known) (new : List ℕ) (counts : List ℕ) (line : Line) → Counts known counts
+    → Counts (known_after known new line) (counts_after counts line)
+counts-after known new counts (Endpoint name id) c =
+    record {
+      counted =
+          map-append (λ node. node_ports (Some node)) known.nodes _
+          ∙ ap (λ xs. xs ++ 1 ∷ []) c.counted;
+    }
+counts-after known new counts (Switch name ports) c =
+    record {
+      counted =
+          map-append (λ node. node_ports (Some node)) known.nodes _
+          ∙ ap (λ xs. xs ++ ports ∷ []) c.counted;
+    }
 counts-after known new counts _ c = record { counted = c.counted }
 
-pub count_at : {N : Type 0} (f : Option N → ℕ) (nodes : List N) (n : ℕ) → f None ≡ 0 → f (slice_get nodes n) ≡ get_or (map (λ node. f (Some node)) nodes) n 0
+pub count_at : {N : Type 0} (f : Option N → ℕ) (nodes : List N) (n : ℕ) → f None ≡ 0
+    → f (slice_get nodes n) ≡ get_or (map (λ node. f (Some node)) nodes) n 0
 count_at f [] n none = none
 count_at f (node ∷ nodes) zero none = refl
 count_at f (node ∷ nodes) (suc n) none = count_at f nodes n none
 
-ports_one : (known : Known) (new : List ℕ) (counts : List ℕ) (line : Line) → Counts known counts → MayBe known new line → ArePorts counts line
+ports_one : (known : Known) (new : List ℕ) (counts : List ℕ) (line : Line) → Counts known counts
+    → MayBe known new line → ArePorts counts line
 ports_one known new counts line c may = by_line line may
   where
     here : (p : PortRef) → p.port < ports_of known.nodes p.node → IsPort counts p
-    here p within = subst (λ n. p.port < n) (count_at node_ports known.nodes p.node refl ∙ ap (λ xs. get_or xs p.node 0) c.counted) within
+    here p within =
+        subst (λ n. p.port < n) (count_at node_ports known.nodes p.node refl
+        ∙ ap (λ xs. get_or xs p.node 0) c.counted) within
 
     by_line : (line : Line) → MayBe known new line → ArePorts counts line
     by_line (Link a b) may = (here a may.fit.0.2, here b may.fit.1.0.2)
     by_line (Buffers port n) may = here port may.fit.0.2
+    by_line (Credits port) may = here port may.fit.0.2
     by_line (Pump port n) may = here port may.fit.0.2
     by_line (Deliver port n) may = here port may.fit.0.2
     by_line (Alter port place ch) may = here port may.fit.0.2
@@ -286,10 +380,18 @@ ports_one known new counts line c may = by_line line may
     by_line (Settle port) may = here port may.fit.0.2
     by_line _ may = tt
 
-ports_from : (known : Known) (names : List (List ℕ)) (counts : List ℕ) (before behind : List Numbered) (line : Numbered) → Counts known counts → PassesFrom known names (before ++ line ∷ behind) → ArePorts (counts_after_all counts before) line.line
-ports_from known names counts [] behind line c passes = ports_one known (new_name names line.line) counts line.line c passes.0
+ports_from : (known : Known) (names : List (List ℕ)) (counts : List ℕ)
+    (before behind : List Numbered) (line : Numbered) → Counts known counts
+    → PassesFrom known names (before ++ line ∷ behind)
+    → ArePorts (counts_after_all counts before) line.line
+ports_from known names counts [] behind line c passes =
+    ports_one known (new_name names line.line) counts line.line c passes.0
 ports_from known names counts (first ∷ before) behind line c passes =
-    ports_from (known_after known (new_name names first.line) first.line) names (counts_after counts first.line) before behind line (counts-after known (new_name names first.line) counts first.line c) passes.2
+    ports_from (known_after known (new_name names first.line) first.line) names
+    (counts_after counts first.line) before behind line
+    (counts-after known (new_name names first.line) counts first.line c) passes.2
 
-pub ports_there : (names : List (List ℕ)) (before behind : List Numbered) (line : Numbered) → Passes names (before ++ line ∷ behind) → ArePorts (port_counts before) line.line
-ports_there names before behind line passes = ports_from nothing names [] before behind line (record { counted = refl }) passes
+pub ports_there : (names : List (List ℕ)) (before behind : List Numbered) (line : Numbered)
+    → Passes names (before ++ line ∷ behind) → ArePorts (port_counts before) line.line
+ports_there names before behind line passes =
+    ports_from nothing names [] before behind line (record { counted = refl }) passes

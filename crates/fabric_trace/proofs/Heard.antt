@@ -1,7 +1,8 @@
 -- The packets that a delivery frees are acknowledged by what it says.
-use Rattle.std.proofs.Common.{◌≡◌, ◌≢◌, inl, inr, ℕ, suc, ◌+◌, ◌-◌, ◌%◌, ◌<◌, ◌≤◌, ◌==◌, nat_le, ◌++◌, Bool, true, false, List, [], ◌∷◌, length, map, take, Option, Some, None, option_to_list, refl, sym, ap, ◌∙◌, subst, arith, append_assoc, length-take, if◌then◌else◌}
-use Rattle.std.proofs.lemmas.Bool.{eqb-true, leb-true, ltb-true, and_parts, cases_lt}
+use Rattle.std.proofs.Common.{◌≡◌, ◌≢◌, inl, inr, ℕ, suc, ◌+◌, ◌-◌, ◌%◌, ◌<◌, ◌==◌, ◌++◌, Bool, true, false, List, [], ◌∷◌, All, length, map, take, Option, Some, None, option_to_list, refl, sym, ap, ◌∙◌, subst, arith, append_assoc, length-take, if◌then◌else◌}
+use Rattle.std.proofs.lemmas.Bool.{eqb-true, cases_lt}
 use Rattle.std.proofs.lemmas.List.{append-nil, length-map}
+use Rattle.std.proofs.lemmas.List.Elements.{All-head, All-tail}
 use Rattle.rio_packets.specs.Fields.{prio_of}
 use Rattle.rio_symbols.specs.Fields.{Fields}
 use Rattle.rio_symbols.specs.declared.stype0.TheConstants.{PACKET_ACCEPTED, PACKET_RETRY, PACKET_NOT_ACCEPTED, LINK_RESPONSE}
@@ -10,15 +11,14 @@ use Rattle.link_buffers.proofs.PriorityLaws.{Covers-take, map-prio_of-packets_of
 use Rattle.link_model.specs.declared.event.Event.{Event}
 use Rattle.link_model.specs.declared.event.Event.TheVariants.{Ctl, Pkt, Bad}
 use Rattle.link_model.specs.Output as out
-use Rattle.link_model.specs.Output.{Stype0, PacketAccepted, PacketRetry, PacketNotAccepted, LinkResponse, OtherStype0, stype0, hears, accepted, retried, responded}
-use Rattle.link_model.specs.Outstanding.{Outstanding, distance, is_oldest}
+use Rattle.link_model.specs.Output.{Stype0, PacketAccepted, PacketRetry, PacketNotAccepted, LinkResponse, OtherStype0, stype0, hears, hears_report, accepted, retried, responded}
 use Rattle.link_port.specs.Ports.{PortState, IsPort}
 use Rattle.link_port.specs.States.{prios_of, IsOutput}
 use Rattle.link_port.specs.Steps.{acts, heard}
+use Rattle.link_port.proofs.HearLaws.{report_prios}
 use Rattle.link_sound.specs.Meanings.{oldest_of}
-use Rattle.link_sound.proofs.Hearing.{oldest_cases}
+use Rattle.link_sound.proofs.Reported.{report_oldest}
 use Rattle.rio_chars.specs.declared.chars.Char.{Char}
-use Rattle.link_model.specs.Outstanding.{without_oldest, from_ack}
 use Rattle.link_model.specs.Places.{Place, run, place_after}
 use Rattle.link_model.specs.Said.{said}
 use Rattle.link_port.specs.Steps.{is_acted}
@@ -26,6 +26,7 @@ use Rattle.link_sound.specs.Sound.{IsSound}
 use Rattle.link_sound.proofs.Promises.{not_failed}
 use Rattle.link_machine.specs.Queues.{Queues, queues_between}
 use Rattle.link_machine.proofs.Flowing.{IsFlowing, AreFlowing, comes_flowing}
+use Rattle.link_machine.proofs.Arriving.{HasAckAt, run_has}
 use Rattle.link_machine.proofs.Walking.{Stays}
 use Rattle.link_wires.specs.Deliveries.{Flow, Delivered, Through, Undetected as Unsent, begun, moves_of, done, met, comes, goes_on, come, ended, delivered}
 use Rattle.link_wires.specs.Kept.{behind}
@@ -34,115 +35,7 @@ use Rattle.link_wires.specs.declared.moves.Move.{Move}
 use Rattle.link_wires.specs.declared.moves.Move.TheVariants.{Held, Freed}
 use Rattle.fabric_trace.specs.Frees.{Acknowledges, IsSaid}
 use Rattle.fabric_trace.proofs.Coming.{none_within, within-append, within_more}
-
--- ---- one symbol
-
--- what a kind of symbol with an ackID tells of the packet of a number
-abbrev Tells : Stype0 → ℕ → ℕ → Type 0
-Tells PacketAccepted ack j = ack ≡ j % 32
-Tells PacketRetry ack j = ⊥
-Tells PacketNotAccepted ack j = ⊥
-Tells LinkResponse ack j = Unit {0}
-Tells OtherStype0 ack j = ⊥
-
--- A symbol frees the packets that it tells of, and as many as its count; the oldest is the next one. The packet of number
--- n was the oldest.
-record IsHeard (n : ℕ) (kind : Stype0) (output : out.Output) (ack : ℕ) : Type 0 where
-  pub oldest : oldest_of (hears kind output ack).state ≡ (n + (hears kind output ack).freed) % 32
-  pub tells : (i : ℕ) → i < (hears kind output ack).freed → Tells kind ack (n + i)
-  pub few : (hears kind output ack).freed ≤ length (prios_of output)
-
--- a kind of symbol that frees nothing and leaves the oldest packet
-stays : (n : ℕ) (kind : Stype0) (output : out.Output) (ack : ℕ) → (hears kind output ack).freed ≡ 0 → oldest_of (hears kind output ack).state ≡ oldest_of output → oldest_of output ≡ n % 32
-    → IsHeard n kind output ack
-stays n kind output ack none same is =
-    let here : n % 32 ≡ (n + (hears kind output ack).freed) % 32 = (let more : n ≡ n + (hears kind output ack).freed = omega (arith, none) in ap (λ k. k % 32) more) in
-    record {
-      oldest = same ∙ is ∙ here;
-      tells = λ i few. absurd (omega (arith, none, few));
-      few = omega (arith, none);
-    }
-
--- of what a row gives
-record IsRow (n : ℕ) (row : out.Heard) (w : Outstanding) (Tell : ℕ → Type 0) : Type 0 where
-  pub oldest : oldest_of row.state ≡ (n + row.freed) % 32
-  pub tells : (i : ℕ) → i < row.freed → Tell (n + i)
-  pub few : row.freed ≤ length w.prios
-
-error_row : (n : ℕ) (w : Outstanding) (Tell : ℕ → Type 0) → w.oldest ≡ n % 32 → IsRow n (out.error w) w Tell
-error_row n w Tell is = record {
-  oldest = is ∙ (let more : n ≡ n + 0 = omega arith in ap (λ k. k % 32) more);
-  tells = λ i few. absurd (omega (arith, few));
-  few = omega arith;
-}
-
-oldest_some : (w : Outstanding) (ack : ℕ) → is_oldest w ack ≡ true → 0 < length w.prios
-oldest_some w ack is = ltb-true 0 (length w.prios) (and_parts _ _ is).0
-
-accepted_row : (n : ℕ) (w : Outstanding) (ack : ℕ) → w.oldest ≡ n % 32 → IsRow n (accepted w ack) w (λ j. ack ≡ j % 32)
-accepted_row n w ack is =
-    elim (oldest_cases w ack) [
-      | inl (test, same) ↦
-          let some = oldest_some w ack test in
-          subst (λ (b : Bool). IsRow n (if b then out.heard (out.Output.Ok (without_oldest w)) 1 else out.error w) w (λ j. ack ≡ j % 32)) (sym test) (record {
-            oldest = omega (arith, is);
-            tells = λ i few. (let first : i ≡ 0 = omega (arith, few) in same ∙ is ∙ (let more : n ≡ n + i = omega (arith, first) in ap (λ k. k % 32) more));
-            few = omega (arith, some);
-          })
-      | inr test ↦ subst (λ (b : Bool). IsRow n (if b then out.heard (out.Output.Ok (without_oldest w)) 1 else out.error w) w (λ j. ack ≡ j % 32)) (sym test) (error_row n w (λ j. ack ≡ j % 32) is)
-    ]
-
--- of a response, by whether its ackID is one of those that are outstanding, or the next
-abbrev response : Outstanding → ℕ → Bool → out.Heard
-response w ack known = if known then out.heard (out.Output.Ok (from_ack ack)) (distance w.oldest ack) else out.heard out.Output.Failed 0
-
-response_by : (n : ℕ) (w : Outstanding) (ack : ℕ) (known : Bool) → nat_le (distance w.oldest ack) (length w.prios) ≡ known → w.oldest ≡ n % 32 → IsOutput (response w ack known).state
-    → (response w ack known).state ≢ out.Output.Failed → IsRow n (response w ack known) w (λ j. Unit {0})
-response_by n w ack true test is bounded working = record {
-  oldest = (let small = bounded.oldest in omega (arith, is, small));
-  tells = λ i few. tt;
-  few = leb-true (distance w.oldest ack) (length w.prios) test;
-}
-response_by n w ack false test is bounded working = absurd (working refl)
-
-of_row : (n : ℕ) (kind : Stype0) (output : out.Output) (ack : ℕ) (w : Outstanding) → prios_of output ≡ w.prios → IsRow n (hears kind output ack) w (Tells kind ack) → IsHeard n kind output ack
-of_row n kind output ack w same row = record { oldest = row.oldest; tells = row.tells; few = subst (λ (l : List ℕ). (hears kind output ack).freed ≤ length l) (sym same) row.few }
-
-retried_row : (n : ℕ) (w : Outstanding) (ack : ℕ) → w.oldest ≡ n % 32 → IsRow n (retried w ack) w (λ j. ⊥)
-retried_row n w ack is =
-    elim (is_oldest w ack) as (λ b. IsRow n (if b then out.heard (out.Output.RetryStopped w) 0 else out.error w) w (λ j. ⊥)) [
-      | true ↦ record {
-        oldest = is ∙ (let more : n ≡ n + 0 = omega arith in ap (λ k. k % 32) more);
-        tells = λ i few. absurd (omega (arith, few));
-        few = omega arith;
-      }
-      | false ↦ error_row n w (λ j. ⊥) is
-    ]
-
-heard_rows : (n : ℕ) (kind : Stype0) (output : out.Output) (ack : ℕ) → oldest_of output ≡ n % 32 → IsOutput (hears kind output ack).state → (hears kind output ack).state ≢ out.Output.Failed
-    → IsHeard n kind output ack
-heard_rows n PacketAccepted (out.Output.Ok w) ack is bounded working = of_row n PacketAccepted (out.Output.Ok w) ack w refl (accepted_row n w ack is)
-heard_rows n PacketAccepted (out.Output.RetryStopped w) ack is bounded working = of_row n PacketAccepted (out.Output.RetryStopped w) ack w refl (error_row n w (λ j. ack ≡ j % 32) is)
-heard_rows n PacketAccepted (out.Output.ErrorStopped asked w) ack is bounded working = stays n PacketAccepted (out.Output.ErrorStopped asked w) ack refl refl is
-heard_rows n PacketAccepted out.Output.Failed ack is bounded working = stays n PacketAccepted out.Output.Failed ack refl refl is
-heard_rows n PacketRetry (out.Output.Ok w) ack is bounded working = of_row n PacketRetry (out.Output.Ok w) ack w refl (retried_row n w ack is)
-heard_rows n PacketRetry (out.Output.RetryStopped w) ack is bounded working = of_row n PacketRetry (out.Output.RetryStopped w) ack w refl (error_row n w (λ j. ⊥) is)
-heard_rows n PacketRetry (out.Output.ErrorStopped asked w) ack is bounded working = stays n PacketRetry (out.Output.ErrorStopped asked w) ack refl refl is
-heard_rows n PacketRetry out.Output.Failed ack is bounded working = stays n PacketRetry out.Output.Failed ack refl refl is
-heard_rows n PacketNotAccepted (out.Output.Ok w) ack is bounded working = of_row n PacketNotAccepted (out.Output.Ok w) ack w refl (error_row n w (λ j. ⊥) is)
-heard_rows n PacketNotAccepted (out.Output.RetryStopped w) ack is bounded working = of_row n PacketNotAccepted (out.Output.RetryStopped w) ack w refl (error_row n w (λ j. ⊥) is)
-heard_rows n PacketNotAccepted (out.Output.ErrorStopped asked w) ack is bounded working = stays n PacketNotAccepted (out.Output.ErrorStopped asked w) ack refl refl is
-heard_rows n PacketNotAccepted out.Output.Failed ack is bounded working = stays n PacketNotAccepted out.Output.Failed ack refl refl is
-heard_rows n LinkResponse (out.Output.Ok w) ack is bounded working = stays n LinkResponse (out.Output.Ok w) ack refl refl is
-heard_rows n LinkResponse (out.Output.RetryStopped w) ack is bounded working = stays n LinkResponse (out.Output.RetryStopped w) ack refl refl is
-heard_rows n LinkResponse (out.Output.ErrorStopped true w) ack is bounded working =
-    of_row n LinkResponse (out.Output.ErrorStopped true w) ack w refl (response_by n w ack (nat_le (distance w.oldest ack) (length w.prios)) refl is bounded working)
-heard_rows n LinkResponse (out.Output.ErrorStopped false w) ack is bounded working = stays n LinkResponse (out.Output.ErrorStopped false w) ack refl refl is
-heard_rows n LinkResponse out.Output.Failed ack is bounded working = stays n LinkResponse out.Output.Failed ack refl refl is
-heard_rows n OtherStype0 (out.Output.Ok w) ack is bounded working = stays n OtherStype0 (out.Output.Ok w) ack refl refl is
-heard_rows n OtherStype0 (out.Output.RetryStopped w) ack is bounded working = stays n OtherStype0 (out.Output.RetryStopped w) ack refl refl is
-heard_rows n OtherStype0 (out.Output.ErrorStopped asked w) ack is bounded working = stays n OtherStype0 (out.Output.ErrorStopped asked w) ack refl refl is
-heard_rows n OtherStype0 out.Output.Failed ack is bounded working = stays n OtherStype0 out.Output.Failed ack refl refl is
+use Rattle.fabric_trace.proofs.HeardRows.{Tells, heard_rows}
 
 -- ---- one event
 
@@ -154,8 +47,11 @@ IsKind s0 PacketNotAccepted = Unit {0}
 IsKind s0 LinkResponse = s0 ≡ LINK_RESPONSE
 IsKind s0 OtherStype0 = Unit {0}
 
-kind_by : (s0 : ℕ) (a b c d : Bool) → (a ≡ true → s0 ≡ PACKET_ACCEPTED) → (d ≡ true → s0 ≡ LINK_RESPONSE)
-    → IsKind s0 (if a then PacketAccepted else (if b then PacketRetry else (if c then PacketNotAccepted else (if d then LinkResponse else OtherStype0))))
+kind_by : (s0 : ℕ) (a b c d : Bool) → (a ≡ true → s0 ≡ PACKET_ACCEPTED)
+    → (d ≡ true → s0 ≡ LINK_RESPONSE)
+    → IsKind s0 (if a then PacketAccepted else (if
+    b then PacketRetry else (if
+    c then PacketNotAccepted else (if d then LinkResponse else OtherStype0))))
 kind_by s0 true b c d first last = first refl
 kind_by s0 false true c d first last = tt
 kind_by s0 false false true d first last = tt
@@ -163,9 +59,12 @@ kind_by s0 false false false true first last = last refl
 kind_by s0 false false false false first last = tt
 
 kind_is : (s0 : ℕ) → IsKind s0 (stype0 s0)
-kind_is s0 = kind_by s0 (s0 == PACKET_ACCEPTED) (s0 == PACKET_RETRY) (s0 == PACKET_NOT_ACCEPTED) (s0 == LINK_RESPONSE) (λ e. eqb-true s0 PACKET_ACCEPTED e) (λ e. eqb-true s0 LINK_RESPONSE e)
+kind_is s0 =
+    kind_by s0 (s0 == PACKET_ACCEPTED) (s0 == PACKET_RETRY) (s0 == PACKET_NOT_ACCEPTED)
+    (s0 == LINK_RESPONSE) (λ e. eqb-true s0 PACKET_ACCEPTED e) (λ e. eqb-true s0 LINK_RESPONSE e)
 
-tells_of : (symbol : Fields) (j : ℕ) (kind : Stype0) → IsKind symbol.s0 kind → Tells kind symbol.p0 j → Acknowledges j (Ctl symbol)
+tells_of : (symbol : Fields) (j : ℕ) (kind : Stype0) → IsKind symbol.s0 kind
+    → Tells kind symbol.p0 j → Acknowledges j (Ctl symbol)
 tells_of symbol j PacketAccepted is tells = inl (is, tells)
 tells_of symbol j PacketRetry is tells = absurd tells
 tells_of symbol j PacketNotAccepted is tells = absurd tells
@@ -177,30 +76,46 @@ record EventFrees (n : ℕ) (port : PortState) (e : Event) : Type 0 where
   pub oldest : oldest_of (acts port e).port.output ≡ (n + length (acts port e).freed) % 32
   pub acknowledges : (i : ℕ) → i < length (acts port e).freed → Acknowledges (n + i) e
 
-frees_none : (n : ℕ) (port : PortState) (e : Event) → (acts port e).freed ≡ [] → (acts port e).port.output ≡ port.output → oldest_of port.output ≡ n % 32 → EventFrees n port e
+frees_none : (n : ℕ) (port : PortState) (e : Event) → (acts port e).freed ≡ []
+    → (acts port e).port.output ≡ port.output → oldest_of port.output ≡ n % 32 → EventFrees n port e
 frees_none n port e none same is =
     let zero_freed : length (acts port e).freed ≡ 0 = ap length none in
     record {
-      oldest = ap oldest_of same ∙ is ∙ (let more : n ≡ n + length (acts port e).freed = omega (arith, zero_freed) in ap (λ k. k % 32) more);
+      oldest = ap oldest_of same ∙ is
+          ∙ (let more : n ≡ n + length (acts port e).freed =
+          omega (arith, zero_freed) in ap (λ k. k % 32) more);
       acknowledges = λ i few. absurd (omega (arith, few, zero_freed));
     }
 
-event_frees : (n : ℕ) (port : PortState) (e : Event) → IsPort port → IsOutput (acts port e).port.output → (acts port e).port.output ≢ out.Output.Failed → oldest_of port.output ≡ n % 32 → EventFrees n port e
+event_frees : (n : ℕ) (port : PortState) (e : Event) → IsPort port
+    → IsOutput (acts port e).port.output → (acts port e).port.output ≢ out.Output.Failed
+    → oldest_of port.output ≡ n % 32 → EventFrees n port e
 event_frees n port (Ctl symbol) is bounded working oldest =
-    let row = heard_rows n (stype0 symbol.s0) port.output symbol.p0 oldest bounded working in
+    let row =
+    heard_rows n (stype0 symbol.s0) (hears_report symbol port.output) symbol.p0
+    (report_oldest symbol port.output ∙ oldest) bounded working in
     let k = (heard port symbol).freed in
     let prios = prios_of port.output in
-    let some = map-prio_of-packets_of (take k prios) port.queued is.sends.four (Covers-take k prios port.queued is.covered) is.sends.sorted in
-    let count = sym (length-map (packets_of (take k prios) port.queued) prio_of) ∙ ap length some in
+    let some =
+    map-prio_of-packets_of (take k prios) port.queued is.sends.four
+    (Covers-take k prios port.queued is.covered) is.sends.sorted in
+    let count =
+    sym (length-map (packets_of (take k prios) port.queued) prio_of) ∙ ap length some in
     let taken = length-take k prios in
     let most = row.few in
-    let freed : length (packets_of (take k prios) port.queued) ≡ k = omega (arith, count, taken, most) in
+    let same = ap length (report_prios symbol port.output) in
+    let freed : length (packets_of (take k prios) port.queued) ≡ k =
+    omega (arith, count, taken, most, same) in
     record {
       oldest = row.oldest ∙ ap (λ m. (n + m) % 32) (sym freed);
-      acknowledges = λ i few. tells_of symbol (n + i) (stype0 symbol.s0) (kind_is symbol.s0) (row.tells i (omega (arith, few, freed)));
+      acknowledges = λ i few.
+          tells_of symbol (n + i) (stype0 symbol.s0) (kind_is symbol.s0)
+          (row.tells i (omega (arith, few, freed)));
     }
-event_frees n port (Pkt ack packet) is bounded working oldest = frees_none n port (Pkt ack packet) refl refl oldest
-event_frees n port (Bad cause) is bounded working oldest = frees_none n port (Bad cause) refl refl oldest
+event_frees n port (Pkt ack packet) is bounded working oldest =
+    frees_none n port (Pkt ack packet) refl refl oldest
+event_frees n port (Bad cause) is bounded working oldest =
+    frees_none n port (Bad cause) refl refl oldest
 
 -- ---- a flow
 
@@ -214,15 +129,19 @@ freed-append [] ys = omega arith
 freed-append (Held packet ∷ xs) ys = freed-append xs ys
 freed-append (Freed packet ∷ xs) ys = let more = freed-append xs ys in omega (arith, more)
 
-freed_all : (packets : List (List ℕ)) → freed_count (map (λ packet. Freed packet) packets) ≡ length packets
+freed_all : (packets : List (List ℕ))
+    → freed_count (map (λ packet. Freed packet) packets) ≡ length packets
 freed_all [] = refl
 freed_all (packet ∷ packets) = let more = freed_all packets in omega (arith, more)
 
-pub freed_of : (held : Option (List ℕ)) (freed : List (List ℕ)) → freed_count (map (λ packet. Held packet) (option_to_list held) ++ map (λ packet. Freed packet) freed) ≡ length freed
+pub freed_of : (held : Option (List ℕ)) (freed : List (List ℕ))
+    → freed_count (map (λ packet. Held packet) (option_to_list held) ++ map (λ packet. Freed packet)
+    freed) ≡ length freed
 freed_of None freed = freed_all freed
 freed_of (Some packet) freed = freed_all freed
 
--- after these events: each packet freed, numbered from n on, is acknowledged by one of them, and the next is the oldest
+-- after these events: each packet freed, numbered from n on, is acknowledged by one of them, and
+-- the next is the oldest
 pub record HasFreed (n : ℕ) (said : List Event) (flow : Flow) : Type 0 where
   pub oldest : oldest_of flow.port.output ≡ (n + freed_count flow.told.moves) % 32
   pub all : (i : ℕ) → i < freed_count flow.told.moves → IsSaid (n + i) said
@@ -231,17 +150,26 @@ abbrev pub HaveFreed : ℕ → List Event → Delivered → Type 0
 HaveFreed n said (Through flow) = HasFreed n said flow
 HaveFreed n said (Unsent told e) = (i : ℕ) → i < freed_count told.moves → IsSaid (n + i) said
 
-said_more : {j : ℕ} {said : List Event} (more : List Event) → IsSaid j said → IsSaid j (said ++ more)
-said_more more s = record { event = s.event; among = within_more more s.among; acknowledges = s.acknowledges }
+said_more : {j : ℕ} {said : List Event} (more : List Event) → IsSaid j said
+    → IsSaid j (said ++ more)
+said_more more s =
+    record { event = s.event; among = within_more more s.among; acknowledges = s.acknowledges }
 
-done_frees : (n : ℕ) (said : List Event) (e : Event) (acted kept : List Event) (flow : Flow) (b : PortState) (kept_a : List Event) (begin : Queues)
-    → IsFlowing b kept_a begin flow → IsFlowing b kept_a begin (done e acted kept flow) → HasFreed n said flow → HasFreed n (said ++ e ∷ []) (done e acted kept flow)
+done_frees : (n : ℕ) (said : List Event) (e : Event) (acted kept : List Event) (flow : Flow)
+    (b : PortState) (kept_a : List Event) (begin : Queues)
+    → IsFlowing b kept_a begin flow → IsFlowing b kept_a begin (done e acted kept flow)
+    → HasFreed n said flow → HasFreed n (said ++ e ∷ []) (done e acted kept flow)
 done_frees n said e acted kept flow b kept_a begin before next h =
     let m = freed_count flow.told.moves in
-    let frees = event_frees (n + m) flow.port e before.port next.port.outstanding (not_failed (acts flow.port e).port b _ _ next.sound) h.oldest in
-    let count : freed_count (flow.told.moves ++ moves_of (acts flow.port e)) ≡ m + length (acts flow.port e).freed =
-    freed-append flow.told.moves (moves_of (acts flow.port e)) ∙ ap (λ k. m + k) (freed_of (acts flow.port e).held (acts flow.port e).freed) in
-    let sum : (n + m) + length (acts flow.port e).freed ≡ n + freed_count (flow.told.moves ++ moves_of (acts flow.port e)) = omega (arith, count) in
+    let frees =
+    event_frees (n + m) flow.port e before.port next.port.outstanding
+    (not_failed (acts flow.port e).port b _ _ next.sound) h.oldest in
+    let count : freed_count (flow.told.moves ++ moves_of (acts flow.port e))
+    ≡ m + length (acts flow.port e).freed =
+    freed-append flow.told.moves (moves_of (acts flow.port e))
+    ∙ ap (λ k. m + k) (freed_of (acts flow.port e).held (acts flow.port e).freed) in
+    let sum : (n + m) + length (acts flow.port e).freed
+    ≡ n + freed_count (flow.told.moves ++ moves_of (acts flow.port e)) = omega (arith, count) in
     record {
       oldest = frees.oldest ∙ ap (λ k. k % 32) sum;
       all = λ i few. elim (cases_lt i m) [
@@ -253,53 +181,84 @@ done_frees n said e acted kept flow b kept_a begin before next h =
             record {
               event = e;
               among = within-append (none_within said) (Takes e Ends);
-              acknowledges = subst (λ k. Acknowledges k e) number (frees.acknowledges (i - m) small);
+              acknowledges =
+                  subst (λ k. Acknowledges k e) number (frees.acknowledges (i - m) small);
             }
       ];
     }
 
-met_frees : (n : ℕ) (said : List Event) (at : ℕ) (e : Event) (kept : Option (List Event)) (flow : Flow) (b : PortState) (kept_a : List Event) (begin : Queues)
-    → IsFlowing b kept_a begin flow → AreFlowing b kept_a begin (met at e kept flow) → HasFreed n said flow → HaveFreed n (said ++ e ∷ []) (met at e kept flow)
-met_frees n said at e None flow b kept_a begin before next h = λ i few. said_more (e ∷ []) (h.all i few)
-met_frees n said at e (Some kept) flow b kept_a begin before next h = done_frees n said e (e ∷ []) kept flow b kept_a begin before next h
+met_frees : (n : ℕ) (said : List Event) (at : ℕ) (e : Event) (kept : Option (List Event))
+    (flow : Flow) (b : PortState) (kept_a : List Event) (begin : Queues)
+    → IsFlowing b kept_a begin flow → AreFlowing b kept_a begin (met at e kept flow)
+    → HasFreed n said flow → HaveFreed n (said ++ e ∷ []) (met at e kept flow)
+met_frees n said at e None flow b kept_a begin before next h =
+    λ i few. said_more (e ∷ []) (h.all i few)
+met_frees n said at e (Some kept) flow b kept_a begin before next h =
+    done_frees n said e (e ∷ []) kept flow b kept_a begin before next h
 
-comes_frees : (n : ℕ) (said : List Event) (flow : Flow) (placed : ℕ × Event) (b : PortState) (kept_a : List Event) (begin : Queues)
-    → IsFlowing b kept_a begin flow → AreFlowing b kept_a begin (comes flow placed) → HasFreed n said flow → HaveFreed n (said ++ placed.1 ∷ []) (comes flow placed)
+comes_frees : (n : ℕ) (said : List Event) (flow : Flow) (placed : ℕ × Event) (b : PortState)
+    (kept_a : List Event) (begin : Queues)
+    → IsFlowing b kept_a begin flow → AreFlowing b kept_a begin (comes flow placed)
+    → HasFreed n said flow → HaveFreed n (said ++ placed.1 ∷ []) (comes flow placed)
 comes_frees n said flow placed b kept_a begin before next h =
-    (elim (is_acted flow.port placed.1) as (λ t. AreFlowing b kept_a begin (if t then met placed.0 placed.1 (behind placed.1 flow.kept) flow else Through (done placed.1 [] flow.kept flow))
-    → HaveFreed n (said ++ placed.1 ∷ []) (if t then met placed.0 placed.1 (behind placed.1 flow.kept) flow else Through (done placed.1 [] flow.kept flow))) [
-      | true ↦ λ (f : AreFlowing b kept_a begin (met placed.0 placed.1 (behind placed.1 flow.kept) flow)). met_frees n said placed.0 placed.1 (behind placed.1 flow.kept) flow b kept_a begin before f h
-      | false ↦ λ (f : IsFlowing b kept_a begin (done placed.1 [] flow.kept flow)). done_frees n said placed.1 [] flow.kept flow b kept_a begin before f h
+    (elim (is_acted flow.port placed.1) as (λ t. AreFlowing b kept_a begin
+    (if t then met placed.0 placed.1 (behind placed.1 flow.kept) flow else Through
+    (done placed.1 [] flow.kept flow))
+    → HaveFreed n (said ++ placed.1 ∷ [])
+    (if t then met placed.0 placed.1 (behind placed.1 flow.kept) flow else Through
+    (done placed.1 [] flow.kept flow))) [
+      | true ↦ λ (f : AreFlowing b kept_a begin
+          (met placed.0 placed.1 (behind placed.1 flow.kept) flow)). met_frees n said placed.0
+          placed.1 (behind placed.1 flow.kept) flow b kept_a begin before f h
+      | false ↦
+          λ (f : IsFlowing b kept_a begin (done placed.1 [] flow.kept flow)). done_frees n said
+          placed.1 [] flow.kept flow b kept_a begin before f h
     ]) next
 
 abbrev events_of : List (ℕ × Event) → List Event
 events_of events = map (λ (event : ℕ × Event). event.1) events
 
-on_frees : (n : ℕ) (said rest : List Event) (more : Flow → Delivered) (d : Delivered) (b : PortState) (kept_a : List Event) (begin : Queues)
-    → ((f : Flow) → IsFlowing b kept_a begin f → HasFreed n said f → HaveFreed n (said ++ rest) (more f)) → AreFlowing b kept_a begin d → HaveFreed n said d → HaveFreed n (said ++ rest) (goes_on more d)
+on_frees : (n : ℕ) (said rest : List Event) (more : Flow → Delivered) (d : Delivered)
+    (b : PortState) (kept_a : List Event) (begin : Queues)
+    → ((f : Flow) → IsFlowing b kept_a begin f → HasFreed n said f
+    → HaveFreed n (said ++ rest) (more f)) → AreFlowing b kept_a begin d → HaveFreed n said d
+    → HaveFreed n (said ++ rest) (goes_on more d)
 on_frees n said rest more (Through f) b kept_a begin next flowing h = next f flowing h
-on_frees n said rest more (Unsent told e) b kept_a begin next flowing h = λ i few. said_more rest (h i few)
+on_frees n said rest more (Unsent told e) b kept_a begin next flowing h =
+    λ i few. said_more rest (h i few)
 
-come_frees : (n : ℕ) (events : List (ℕ × Event)) (said : List Event) (flow : Flow) (b : PortState) (kept_a : List Event) (begin : Queues) → IsPort b
-    → IsFlowing b kept_a begin flow → HasFreed n said flow → HaveFreed n (said ++ events_of events) (come events flow)
+come_frees : (n : ℕ) (events : List (ℕ × Event)) (said : List Event) (flow : Flow)
+    (b : PortState) (kept_a : List Event) (begin : Queues) → IsPort b → All HasAckAt events
+    → IsFlowing b kept_a begin flow → HasFreed n said flow
+    → HaveFreed n (said ++ events_of events) (come events flow)
 unfolding come
-come_frees n [] said flow b kept_a begin far flowing h = subst (λ (l : List Event). HasFreed n l flow) (sym (append-nil said)) h
-come_frees n (placed ∷ events) said flow b kept_a begin far flowing h =
-    let next = comes_flowing b kept_a begin flow placed far flowing in
-    subst (λ (l : List Event). HaveFreed n l (goes_on (come events) (comes flow placed))) (append_assoc said (placed.1 ∷ []) (events_of events))
-    (on_frees n (said ++ placed.1 ∷ []) (events_of events) (come events) (comes flow placed) b kept_a begin (λ f g k. come_frees n events (said ++ placed.1 ∷ []) f b kept_a begin far g k) next
+come_frees n [] said flow b kept_a begin far has flowing h =
+    subst (λ (l : List Event). HasFreed n l flow) (sym (append-nil said)) h
+come_frees n (placed ∷ events) said flow b kept_a begin far has flowing h =
+    let own = All-head HasAckAt placed events has in
+    let more = All-tail HasAckAt placed events has in
+    let next = comes_flowing b kept_a begin flow placed far own flowing in
+    subst (λ (l : List Event). HaveFreed n l (goes_on (come events) (comes flow placed)))
+    (append_assoc said (placed.1 ∷ []) (events_of events))
+    (on_frees n (said ++ placed.1 ∷ []) (events_of events) (come events) (comes flow placed) b
+    kept_a begin
+    (λ f g k. come_frees n events (said ++ placed.1 ∷ []) f b kept_a begin far more g k) next
     (comes_frees n said flow placed b kept_a begin flowing next h))
 
-ended_frees : (n : ℕ) (said : List Event) (place : Place) (count : ℕ) (d : Delivered) → HaveFreed n said d → HaveFreed n said (ended place count d)
+ended_frees : (n : ℕ) (said : List Event) (place : Place) (count : ℕ) (d : Delivered)
+    → HaveFreed n said d → HaveFreed n said (ended place count d)
 ended_frees n said place count (Through flow) h = record { oldest = h.oldest; all = h.all }
 ended_frees n said place count (Unsent told e) h = h
 
 -- a delivery to a port whose oldest packet is the n-th
-pub delivered_frees : (n : ℕ) (a b : PortState) (kept_a kept_b : List Event) (chars : List Char) → IsPort a → IsPort b → IsSound a b kept_a kept_b → oldest_of a.output ≡ n % 32
+pub delivered_frees : (n : ℕ) (a b : PortState) (kept_a kept_b : List Event) (chars : List Char)
+    → IsPort a → IsPort b → IsSound a b kept_a kept_b → oldest_of a.output ≡ n % 32
     → HaveFreed n (said a.place chars) (delivered a kept_b chars)
 delivered_frees n a b kept_a kept_b chars near far sound is =
-    ended_frees n (said a.place chars) (place_after a.place chars) _ (come (run a.place 0 chars) (begun a kept_b))
+    ended_frees n (said a.place chars) (place_after a.place chars) _
+    (come (run a.place 0 chars) (begun a kept_b))
     (come_frees n (run a.place 0 chars) [] (begun a kept_b) b kept_a (queues_between a b) far
+    (run_has a.place 0 chars)
     (record {
       port = near;
       sound = subst (λ (l : List Event). IsSound a b l kept_b) (sym (append-nil kept_a)) sound;

@@ -1,5 +1,5 @@
 -- The holds of a port are read in what it got.
-use Rattle.std.proofs.Common.{◌≡◌, ℕ, ◌%◌, ◌++◌, Bool, true, false, List, [], ◌∷◌, length, map, take, Option, Some, None, refl, sym, ap, ◌∙◌, subst, arith, append_assoc, length-append, if◌then◌else◌}
+use Rattle.std.proofs.Common.{◌≡◌, ℕ, ◌%◌, ◌++◌, Bool, true, false, List, [], ◌∷◌, length, map, take, Some, None, refl, sym, ap, ◌∙◌, subst, arith, append_assoc, length-append, if◌then◌else◌}
 use Rattle.std.proofs.lemmas.List.{append-nil}
 use Rattle.rio_chars.specs.declared.chars.Char.{Char}
 use Rattle.link_model.specs.declared.event.Event.{Event}
@@ -7,182 +7,114 @@ use Rattle.link_model.specs.Places.{Place, start, place_after}
 use Rattle.link_model.specs.Said.{said}
 use Rattle.link_model.proofs.PlacesLaws.{place_after-append}
 use Rattle.link_port.specs.States.{expected_of}
+use Rattle.link_port.specs.Turns.{tell_sends}
 use Rattle.link_rest.proofs.SaidLaws.{said-append}
-use Rattle.link_watch.specs.declared.note.Note.TheVariants as Notes
 use Rattle.link_watch.specs.declared.side.Side.{Side}
 use Rattle.link_watch.specs.declared.side.Side.TheVariants.{A, B}
 use Rattle.link_wires.specs.Deliveries.{Delivered, Through, Undetected as Unsent, delivered, told_of, undetected}
 use Rattle.link_wires.specs.Kept.{IsSubsequence}
 use Rattle.link_wires.specs.Wires.{bursts, answers}
-use Rattle.link_wires.specs.declared.edits.Edit.{Edit}
 use Rattle.link_wires.specs.declared.moves.Move.{Move}
 use Rattle.link_wires.specs.declared.moves.Move.TheVariants.{Held, Freed}
-use Rattle.link_machine.specs.Calls.{sent_notes, has_chars, is_silent, delivery_from, move_note, told_notes, delivery_notes, pump_notes, time_out_notes}
+use Rattle.link_machine.specs.Calls.{sent_notes, has_chars, is_silent, delivery_from, move_note, told_notes, delivery_notes, pump_notes, time_out_notes, tell_notes}
 use Rattle.link_machine.specs.Queues as link
 use Rattle.fabric_script.specs.declared.ports.PortRef.{PortRef}
 use Rattle.fabric_model.specs.Network.{same_port}
-use Rattle.fabric_model.specs.Steps.{Hold, Free, Linked, AtNode, ByDevice, after_all}
+use Rattle.fabric_model.specs.Steps.{AtNode, ByDevice, after_all}
 use Rattle.fabric_model.proofs.Peers.{port_is, same_port-refl}
-use Rattle.fabric_trace.specs.Lines.{Sent, Got, Fired, TraceLine, Begun, Stepped, Signed, Lacked, Ended, Undetected}
+use Rattle.fabric_trace.specs.Lines.{Got, TraceLine, Begun, Stepped, Signed, Lacked, Ended, Undetected}
 use Rattle.fabric_trace.specs.Views.{Half}
-use Rattle.fabric_trace.specs.Known.{Seen, with_half, peer_of, port_at, kept_of, link_at}
-use Rattle.fabric_trace.specs.Fold.{edit_of, edited_by, says, taken_from, half_after, found_at, got_from, fired_from, seen}
+use Rattle.fabric_trace.specs.Known.{Seen, peer_of, port_at, kept_of, link_at}
+use Rattle.fabric_trace.specs.Fold.{says, taken_from, half_after, found_at, got_from, seen}
 use Rattle.fabric_trace.specs.Blocks.{port_at_side, lines_of}
-use Rattle.fabric_trace.specs.Holds.{got_by, got, held_by, holds, numbered, HoldsCame}
-use Rattle.fabric_trace.specs.Parts.{Part, Begins, Lacks, Ends, Names, Steps, Serves, Turns, Delivers, Fires, Made, Done, Then}
+use Rattle.fabric_trace.specs.Holds.{got, holds, numbered, HoldsCame}
+use Rattle.fabric_trace.specs.Parts.{Part, Begins, Lacks, Ends, Names, Steps, Serves, Turns, Tells, Delivers, Fires, Made, Done, Then}
 use Rattle.fabric_trace.proofs.Coming.{held_in, HaveCome, within-append, numbered-append, delivered_comes}
 use Rattle.fabric_trace.proofs.Cuts.{taken_again, through_place}
 use Rattle.fabric_trace.proofs.Folding.{seen-append, lines-append, half_own, half_other, moves_seen}
 use Rattle.fabric_trace.proofs.Keeping.{IsGood, good_peers, part_keeps}
 use Rattle.fabric_trace.proofs.Walks.{net_steps}
-
-pub got-append : (q : PortRef) (xs ys : List TraceLine) → got q (xs ++ ys) ≡ got q xs ++ got q ys
-got-append q [] ys = refl
-got-append q (x ∷ xs) ys = ap (λ (l : List Char). got_by q x ++ l) (got-append q xs ys) ∙ sym (append_assoc (got_by q x) (got q xs) (got q ys))
-
-pub holds-append : (q : PortRef) (xs ys : List TraceLine) → holds q (xs ++ ys) ≡ holds q xs ++ holds q ys
-holds-append q [] ys = refl
-holds-append q (x ∷ xs) ys = ap (λ (l : List (List ℕ)). held_by q x ++ l) (holds-append q xs ys) ∙ sym (append_assoc (held_by q x) (holds q xs) (holds q ys))
-
--- Of a port, after lines: its holds are read in what it got; its framer stands behind that, and it expects the next one.
-pub record IsRead (before : List TraceLine) (s : Seen) (q : PortRef) : Type 0 where
-  pub within : HoldsCame q before
-  pub place : s.unfaithful ≡ None → (s.halves q).place ≡ place_after start (got q before)
-  pub expected : s.unfaithful ≡ None → expected_of (s.halves q).input ≡ length (holds q before) % 32
-
--- ---- lines in which a port gets and holds nothing
-
-unfoldable AreStill : List TraceLine → Type 0
-AreStill [] = Unit {0}
-AreStill (Signed (Got q chars) ∷ lines) = ⊥
-AreStill (Stepped (Linked (Hold q packet)) ∷ lines) = ⊥
-AreStill (line ∷ lines) = AreStill lines
-
--- what is read of a port stays
-record StaysRead (s t : Seen) (c : PortRef) : Type 0 where
-  pub place : (t.halves c).place ≡ (s.halves c).place
-  pub input : (t.halves c).input ≡ (s.halves c).input
-  pub unfaithful : t.unfaithful ≡ s.unfaithful
-
-stays_here : (s : Seen) (c : PortRef) → StaysRead s s c
-stays_here s c = record { place = refl; input = refl; unfaithful = refl }
-
-half_place : (halves : PortRef → Half) (p : PortRef) (half : Half) (c : PortRef) → half.place ≡ (halves p).place → (with_half halves p half c).place ≡ (halves c).place
-half_place halves p half c same = elim (same_port c p) as (λ x. same_port c p ≡ x → (if x then half else halves c).place ≡ (halves c).place) [
-  | true ↦ λ (is : same_port c p ≡ true). same ∙ ap (λ x. (halves x).place) (sym (port_is c p is))
-  | false ↦ λ (is : same_port c p ≡ false). refl
-] refl
-
-half_input : (halves : PortRef → Half) (p : PortRef) (half : Half) (c : PortRef) → half.input ≡ (halves p).input → (with_half halves p half c).input ≡ (halves c).input
-half_input halves p half c same = elim (same_port c p) as (λ x. same_port c p ≡ x → (if x then half else halves c).input ≡ (halves c).input) [
-  | true ↦ λ (is : same_port c p ≡ true). same ∙ ap (λ x. (halves x).input) (sym (port_is c p is))
-  | false ↦ λ (is : same_port c p ≡ false). refl
-] refl
-
-edited_stays : (s : Seen) (edit : Option (PortRef × Edit)) (c : PortRef) → StaysRead s (edited_by s edit) c
-edited_stays s None c = stays_here s c
-edited_stays s (Some edit) c = record { place = refl; input = refl; unfaithful = refl }
-
-fired_stays : (s : Seen) (peer : Option PortRef) (p c : PortRef) → StaysRead s (fired_from s peer p) c
-fired_stays s None p c = stays_here s c
-fired_stays s (Some q) p c = record { place = half_place s.halves p _ c refl; input = half_input s.halves p _ c refl; unfaithful = refl }
-
-one_read : (before : List TraceLine) (s t : Seen) (line : TraceLine) (c : PortRef) → got_by c line ≡ [] → held_by c line ≡ [] → StaysRead s t c → IsRead before s c → IsRead (before ++ line ∷ []) t c
-one_read before s t line c no_got no_held stays h =
-    let gets : got c (before ++ line ∷ []) ≡ got c before = got-append c before (line ∷ []) ∙ ap (λ (l : List Char). got c before ++ (l ++ [])) no_got ∙ append-nil (got c before) in
-    let has : holds c (before ++ line ∷ []) ≡ holds c before = holds-append c before (line ∷ []) ∙ ap (λ (l : List (List ℕ)). holds c before ++ (l ++ [])) no_held ∙ append-nil (holds c before) in
-    record {
-      within = subst (λ (l : List (List ℕ)). IsSubsequence (numbered 0 l) (says (got c (before ++ line ∷ [])))) (sym has) (subst (λ (l : List Char). IsSubsequence (numbered 0 (holds c before)) (says l)) (sym gets) h.within);
-      place = λ none. stays.place ∙ h.place (sym stays.unfaithful ∙ none) ∙ ap (place_after start) (sym gets);
-      expected = λ none. ap expected_of stays.input ∙ h.expected (sym stays.unfaithful ∙ none) ∙ ap (λ (l : List (List ℕ)). length l % 32) (sym has);
-    }
-
-still_more : (x : TraceLine) (xs before : List TraceLine) (t : Seen) (c : PortRef) → IsRead ((before ++ x ∷ []) ++ xs) t c → IsRead (before ++ x ∷ xs) t c
-still_more x xs before t c h = subst (λ (l : List TraceLine). IsRead l t c) (append_assoc before (x ∷ []) xs) h
-
-still_read : (lines before : List TraceLine) (s : Seen) (c : PortRef) → AreStill lines → IsRead before s c → IsRead (before ++ lines) (seen s lines) c
-unfolding AreStill
-still_read [] before s c still h = subst (λ (l : List TraceLine). IsRead l s c) (sym (append-nil before)) h
-still_read (Begun line ∷ lines) before s c still h =
-    still_more _ lines before _ c (still_read lines (before ++ Begun line ∷ []) _ c still (one_read before s _ (Begun line) c refl refl (edited_stays s (edit_of line) c) h))
-still_read (Stepped (Linked (Hold q packet)) ∷ lines) before s c still h = absurd still
-still_read (Stepped (Linked (Free q packet)) ∷ lines) before s c still h =
-    still_more _ lines before _ c (still_read lines (before ++ Stepped (Linked (Free q packet)) ∷ []) _ c still (one_read before s _ (Stepped (Linked (Free q packet))) c refl refl (record { place = refl; input = refl; unfaithful = refl }) h))
-still_read (Stepped (AtNode step) ∷ lines) before s c still h =
-    still_more _ lines before _ c (still_read lines (before ++ Stepped (AtNode step) ∷ []) _ c still (one_read before s _ (Stepped (AtNode step)) c refl refl (record { place = refl; input = refl; unfaithful = refl }) h))
-still_read (Stepped (ByDevice step) ∷ lines) before s c still h =
-    still_more _ lines before _ c (still_read lines (before ++ Stepped (ByDevice step) ∷ []) _ c still (one_read before s _ (Stepped (ByDevice step)) c refl refl (record { place = refl; input = refl; unfaithful = refl }) h))
-still_read (Signed (Sent p chars) ∷ lines) before s c still h =
-    still_more _ lines before _ c (still_read lines (before ++ Signed (Sent p chars) ∷ []) _ c still
-    (one_read before s _ (Signed (Sent p chars)) c refl refl (record { place = half_place s.halves p _ c refl; input = half_input s.halves p _ c refl; unfaithful = refl }) h))
-still_read (Signed (Got q chars) ∷ lines) before s c still h = absurd still
-still_read (Signed (Fired p) ∷ lines) before s c still h =
-    still_more _ lines before _ c (still_read lines (before ++ Signed (Fired p) ∷ []) _ c still (one_read before s _ (Signed (Fired p)) c refl refl (fired_stays s (peer_of s p) p c) h))
-still_read (Lacked lack ∷ lines) before s c still h =
-    still_more _ lines before _ c (still_read lines (before ++ Lacked lack ∷ []) s c still (one_read before s s (Lacked lack) c refl refl (stays_here s c) h))
-still_read (Ended ∷ lines) before s c still h =
-    still_more _ lines before _ c (still_read lines (before ++ Ended ∷ []) s c still (one_read before s s Ended c refl refl (stays_here s c) h))
-still_read (Undetected number q e ∷ lines) before s c still h =
-    still_more _ lines before _ c (still_read lines (before ++ Undetected number q e ∷ []) s c still (one_read before s s (Undetected number q e) c refl refl (stays_here s c) h))
-
-sent_still : (a b : PortRef) (side : Side) (chars : List Char) → AreStill (lines_of a b (sent_notes side chars))
-unfolding AreStill
-sent_still a b side [] = tt
-sent_still a b side (c ∷ chars) = tt
-
-fired_still : (a b : PortRef) (x : Bool) → AreStill (lines_of a b (if x then Notes.Fire A ∷ [] else []))
-unfolding AreStill
-fired_still a b true = tt
-fired_still a b false = tt
+use Rattle.fabric_trace.proofs.HoldsStill.{IsRead, AreStill, still_read, sent_still, fired_still}
+pub use Rattle.fabric_trace.proofs.HoldsStill.{got-append, holds-append}
 
 -- ---- a delivery
 
-moves_got : (c a b : PortRef) (side : Side) (moves : List Move) → got c (lines_of a b (map (move_note side) moves)) ≡ []
+moves_got : (c a b : PortRef) (side : Side) (moves : List Move)
+    → got c (lines_of a b (map (move_note side) moves)) ≡ []
 moves_got c a b side [] = refl
 moves_got c a b side (Held packet ∷ moves) = moves_got c a b side moves
 moves_got c a b side (Freed packet ∷ moves) = moves_got c a b side moves
 
-moves_own : (a b : PortRef) (side : Side) (moves : List Move) → holds (port_at_side a b side) (lines_of a b (map (move_note side) moves)) ≡ held_in moves
+moves_own : (a b : PortRef) (side : Side) (moves : List Move)
+    → holds (port_at_side a b side) (lines_of a b (map (move_note side) moves)) ≡ held_in moves
 moves_own a b side [] = refl
 moves_own a b side (Held packet ∷ moves) =
-    (λ i. (if same_port-refl (port_at_side a b side) i then packet ∷ [] else []) ++ moves_own a b side moves i)
+    (λ i. (if same_port-refl (port_at_side a b side) i then packet ∷ [] else [])
+    ++ moves_own a b side moves i)
 moves_own a b side (Freed packet ∷ moves) = moves_own a b side moves
 
-moves_other : (c a b : PortRef) (side : Side) (moves : List Move) → same_port c (port_at_side a b side) ≡ false → holds c (lines_of a b (map (move_note side) moves)) ≡ []
+moves_other : (c a b : PortRef) (side : Side) (moves : List Move)
+    → same_port c (port_at_side a b side) ≡ false
+    → holds c (lines_of a b (map (move_note side) moves)) ≡ []
 moves_other c a b side [] apart = refl
-moves_other c a b side (Held packet ∷ moves) apart = (λ i. (if apart i then packet ∷ [] else []) ++ moves_other c a b side moves apart i)
+moves_other c a b side (Held packet ∷ moves) apart =
+    (λ i. (if apart i then packet ∷ [] else []) ++ moves_other c a b side moves apart i)
 moves_other c a b side (Freed packet ∷ moves) apart = moves_other c a b side moves apart
 
 -- The lines `got` and those of the moves: they say these characters and these holds.
-record GetsAndHolds (before first : List TraceLine) (c : PortRef) (chars : List Char) (packets : List (List ℕ)) : Type 0 where
+record GetsAndHolds (before first : List TraceLine) (c : PortRef) (chars : List Char)
+    (packets : List (List ℕ)) : Type 0 where
   pub gets : got c (before ++ first) ≡ got c before ++ chars
   pub has : holds c (before ++ first) ≡ holds c before ++ packets
 
 -- the port that got the characters, by what came of them
-own_read : (before first : List TraceLine) (s t : Seen) (q : PortRef) (kept : List Event) (chars : List Char) (d : Delivered) → s.unfaithful ≡ None → delivered (port_at s q) kept chars ≡ d
-    → GetsAndHolds before first q chars (held_in (told_of d).moves) → t.halves q ≡ half_after (s.halves q) d → t.unfaithful ≡ found_at q (undetected d)
+own_read : (before first : List TraceLine) (s t : Seen) (q : PortRef) (kept : List Event)
+    (chars : List Char) (d : Delivered) → s.unfaithful ≡ None
+    → delivered (port_at s q) kept chars ≡ d
+    → GetsAndHolds before first q chars (held_in (told_of d).moves)
+    → t.halves q ≡ half_after (s.halves q) d → t.unfaithful ≡ found_at q (undetected d)
     → IsRead before s q → IsRead (before ++ first) t q
 own_read before first s t q kept chars d none is lines half found h = by_end d is lines half found
-    (subst (HaveCome (length (holds q before)) (said (s.halves q).place chars)) is (delivered_comes (length (holds q before)) (port_at s q) kept chars (h.expected none)))
+    (subst (HaveCome (length (holds q before)) (said (s.halves q).place chars)) is
+    (delivered_comes (length (holds q before)) (port_at s q) kept chars (h.expected none)))
   where
-    joined : (packets : List (List ℕ)) → IsSubsequence (numbered (length (holds q before)) packets) (said (s.halves q).place chars) → GetsAndHolds before first q chars packets → HoldsCame q (before ++ first)
+    joined : (packets : List (List ℕ))
+        → IsSubsequence (numbered (length (holds q before)) packets) (said (s.halves q).place chars)
+        → GetsAndHolds before first q chars packets → HoldsCame q (before ++ first)
     joined packets within lines =
-        let said_is : says (got q (before ++ first)) ≡ says (got q before) ++ said (s.halves q).place chars =
-        ap says lines.gets ∙ said-append start (got q before) chars ∙ ap (λ (p : Place). says (got q before) ++ said p chars) (sym (h.place none)) in
-        let numbered_is : numbered 0 (holds q (before ++ first)) ≡ numbered 0 (holds q before) ++ numbered (length (holds q before)) packets =
-        ap (numbered 0) lines.has ∙ numbered-append 0 (length (holds q before)) (holds q before) packets (omega arith) in
-        subst (λ (l : List Event). IsSubsequence l (says (got q (before ++ first)))) (sym numbered_is)
-        (subst (λ (l : List Event). IsSubsequence (numbered 0 (holds q before) ++ numbered (length (holds q before)) packets) l) (sym said_is) (within-append h.within within))
+        let said_is : says (got q (before ++ first)) ≡ says (got q before)
+        ++ said (s.halves q).place chars =
+        ap says lines.gets ∙ said-append start (got q before) chars
+        ∙ ap (λ (p : Place). says (got q before) ++ said p chars) (sym (h.place none)) in
+        let numbered_is : numbered 0 (holds q (before ++ first)) ≡ numbered 0 (holds q before)
+        ++ numbered (length (holds q before)) packets =
+        ap (numbered 0) lines.has
+        ∙ numbered-append 0 (length (holds q before)) (holds q before) packets (omega arith) in
+        subst (λ (l : List Event). IsSubsequence l (says (got q (before ++ first))))
+        (sym numbered_is)
+        (subst (λ (l : List Event). IsSubsequence
+        (numbered 0 (holds q before) ++ numbered (length (holds q before)) packets) l) (sym said_is)
+        (within-append h.within within))
 
-    by_end : (d : Delivered) → delivered (port_at s q) kept chars ≡ d → GetsAndHolds before first q chars (held_in (told_of d).moves) → t.halves q ≡ half_after (s.halves q) d
-        → t.unfaithful ≡ found_at q (undetected d) → HaveCome (length (holds q before)) (said (s.halves q).place chars) d → IsRead (before ++ first) t q
+    by_end : (d : Delivered) → delivered (port_at s q) kept chars ≡ d
+        → GetsAndHolds before first q chars (held_in (told_of d).moves)
+        → t.halves q ≡ half_after (s.halves q) d
+        → t.unfaithful ≡ found_at q (undetected d)
+        → HaveCome (length (holds q before)) (said (s.halves q).place chars) d
+        → IsRead (before ++ first) t q
     by_end (Through flow) is lines half found came =
         let place = through_place (port_at s q) kept chars flow is in
         let longer = length-append (holds q before) (held_in flow.told.moves) in
         record {
           within = joined (held_in flow.told.moves) came.within lines;
-          place = λ still. ap (λ (x : Half). x.place) half ∙ place ∙ ap (λ (p : Place). place_after p chars) (h.place none) ∙ sym (place_after-append start (got q before) chars) ∙ ap (place_after start) (sym lines.gets);
-          expected = λ still. ap (λ (x : Half). expected_of x.input) half ∙ came.expected ∙ ap (λ k. k % 32) (sym longer) ∙ ap (λ (l : List (List ℕ)). length l % 32) (sym lines.has);
+          place = λ still. ap (λ (x : Half). x.place) half ∙ place
+              ∙ ap (λ (p : Place). place_after p chars) (h.place none)
+              ∙ sym (place_after-append start (got q before) chars)
+              ∙ ap (place_after start) (sym lines.gets);
+          expected =
+              λ still. ap (λ (x : Half). expected_of x.input) half ∙ came.expected
+              ∙ ap (λ k. k % 32) (sym longer)
+              ∙ ap (λ (l : List (List ℕ)). length l % 32) (sym lines.has);
         }
     by_end (Unsent told e) is lines half found came = record {
       within = joined (held_in told.moves) came lines;
@@ -191,85 +123,163 @@ own_read before first s t q kept chars d none is lines half found h = by_end d i
     }
 
 -- a port that got nothing
-other_read : (before first : List TraceLine) (s t : Seen) (c : PortRef) → s.unfaithful ≡ None → GetsAndHolds before first c [] [] → t.halves c ≡ s.halves c → IsRead before s c → IsRead (before ++ first) t c
+other_read : (before first : List TraceLine) (s t : Seen) (c : PortRef) → s.unfaithful ≡ None
+    → GetsAndHolds before first c [] [] → t.halves c ≡ s.halves c → IsRead before s c
+    → IsRead (before ++ first) t c
 other_read before first s t c none lines half h =
     let gets : got c (before ++ first) ≡ got c before = lines.gets ∙ append-nil (got c before) in
-    let has : holds c (before ++ first) ≡ holds c before = lines.has ∙ append-nil (holds c before) in
+    let has : holds c (before ++ first) ≡ holds c before =
+    lines.has ∙ append-nil (holds c before) in
     record {
-      within = subst (λ (l : List (List ℕ)). IsSubsequence (numbered 0 l) (says (got c (before ++ first)))) (sym has) (subst (λ (l : List Char). IsSubsequence (numbered 0 (holds c before)) (says l)) (sym gets) h.within);
-      place = λ still. ap (λ (x : Half). x.place) half ∙ h.place none ∙ ap (place_after start) (sym gets);
-      expected = λ still. ap (λ (x : Half). expected_of x.input) half ∙ h.expected none ∙ ap (λ (l : List (List ℕ)). length l % 32) (sym has);
+      within = subst (λ (l : List (List ℕ)). IsSubsequence (numbered 0 l)
+          (says (got c (before ++ first)))) (sym has)
+          (subst (λ (l : List Char). IsSubsequence (numbered 0 (holds c before)) (says l))
+          (sym gets) h.within);
+      place = λ still. ap (λ (x : Half). x.place) half ∙ h.place none
+          ∙ ap (place_after start) (sym gets);
+      expected =
+          λ still. ap (λ (x : Half). expected_of x.input) half ∙ h.expected none
+          ∙ ap (λ (l : List (List ℕ)). length l % 32) (sym has);
     }
 
 -- the line `got` and the moves behind it
 abbrev got_lines : PortRef → PortRef → List Char → List Move → List TraceLine
 got_lines p q chars moves = Signed (Got q chars) ∷ lines_of p q (map (move_note B) moves)
 
-got_read : (before : List TraceLine) (s : Seen) (p q c : PortRef) (chars : List Char) (d : Delivered) → peer_of s q ≡ Some p → s.unfaithful ≡ None → taken_from s p q chars ≡ d
-    → IsRead before s c → IsRead (before ++ got_lines p q chars (told_of d).moves) (seen s (got_lines p q chars (told_of d).moves)) c
+got_read : (before : List TraceLine) (s : Seen) (p q c : PortRef) (chars : List Char)
+    (d : Delivered) → peer_of s q ≡ Some p → s.unfaithful ≡ None → taken_from s p q chars ≡ d
+    → IsRead before s c → IsRead (before ++ got_lines p q chars (told_of d).moves)
+    (seen s (got_lines p q chars (told_of d).moves)) c
 got_read before s p q c chars d back none is h = by_port (same_port c q) refl
   where
-    there : seen s (got_lines p q chars (told_of d).moves) ≡ record (got_from s (Some p) q chars) { network = after_all s.network (net_steps p q (link.steps_at B (told_of d).moves)) }
-    there = ap (λ o. seen (got_from s o q chars) (lines_of p q (map (move_note B) (told_of d).moves))) back ∙ moves_seen (got_from s (Some p) q chars) p q B (told_of d).moves
+    there : seen s (got_lines p q chars (told_of d).moves)
+        ≡ record (got_from s (Some p) q chars) {
+          network = after_all s.network (net_steps p q (link.steps_at B (told_of d).moves));
+        }
+    there = ap (λ o. seen (got_from s o q chars)
+        (lines_of p q (map (move_note B) (told_of d).moves))) back
+        ∙ moves_seen (got_from s (Some p) q chars) p q B (told_of d).moves
 
-    by_port : (x : Bool) → same_port c q ≡ x → IsRead (before ++ got_lines p q chars (told_of d).moves) (seen s (got_lines p q chars (told_of d).moves)) c
+    by_port : (x : Bool) → same_port c q ≡ x
+        → IsRead (before ++ got_lines p q chars (told_of d).moves)
+        (seen s (got_lines p q chars (told_of d).moves)) c
     by_port true same =
         let lines = got_lines p q chars (told_of d).moves in
         let one : c ≡ q = port_is c q same in
         let gets : got q (before ++ lines) ≡ got q before ++ chars =
-        got-append q before lines ∙ (λ i. got q before ++ ((if same_port-refl q i then chars else []) ++ moves_got q p q B (told_of d).moves i)) ∙ ap (λ (l : List Char). got q before ++ l) (append-nil chars) in
-        let has : holds q (before ++ lines) ≡ holds q before ++ held_in (told_of d).moves = holds-append q before lines ∙ ap (λ (l : List (List ℕ)). holds q before ++ l) (moves_own p q B (told_of d).moves) in
-        let half : (seen s lines).halves q ≡ half_after (s.halves q) d = ap (λ (x : Seen). x.halves q) there ∙ half_own s.halves q (half_after (s.halves q) (taken_from s p q chars)) ∙ ap (half_after (s.halves q)) is in
-        let found : (seen s lines).unfaithful ≡ found_at q (undetected d) = ap (λ (x : Seen). x.unfaithful) there ∙ ap (λ (x : Delivered). found_at q (undetected x)) is in
+        got-append q before lines
+        ∙ (λ i. got q before ++ ((if same_port-refl q i then chars else []) ++ moves_got q p q B
+        (told_of d).moves i)) ∙ ap (λ (l : List Char). got q before ++ l) (append-nil chars) in
+        let has : holds q (before ++ lines) ≡ holds q before ++ held_in (told_of d).moves =
+        holds-append q before lines
+        ∙ ap (λ (l : List (List ℕ)). holds q before ++ l) (moves_own p q B (told_of d).moves) in
+        let half : (seen s lines).halves q ≡ half_after (s.halves q) d =
+        ap (λ (x : Seen). x.halves q) there
+        ∙ half_own s.halves q (half_after (s.halves q) (taken_from s p q chars))
+        ∙ ap (half_after (s.halves q)) is in
+        let found : (seen s lines).unfaithful ≡ found_at q (undetected d) =
+        ap (λ (x : Seen). x.unfaithful) there
+        ∙ ap (λ (x : Delivered). found_at q (undetected x)) is in
         subst (λ x. IsRead (before ++ lines) (seen s lines) x) (sym one)
-        (own_read before lines s (seen s lines) q (kept_of (s.wires p)) chars d none is (record { gets = gets; has = has }) half found (subst (IsRead before s) one h))
+        (own_read before lines s (seen s lines) q (kept_of (s.wires p)) chars d none is (record {
+          gets = gets;
+          has = has;
+        }) half found (subst (IsRead before s) one h))
     by_port false apart =
         let lines = got_lines p q chars (told_of d).moves in
-        let gets : got c (before ++ lines) ≡ got c before ++ [] = got-append c before lines ∙ (λ i. got c before ++ ((if apart i then chars else []) ++ moves_got c p q B (told_of d).moves i)) in
-        let has : holds c (before ++ lines) ≡ holds c before ++ [] = holds-append c before lines ∙ ap (λ (l : List (List ℕ)). holds c before ++ l) (moves_other c p q B (told_of d).moves apart) in
-        let half : (seen s lines).halves c ≡ s.halves c = ap (λ (x : Seen). x.halves c) there ∙ half_other s.halves q (half_after (s.halves q) (taken_from s p q chars)) c apart in
+        let gets : got c (before ++ lines) ≡ got c before ++ [] =
+        got-append c before lines
+        ∙ (λ i. got c before ++ ((if apart i then chars else []) ++ moves_got c p q B
+        (told_of d).moves i)) in
+        let has : holds c (before ++ lines) ≡ holds c before ++ [] =
+        holds-append c before lines
+        ∙ ap (λ (l : List (List ℕ)). holds c before ++ l)
+        (moves_other c p q B (told_of d).moves apart) in
+        let half : (seen s lines).halves c ≡ s.halves c =
+        ap (λ (x : Seen). x.halves c) there
+        ∙ half_other s.halves q (half_after (s.halves q) (taken_from s p q chars)) c apart in
         other_read before lines s (seen s lines) c none (record { gets = gets; has = has }) half h
 
-delivery_read : (before : List TraceLine) (s : Seen) (p q c : PortRef) (n : ℕ) → peer_of s q ≡ Some p → s.unfaithful ≡ None → has_chars A n (link_at s p q) ≡ true
-    → IsRead before s c → IsRead (before ++ lines_of p q (delivery_notes A n (link_at s p q))) (seen s (lines_of p q (delivery_notes A n (link_at s p q)))) c
+delivery_read : (before : List TraceLine) (s : Seen) (p q c : PortRef) (n : ℕ)
+    → peer_of s q ≡ Some p → s.unfaithful ≡ None → has_chars A n (link_at s p q) ≡ true
+    → IsRead before s c → IsRead (before ++ lines_of p q (delivery_notes A n (link_at s p q)))
+    (seen s (lines_of p q (delivery_notes A n (link_at s p q)))) c
 delivery_read before s p q c n back none has h =
     let l = link_at s p q in
     let chars = take n (s.wires p).chars in
     let d = delivery_from A n l in
     let told = told_of d in
     let sent = (answers told.replies).chars in
-    let notes : delivery_notes A n l ≡ told_notes B chars told = ap (λ x. if x then told_notes B chars told else []) has in
+    let notes : delivery_notes A n l ≡ told_notes B chars told =
+    ap (λ x. if x then told_notes B chars told else []) has in
     let first = got_lines p q (take told.count chars) told.moves in
-    let lines : lines_of p q (told_notes B chars told) ≡ first ++ lines_of p q (sent_notes B sent) = ap (λ (x : List TraceLine). Signed (Got q (take told.count chars)) ∷ x) (lines-append p q (map (move_note B) told.moves) (sent_notes B sent)) in
-    let one = got_read before s p q c (take told.count chars) d back none (taken_again (port_at s q) (kept_of (s.wires p)) chars d refl) h in
-    let two = still_read (lines_of p q (sent_notes B sent)) (before ++ first) (seen s first) c (sent_still p q B sent) one in
-    let all : IsRead (before ++ (first ++ lines_of p q (sent_notes B sent))) (seen s (first ++ lines_of p q (sent_notes B sent))) c =
-    subst (λ (x : Seen). IsRead (before ++ (first ++ lines_of p q (sent_notes B sent))) x c) (sym (seen-append s first (lines_of p q (sent_notes B sent))))
-    (subst (λ (x : List TraceLine). IsRead x (seen (seen s first) (lines_of p q (sent_notes B sent))) c) (append_assoc before first (lines_of p q (sent_notes B sent))) two) in
-    subst (λ (x : List TraceLine). IsRead (before ++ x) (seen s x) c) (sym (ap (lines_of p q) notes ∙ lines)) all
+    let lines : lines_of p q (told_notes B chars told) ≡ first ++ lines_of p q (sent_notes B sent) =
+    ap (λ (x : List TraceLine). Signed (Got q (take told.count chars)) ∷ x)
+    (lines-append p q (map (move_note B) told.moves) (sent_notes B sent)) in
+    let one =
+    got_read before s p q c (take told.count chars) d back none
+    (taken_again (port_at s q) (kept_of (s.wires p)) chars d refl) h in
+    let two =
+    still_read (lines_of p q (sent_notes B sent)) (before ++ first) (seen s first) c
+    (sent_still p q B sent) one in
+    let all : IsRead (before ++ (first ++ lines_of p q (sent_notes B sent)))
+    (seen s (first ++ lines_of p q (sent_notes B sent))) c =
+    subst (λ (x : Seen). IsRead (before ++ (first ++ lines_of p q (sent_notes B sent))) x c)
+    (sym (seen-append s first (lines_of p q (sent_notes B sent))))
+    (subst (λ (x : List TraceLine). IsRead x
+    (seen (seen s first) (lines_of p q (sent_notes B sent))) c)
+    (append_assoc before first (lines_of p q (sent_notes B sent))) two) in
+    subst (λ (x : List TraceLine). IsRead (before ++ x) (seen s x) c)
+    (sym (ap (lines_of p q) notes ∙ lines)) all
 
 -- ---- parts
 
-part_read : {s : Seen} {lines : List TraceLine} (before : List TraceLine) (c : PortRef) → IsGood s → Part s lines → IsRead before s c → IsRead (before ++ lines) (seen s lines) c
+part_read : {s : Seen} {lines : List TraceLine} (before : List TraceLine) (c : PortRef) → IsGood s
+    → Part s lines → IsRead before s c → IsRead (before ++ lines) (seen s lines) c
 unfolding AreStill
-part_read {s} before c good (Begins line is) h = subst (λ (x : List TraceLine). IsRead (before ++ x) (seen s x) c) (sym is) (still_read (Begun line ∷ []) before s c tt h)
-part_read {s} before c good (Lacks lack is) h = subst (λ (x : List TraceLine). IsRead (before ++ x) (seen s x) c) (sym is) (still_read (Lacked lack ∷ []) before s c tt h)
-part_read {s} before c good (Ends is) h = subst (λ (x : List TraceLine). IsRead (before ++ x) (seen s x) c) (sym is) (still_read (Ended ∷ []) before s c tt h)
-part_read {s} before c good (Names number q e found is) h = subst (λ (x : List TraceLine). IsRead (before ++ x) (seen s x) c) (sym is) (still_read (Undetected number q e ∷ []) before s c tt h)
-part_read {s} before c good (Steps step needs few is) h = subst (λ (x : List TraceLine). IsRead (before ++ x) (seen s x) c) (sym is) (still_read (Stepped (AtNode step) ∷ []) before s c tt h)
-part_read {s} before c good (Serves step needs is) h = subst (λ (x : List TraceLine). IsRead (before ++ x) (seen s x) c) (sym is) (still_read (Stepped (ByDevice step) ∷ []) before s c tt h)
+part_read {s} before c good (Begins line is) h =
+    subst (λ (x : List TraceLine). IsRead (before ++ x) (seen s x) c) (sym is)
+    (still_read (Begun line ∷ []) before s c tt h)
+part_read {s} before c good (Lacks lack is) h =
+    subst (λ (x : List TraceLine). IsRead (before ++ x) (seen s x) c) (sym is)
+    (still_read (Lacked lack ∷ []) before s c tt h)
+part_read {s} before c good (Ends is) h =
+    subst (λ (x : List TraceLine). IsRead (before ++ x) (seen s x) c) (sym is)
+    (still_read (Ended ∷ []) before s c tt h)
+part_read {s} before c good (Names number q e found is) h =
+    subst (λ (x : List TraceLine). IsRead (before ++ x) (seen s x) c) (sym is)
+    (still_read (Undetected number q e ∷ []) before s c tt h)
+part_read {s} before c good (Steps step needs few is) h =
+    subst (λ (x : List TraceLine). IsRead (before ++ x) (seen s x) c) (sym is)
+    (still_read (Stepped (AtNode step) ∷ []) before s c tt h)
+part_read {s} before c good (Serves step needs is) h =
+    subst (λ (x : List TraceLine). IsRead (before ++ x) (seen s x) c) (sym is)
+    (still_read (Stepped (ByDevice step) ∷ []) before s c tt h)
 part_read {s} before c good (Turns p q n peer none is) h =
-    subst (λ (x : List TraceLine). IsRead (before ++ x) (seen s x) c) (sym is) (still_read (lines_of p q (pump_notes A n (link_at s p q))) before s c (sent_still p q A (bursts n (link_at s p q).a).chars) h)
+    subst (λ (x : List TraceLine). IsRead (before ++ x) (seen s x) c) (sym is)
+    (still_read (lines_of p q (pump_notes A n (link_at s p q))) before s c
+    (sent_still p q A (bursts n (link_at s p q).a).chars) h)
+part_read {s} before c good (Tells p q peer none is) h =
+    subst (λ (x : List TraceLine). IsRead (before ++ x) (seen s x) c) (sym is)
+    (still_read (lines_of p q (tell_notes A (link_at s p q))) before s c
+    (sent_still p q A (tell_sends (link_at s p q).a).chars) h)
 part_read {s} before c good (Delivers p q n peer none has is) h =
-    subst (λ (x : List TraceLine). IsRead (before ++ x) (seen s x) c) (sym is) (delivery_read before s p q c n (good_peers p q good peer).back none has h)
+    subst (λ (x : List TraceLine). IsRead (before ++ x) (seen s x) c) (sym is)
+    (delivery_read before s p q c n (good_peers p q good peer).back none has h)
 part_read {s} before c good (Fires p q peer none silent is) h =
-    subst (λ (x : List TraceLine). IsRead (before ++ x) (seen s x) c) (sym is) (still_read (lines_of p q (time_out_notes A (link_at s p q))) before s c (fired_still p q (is_silent (link_at s p q))) h)
+    subst (λ (x : List TraceLine). IsRead (before ++ x) (seen s x) c) (sym is)
+    (still_read (lines_of p q (time_out_notes A (link_at s p q))) before s c
+    (fired_still p q (is_silent (link_at s p q))) h)
 
-pub made_read : {s : Seen} {lines : List TraceLine} (before : List TraceLine) (c : PortRef) → IsGood s → Made s lines → IsRead before s c → IsRead (before ++ lines) (seen s lines) c
-made_read {s} before c good (Done is) h = subst (λ (x : List TraceLine). IsRead (before ++ x) (seen s x) c) (sym is) (subst (λ (x : List TraceLine). IsRead x s c) (sym (append-nil before)) h)
+pub made_read : {s : Seen} {lines : List TraceLine} (before : List TraceLine) (c : PortRef)
+    → IsGood s → Made s lines → IsRead before s c → IsRead (before ++ lines) (seen s lines) c
+made_read {s} before c good (Done is) h =
+    subst (λ (x : List TraceLine). IsRead (before ++ x) (seen s x) c) (sym is)
+    (subst (λ (x : List TraceLine). IsRead x s c) (sym (append-nil before)) h)
 made_read {s} before c good (Then first rest is own more) h =
     let one = part_read before c good own h in
     let two = made_read (before ++ first) c (part_keeps good own).good more one in
     subst (λ (x : List TraceLine). IsRead (before ++ x) (seen s x) c) (sym is)
     (subst (λ (x : Seen). IsRead (before ++ (first ++ rest)) x c) (sym (seen-append s first rest))
-    (subst (λ (x : List TraceLine). IsRead x (seen (seen s first) rest) c) (append_assoc before first rest) two))
+    (subst (λ (x : List TraceLine). IsRead x (seen (seen s first) rest) c)
+    (append_assoc before first rest) two))

@@ -15,7 +15,8 @@ use Rattle.fabric_trace.specs.Lines.{TraceLine}
 use Rattle.fabric_trace.specs.Known.{Seen, link_at}
 use Rattle.fabric_trace.specs.Blocks.{lines_of}
 use Rattle.fabric_trace.specs.Noted.{is_noting, FreesNoted}
-use Rattle.fabric_trace.specs.Parts.{Part, Begins, Lacks, Ends, Names, Steps, Serves, Turns, Delivers, Fires, Made, Done, Then}
+use Rattle.fabric_trace.specs.Parts.{Part, Begins, Lacks, Ends, Names, Steps, Serves, Turns, Tells, Delivers, Fires, Made, Done, Then}
+use Rattle.link_port.specs.Turns.{tell_sends}
 
 sent_noted : (c a b : PortRef) (side : Side) (chars : List Char) (now : Bool)
     → FreesNoted c now (lines_of a b (sent_notes side chars))
@@ -47,9 +48,12 @@ part_noted c now s lines (Steps step needs few is) = by_lines c now lines _ is (
 part_noted c now s lines (Serves step needs is) = by_lines c now lines _ is (tt, tt)
 part_noted c now s lines (Turns p q n peer none is) =
     by_lines c now lines _ is (sent_noted c p q A (bursts n (link_at s p q).a).chars now)
+part_noted c now s lines (Tells p q peer none is) =
+    by_lines c now lines _ is (sent_noted c p q A (tell_sends (link_at s p q).a).chars now)
 part_noted c now s lines (Delivers p q n peer none has is) =
     let told = told_of (delivery_from A n (link_at s p q)) in
-    by_lines c now lines _ (is ∙ ap (λ x. lines_of p q (if x then told_notes B (take n (s.wires p).chars) told else [])) has)
+    by_lines c now lines _ (is
+    ∙ ap (λ x. lines_of p q (if x then told_notes B (take n (s.wires p).chars) told else [])) has)
     (tt, moves_noted c p q told.moves (answers told.replies).chars)
 part_noted c now s lines (Fires p q peer none silent is) =
     by_lines c now lines _ is (fire_noted c p q (is_silent (link_at s p q)) now)
@@ -68,7 +72,8 @@ pub made_noted : (c : PortRef) (now : Bool) {s : Seen} {lines : List TraceLine} 
 made_noted c now {s} {lines} (Done is) = by_lines c now lines [] is tt
 made_noted c now {s} {lines} (Then first rest is own more) =
     by_lines c now lines (first ++ rest) is
-    (noted-append c first rest now (part_noted c now s first own) (made_noted c (is_noting_all c now first) more))
+    (noted-append c first rest now (part_noted c now s first own)
+    (made_noted c (is_noting_all c now first) more))
 
 pub noted_front : (c : PortRef) (xs ys : List TraceLine) (now : Bool) → FreesNoted c now (xs ++ ys)
     → FreesNoted c now xs

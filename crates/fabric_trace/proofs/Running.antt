@@ -1,21 +1,12 @@
 -- Blocks and runs are made of parts; what a script sets up is good.
-use Rattle.std.proofs.Common.{◌≡◌, ℕ, ◌&&◌, ◌++◌, Bool, true, false, List, [], ◌∷◌, Option, Some, None, refl, sym, ap, ◌∙◌, subst, if◌then◌else◌}
-use Rattle.link_model.specs.declared.event.Event.{Event}
+use Rattle.std.proofs.Common.{◌≡◌, ℕ, Bool, true, false, List, [], ◌∷◌, Option, Some, None, refl, ap, if◌then◌else◌}
 use Rattle.rio_packets.specs.Fields.{prio_of}
 use Rattle.rio_packets.specs.LinkForm.{Passes}
 use Rattle.rio_packets.proofs.FormLaws.{Passes-from_form}
-use Rattle.std.proofs.lemmas.List.{append-nil}
-use Rattle.link_watch.specs.declared.note.Note.{Note}
-use Rattle.link_watch.specs.declared.note.Note.TheVariants as Notes
-use Rattle.link_watch.specs.declared.side.Side.{Side}
-use Rattle.link_watch.specs.declared.side.Side.TheVariants.{A, B}
-use Rattle.link_wires.specs.Deliveries.{Delivered, Through, Undetected as Unsent}
-use Rattle.link_wires.specs.Wires.{bursts, fits}
+use Rattle.link_watch.specs.declared.side.Side.TheVariants.{A}
+use Rattle.link_wires.specs.Wires.{fits}
 use Rattle.link_wires.specs.declared.edits.Edit.{Edit}
-use Rattle.link_machine.specs.States.{LinkState, turned_round}
-use Rattle.link_machine.specs.Calls.{first_takes, has_chars, delivery_from, delivery_notes, has_none, is_silent, first_fires, time_out_notes}
-use Rattle.link_rest.specs.Acts.{Act, Pump as PumpAct, Deliver as DeliverAct, Fire, Reached, At, Found as FoundAt, reached_by, after, goes, act_notes, acts_notes}
-use Rattle.link_watch.specs.Sides.{other_side}
+use Rattle.link_machine.specs.Calls.{has_chars, delivery_notes, is_silent, time_out_notes}
 use Rattle.fabric_script.specs.Lines.{is_event}
 use Rattle.switch_core.specs.declared.switch.Step as switch
 use Rattle.switch_core.specs.declared.switch.Step.TheVariants.{Moved, Dropped, Answered, Nothing}
@@ -25,7 +16,7 @@ use Rattle.switch_core.specs.SwitchSteps.{step_of}
 use Rattle.switch_core.specs.EndpointSteps.{collected}
 use Rattle.fabric_script.specs.declared.ports.PortRef.{PortRef}
 use Rattle.fabric_script.specs.declared.lines.Line.{Line}
-use Rattle.fabric_script.specs.declared.lines.Line.TheVariants.{Endpoint, Switch, Link, Buffers, Route, Default, Lock, Large, Send, Read, Write, Pump, Deliver, Alter, Insert, Erase, Timeout, Settle, Move, Collect, Run, Send16, Read16, Write16}
+use Rattle.fabric_script.specs.declared.lines.Line.TheVariants.{Endpoint, Switch, Link, Buffers, Route, Default, Lock, Large, Send, Read, Write, Pump, Deliver, Alter, Insert, Erase, Timeout, Settle, Move, Collect, Run, Send16, Read16, Write16, Credits}
 use Rattle.fabric_script.specs.declared.lines.Numbered.{Numbered}
 use Rattle.fabric_model.specs.Network.{IsEndpoint, link_in, port_of, room_out}
 use Rattle.fabric_model.specs.Steps.{Take, Leave, Move as MoveOn, Drop, Answer, AtNode}
@@ -34,256 +25,143 @@ use Rattle.fabric_trace.specs.Lines.{TraceLine, Begun, Stepped, Lacked, Full, Em
 use Rattle.fabric_trace.specs.Known.{Seen, Found, peer_of, link_at}
 use Rattle.fabric_trace.specs.Fold.{edit_of, edited_by, seen}
 use Rattle.fabric_trace.specs.Served.{face_in, faces_in, step_lines, HasForm, IsMove, collect_lines, HasResponseForm, IsCollect}
-use Rattle.fabric_trace.specs.Blocks.{takes, Sends, port_at_side, lines_of, pumps, delivers, times_out, edits, IsSettle, WithPeer, WithLink, IsBlock}
+use Rattle.fabric_trace.specs.Blocks.{takes, Sends, lines_of, pumps, delivers, times_out, edits, IsSettle, WithPeer, WithLink, IsBlock}
 use Rattle.fabric_trace.specs.Rounds.{Follows, Rounds}
 use Rattle.fabric_trace.specs.Runs.{BlockThen, Names as NamesLast, RunsFrom}
 use Rattle.fabric_trace.specs.Parts.{Begins, Lacks, Ends, Names, Steps, Serves, Turns, Delivers, Fires, Made, Done, Then}
 use Rattle.fabric_trace.proofs.Faces.{StepNeeds, step_needs, CollectNeeds, collect_needs}
-use Rattle.fabric_trace.proofs.Folding.{seen-append, lines-append}
-use Rattle.fabric_trace.proofs.Keeping.{few_prio, IsGood, good_by_priority, legal_links, made_keeps}
-use Rattle.fabric_trace.proofs.Making.{AreOthers, others_here, others_on, others_round, Reaches, at_is, one_part, made-append, made_by, sent_round, delivery_round, pump_reaches, fire_reaches, deliver_reaches}
+use Rattle.fabric_trace.proofs.Keeping.{few_prio, IsGood, good_by_priority, made_keeps}
+use Rattle.fabric_trace.proofs.Making.{one_part, made-append, made_by}
 use Rattle.fabric_trace.proofs.Rounds.{by_test, rounds_come}
-use Rattle.fabric_trace.proofs.Walks.{peers_round}
-
--- ---- what is done at either end
-
--- how far a link has come, its other end first
-abbrev round : Reached → Reached
-round (At m) = At (turned_round m)
-round (FoundAt side e) = FoundAt (other_side side) e
-
-round_back : (to : Reached) (m : LinkState) → round to ≡ At m → to ≡ At (turned_round m)
-round_back (At x) m is = ap round is
-round_back (FoundAt side e) m is = absurd cc
-
-round_found : (to : Reached) (side : Side) (e : Event) → round to ≡ FoundAt side e → to ≡ FoundAt (other_side side) e
-round_found (At x) side e is = absurd cc
-round_found (FoundAt A x) side e is = ap round is
-round_found (FoundAt B x) side e is = ap round is
-
-side_round : (a b : PortRef) (side : Side) → port_at_side b a (other_side side) ≡ port_at_side a b side
-side_round a b A = refl
-side_round a b B = refl
-
-reaches_by : (s : Seen) (a b : PortRef) (lines other : List TraceLine) (to next : Reached) → other ≡ lines → next ≡ to → Reaches s a b lines to → Reaches s a b other next
-reaches_by s a b lines other to next same is r =
-    subst (λ (x : Reached). Reaches s a b other x) (sym is) (subst (λ (x : List TraceLine). Reaches s a b x to) (sym same) r)
-
-reaches_round : (s : Seen) (a b : PortRef) (lines other : List TraceLine) (to turned : Reached) → other ≡ lines → turned ≡ round to → Reaches s b a lines to → Reaches s a b other turned
-reaches_round s a b lines other to turned same is r = record {
-  made = made_by same r.made;
-  others = subst (λ (l : List TraceLine). AreOthers s (seen s l) a b) (sym same) (others_round r.others);
-  there = λ m at.
-      let t = r.there (turned_round m) (round_back to m (sym is ∙ at)) in (
-        ap (λ (l : List TraceLine). (seen s l).unfaithful) same ∙ t.0,
-        ap (λ (l : List TraceLine). link_at (seen s l) a b) same ∙ ap turned_round t.1,
-      );
-  found = λ side e at.
-      ap (λ (l : List TraceLine). (seen s l).unfaithful) same ∙ r.found (other_side side) e (round_found to side e (sym is ∙ at))
-      ∙ ap (λ (p : PortRef). Some (record { port = p; event = e })) (side_round a b side);
-}
-
-delivered_round : (l : LinkState) (d : Delivered) → reached_by A l d ≡ round (reached_by B (turned_round l) d)
-delivered_round l (Through flow) = refl
-delivered_round l (Unsent told e) = refl
-
-deliver_round : (n : ℕ) (l : LinkState) → after (DeliverAct B n) l ≡ round (after (DeliverAct A n) (turned_round l))
-deliver_round n l =
-    elim (has_chars B n l) as (λ x. (if x then reached_by A (if x then first_takes n l else l) (delivery_from B n l) else At l)
-    ≡ round (if x then reached_by B (if x then turned_round (first_takes n l) else turned_round l) (delivery_from B n l) else At (turned_round l))) [
-      | true ↦ delivered_round (first_takes n l) (delivery_from B n l)
-      | false ↦ refl
-    ]
-
-fire_round : (l : LinkState) → after (Fire B) l ≡ round (after (Fire A) (turned_round l))
-fire_round l =
-    elim (has_none l.wire_a.chars) as (λ x. At (if x && has_none l.wire_b.chars then turned_round (first_fires (turned_round l)) else l)
-    ≡ At (turned_round (if has_none l.wire_b.chars && x then first_fires (turned_round l) else turned_round l))) [
-      | true ↦ elim (has_none l.wire_b.chars) as (λ y. At (if true && y then turned_round (first_fires (turned_round l)) else l)
-          ≡ At (turned_round (if y && true then first_fires (turned_round l) else turned_round l))) [ true ↦ refl | false ↦ refl ]
-      | false ↦ elim (has_none l.wire_b.chars) as (λ y. At (if false && y then turned_round (first_fires (turned_round l)) else l)
-          ≡ At (turned_round (if y && false then first_fires (turned_round l) else turned_round l))) [ true ↦ refl | false ↦ refl ]
-    ]
-
-pub silent_round : (l : LinkState) → is_silent l ≡ is_silent (turned_round l)
-silent_round l =
-    elim (has_none l.wire_a.chars) as (λ x. (x && has_none l.wire_b.chars) ≡ (has_none l.wire_b.chars && x)) [
-      | true ↦ elim (has_none l.wire_b.chars) as (λ y. (true && y) ≡ (y && true)) [ true ↦ refl | false ↦ refl ]
-      | false ↦ elim (has_none l.wire_b.chars) as (λ y. (false && y) ≡ (y && false)) [ true ↦ refl | false ↦ refl ]
-    ]
-
-fired_lines : (a b : PortRef) (x : Bool) → lines_of a b (if x then Notes.Fire B ∷ [] else []) ≡ lines_of b a (if x then Notes.Fire A ∷ [] else [])
-fired_lines a b true = refl
-fired_lines a b false = refl
-
-pub fired_round : (a b : PortRef) (l : LinkState) → lines_of a b (time_out_notes B l) ≡ lines_of b a (time_out_notes A (turned_round l))
-fired_round a b l = fired_lines a b (is_silent l) ∙ ap (λ x. lines_of b a (if x then Notes.Fire A ∷ [] else [])) (silent_round l)
-
-pub act_reaches : (s : Seen) (a b : PortRef) (act : Act) → IsGood s → s.unfaithful ≡ None → ArePeers s.network.links a b
-    → Reaches s a b (lines_of a b (act_notes act (link_at s a b))) (after act (link_at s a b))
-act_reaches s a b (PumpAct A n) good none peers = pump_reaches s a b n good none peers
-act_reaches s a b (PumpAct B n) good none peers =
-    reaches_round s a b _ _ _ _ (sent_round a b (bursts n (link_at s b a).a).chars) refl (pump_reaches s b a n good none (peers_round peers))
-act_reaches s a b (DeliverAct A n) good none peers = deliver_reaches s a b n good none peers
-act_reaches s a b (DeliverAct B n) good none peers =
-    reaches_round s a b _ _ _ _ (delivery_round a b n (link_at s a b)) (deliver_round n (link_at s a b)) (deliver_reaches s b a n good none (peers_round peers))
-act_reaches s a b (Fire A) good none peers = fire_reaches s a b good none peers
-act_reaches s a b (Fire B) good none peers =
-    reaches_round s a b _ _ _ _ (fired_round a b (link_at s a b)) (fire_round (link_at s a b)) (fire_reaches s b a good none (peers_round peers))
-
-found_notes : (side : Side) (e : Event) (acts : List Act) → acts_notes (FoundAt side e) acts ≡ []
-unfolding acts_notes
-found_notes side e [] = refl
-found_notes side e (act ∷ acts) = refl
-
-none_notes : (reached : Reached) → acts_notes reached [] ≡ []
-unfolding acts_notes
-none_notes reached = refl
-
-more_notes : (l : LinkState) (act : Act) (acts : List Act) → acts_notes (At l) (act ∷ acts) ≡ act_notes act l ++ acts_notes (after act l) acts
-unfolding acts_notes
-more_notes l act acts = refl
-
-found_goes : (side : Side) (e : Event) (acts : List Act) → goes (FoundAt side e) acts ≡ FoundAt side e
-unfolding goes
-found_goes side e [] = refl
-found_goes side e (act ∷ acts) = refl
-
-none_goes : (reached : Reached) → goes reached [] ≡ reached
-unfolding goes
-none_goes reached = refl
-
-more_goes : (l : LinkState) (act : Act) (acts : List Act) → goes (At l) (act ∷ acts) ≡ goes (after act l) acts
-unfolding goes
-more_goes l act acts = refl
-
--- what leads to a link, and then what is done from there
-reaches_more : (s : Seen) (a b : PortRef) (first : List TraceLine) (to : Reached) (acts : List Act) → Reaches s a b first to
-    → ((m : LinkState) → (seen s first).unfaithful ≡ None → link_at (seen s first) a b ≡ m → Reaches (seen s first) a b (lines_of a b (acts_notes (At m) acts)) (goes (At m) acts))
-    → Reaches s a b (first ++ lines_of a b (acts_notes to acts)) (goes to acts)
-reaches_more s a b first (At m) acts one more =
-    let t = one.there m refl in
-    let rest = more m t.0 t.1 in
-    let all = lines_of a b (acts_notes (At m) acts) in
-    let joined = seen-append s first all in
-    record {
-      made = made-append one.made rest.made;
-      others = subst (λ (x : Seen). AreOthers s x a b) (sym joined) (others_on one.others rest.others);
-      there = λ n is. (
-        ap (λ (x : Seen). x.unfaithful) joined ∙ (rest.there n is).0,
-        ap (λ (x : Seen). link_at x a b) joined ∙ (rest.there n is).1,
-      );
-      found = λ side e is. ap (λ (x : Seen). x.unfaithful) joined ∙ rest.found side e is;
-    }
-reaches_more s a b first (FoundAt side e) acts one more =
-    let none : first ++ lines_of a b (acts_notes (FoundAt side e) acts) ≡ first = ap (λ (l : List Note). first ++ lines_of a b l) (found_notes side e acts) ∙ append-nil first in
-    reaches_by s a b first _ (FoundAt side e) _ none (found_goes side e acts) one
-
--- whatever is done on a link is made of parts
-pub acts_reach : (acts : List Act) (s : Seen) (a b : PortRef) → IsGood s → s.unfaithful ≡ None → ArePeers s.network.links a b
-    → Reaches s a b (lines_of a b (acts_notes (At (link_at s a b)) acts)) (goes (At (link_at s a b)) acts)
-acts_reach [] s a b good none peers =
-    let lines : lines_of a b (acts_notes (At (link_at s a b)) []) ≡ [] = ap (lines_of a b) (none_notes (At (link_at s a b))) in
-    let to = none_goes (At (link_at s a b)) in
-    record {
-      made = Done lines;
-      others = subst (λ (l : List TraceLine). AreOthers s (seen s l) a b) (sym lines) (others_here s a b);
-      there = λ m is. (
-        ap (λ (l : List TraceLine). (seen s l).unfaithful) lines ∙ none,
-        ap (λ (l : List TraceLine). link_at (seen s l) a b) lines ∙ at_is (link_at s a b) m (sym to ∙ is),
-      );
-      found = λ side e is. absurd (cc (to, is));
-    }
-acts_reach (act ∷ acts) s a b good none peers =
-    let l = link_at s a b in
-    let one = act_reaches s a b act good none peers in
-    let kept = made_keeps good one.made in
-    let links = legal_links s.network _ _ kept.legal in
-    let t = seen s (lines_of a b (act_notes act l)) in
-    let there = subst (λ (x : List (PortRef × PortRef)). ArePeers x a b) (sym links) peers in
-    reaches_by s a b _ _ _ _
-    (ap (lines_of a b) (more_notes l act acts) ∙ lines-append a b (act_notes act l) (acts_notes (after act l) acts)) (more_goes l act acts)
-    (reaches_more s a b (lines_of a b (act_notes act l)) (after act l) acts one
-    (λ m still is. subst (λ (x : LinkState). Reaches t a b (lines_of a b (acts_notes (At x) acts)) (goes (At x) acts)) is (acts_reach acts t a b kept.good still there)))
+pub use Rattle.fabric_trace.proofs.EitherEnd.{acts_reach, fired_round, silent_round}
 
 -- ---- blocks
 
-takes_made : (s : Seen) (node : ℕ) (packet : List ℕ) → IsEndpoint s.network node → Passes packet → Made s (takes s node packet)
-takes_made s node packet endpoint passes = by_room (room_out s.network (port_of node) (prio_of packet)) refl
+takes_made : (s : Seen) (node : ℕ) (packet : List ℕ) → IsEndpoint s.network node → Passes packet
+    → Made s (takes s node packet)
+takes_made s node packet endpoint passes =
+    by_room (room_out s.network (port_of node) (prio_of packet)) refl
   where
-    by_room : (x : Bool) → room_out s.network (port_of node) (prio_of packet) ≡ x → Made s (if x then Stepped (AtNode (Take node packet)) ∷ [] else Lacked Full ∷ [])
-    by_room true is = one_part (Steps (Take node packet) (endpoint, passes, is) (few_prio packet passes) refl)
+    by_room : (x : Bool) → room_out s.network (port_of node) (prio_of packet) ≡ x
+        → Made s (if x then Stepped (AtNode (Take node packet)) ∷ [] else Lacked Full ∷ [])
+    by_room true is =
+        one_part (Steps (Take node packet) (endpoint, passes, is) (few_prio packet passes) refl)
     by_room false is = one_part (Lacks Full refl)
 
-sends_made : (s : Seen) (node : ℕ) (body : List ℕ) (block : List TraceLine) → Sends s node body block → Made s block
-sends_made s node body block is = made_by is.lines (takes_made s node is.packet is.endpoint (Passes-from_form body is.packet is.form))
+sends_made : (s : Seen) (node : ℕ) (body : List ℕ) (block : List TraceLine)
+    → Sends s node body block → Made s block
+sends_made s node body block is =
+    made_by is.lines (takes_made s node is.packet is.endpoint
+    (Passes-from_form body is.packet is.form))
 
 -- a switch makes a step, or none of its packets can go
-step_made : (s : Seen) (node : ℕ) (step : switch.Step) → HasForm step → StepNeeds s.network node step → Made s (step_lines node step)
+step_made : (s : Seen) (node : ℕ) (step : switch.Step) → HasForm step
+    → StepNeeds s.network node step → Made s (step_lines node step)
 step_made s node (Moved from to packet) form needs =
-    one_part (Serves (MoveOn (record { node = node; port = from }) (record { node = node; port = to }) packet) needs refl)
-step_made s node (Dropped from packet) form needs = one_part (Serves (Drop (record { node = node; port = from }) packet) needs refl)
+    one_part (Serves (MoveOn (record {
+      node = node;
+      port = from;
+    }) (record { node = node; port = to }) packet) needs refl)
+step_made s node (Dropped from packet) form needs =
+    one_part (Serves (Drop (record { node = node; port = from }) packet) needs refl)
 step_made s node (Answered port request response) form needs =
-    one_part (Serves (Answer (record { node = node; port = port }) request response) (needs form) refl)
+    one_part (Serves (Answer (record {
+      node = node;
+      port = port;
+    }) request response) (needs form) refl)
 step_made s node Nothing form needs = one_part (Lacks NoStep refl)
 
-pub move_made : (s : Seen) (node : ℕ) (block : List TraceLine) → IsGood s → IsMove s.network node block → Made s block
+pub move_made : (s : Seen) (node : ℕ) (block : List TraceLine) → IsGood s
+    → IsMove s.network node block → Made s block
 move_made s node block good is =
     let net = s.network in
     made_by is.lines (step_made s node (step_of is.device (faces_in net node is.device)) is.form
     (step_needs net node is.device (good_by_priority good) is.stands is.switch))
 
 -- an endpoint collects a packet, or there is none, or no room for its answer
-collected_made : (s : Seen) (node : ℕ) (what : Collected) → HasResponseForm what → CollectNeeds s.network node what → Made s (collect_lines node what)
-collected_made s node (Collects.Left packet) form needs = one_part (Steps (Leave node packet) needs.1 needs.0 refl)
-collected_made s node (Collects.Answered request response) form needs = one_part (Serves (Answer (port_of node) request response) (needs form) refl)
+collected_made : (s : Seen) (node : ℕ) (what : Collected) → HasResponseForm what
+    → CollectNeeds s.network node what → Made s (collect_lines node what)
+collected_made s node (Collects.Left packet) form needs =
+    one_part (Steps (Leave node packet) needs.1 needs.0 refl)
+collected_made s node (Collects.Answered request response) form needs =
+    one_part (Serves (Answer (port_of node) request response) (needs form) refl)
 collected_made s node Collects.Empty form needs = one_part (Lacks Empty refl)
 collected_made s node Collects.Full form needs = one_part (Lacks Full refl)
 
-collect_made : (s : Seen) (node : ℕ) (block : List TraceLine) → IsGood s → IsCollect s.network node block → Made s block
+collect_made : (s : Seen) (node : ℕ) (block : List TraceLine) → IsGood s
+    → IsCollect s.network node block → Made s block
 collect_made s node block good is =
     let net = s.network in
-    made_by is.lines (collected_made s node (collected is.device (face_in net (port_of node))) is.form
+    made_by is.lines (collected_made s node (collected is.device (face_in net (port_of node)))
+    is.form
     (collect_needs net node is.device (good_by_priority good) is.stands is.endpoint))
 
-peer_made : (s : Seen) (p : PortRef) (peer : Option PortRef) (lines : PortRef → List TraceLine) (block : List TraceLine) → peer_of s p ≡ peer → WithPeer peer lines block
+peer_made : (s : Seen) (p : PortRef) (peer : Option PortRef) (lines : PortRef → List TraceLine)
+    (block : List TraceLine) → peer_of s p ≡ peer → WithPeer peer lines block
     → ((q : PortRef) → peer_of s p ≡ Some q → Made s (lines q)) → Made s block
 peer_made s p None lines block is with made = absurd with
 peer_made s p (Some q) lines block is with made = made_by with (made q is)
 
-delivers_made : (s : Seen) (p : PortRef) (n : ℕ) (q : PortRef) → s.unfaithful ≡ None → peer_of s p ≡ Some q → Made s (delivers s p n q)
+delivers_made : (s : Seen) (p : PortRef) (n : ℕ) (q : PortRef) → s.unfaithful ≡ None
+    → peer_of s p ≡ Some q → Made s (delivers s p n q)
 delivers_made s p n q none peer = by_chars (has_chars A n (link_at s p q)) refl
   where
     by_chars : (x : Bool) → has_chars A n (link_at s p q) ≡ x → Made s (delivers s p n q)
-    by_chars true is = one_part (Delivers p q n peer none is (ap (λ x. if x then lines_of p q (delivery_notes A n (link_at s p q)) else Lacked Short ∷ []) is))
-    by_chars false is = one_part (Lacks Short (ap (λ x. if x then lines_of p q (delivery_notes A n (link_at s p q)) else Lacked Short ∷ []) is))
+    by_chars true is =
+        one_part (Delivers p q n peer none is
+        (ap (λ x. if x then lines_of p q (delivery_notes A n (link_at s p q)) else Lacked Short
+        ∷ []) is))
+    by_chars false is =
+        one_part (Lacks Short (ap
+        (λ x. if x then lines_of p q (delivery_notes A n (link_at s p q)) else Lacked Short ∷ [])
+        is))
 
-times_out_made : (s : Seen) (p q : PortRef) → s.unfaithful ≡ None → peer_of s p ≡ Some q → Made s (times_out s p q)
+times_out_made : (s : Seen) (p q : PortRef) → s.unfaithful ≡ None → peer_of s p ≡ Some q
+    → Made s (times_out s p q)
 times_out_made s p q none peer = by_silence (is_silent (link_at s p q)) refl
   where
     by_silence : (x : Bool) → is_silent (link_at s p q) ≡ x → Made s (times_out s p q)
-    by_silence true is = one_part (Fires p q peer none is (ap (λ x. if x then lines_of p q (time_out_notes A (link_at s p q)) else Lacked Early ∷ []) is))
-    by_silence false is = one_part (Lacks Early (ap (λ x. if x then lines_of p q (time_out_notes A (link_at s p q)) else Lacked Early ∷ []) is))
+    by_silence true is =
+        one_part (Fires p q peer none is
+        (ap (λ x. if x then lines_of p q (time_out_notes A (link_at s p q)) else Lacked Early ∷ [])
+        is))
+    by_silence false is =
+        one_part (Lacks Early (ap
+        (λ x. if x then lines_of p q (time_out_notes A (link_at s p q)) else Lacked Early ∷ []) is))
 
 edits_made : (s t : Seen) (edit : Option (PortRef × Edit)) → Made t (edits s edit)
 edits_made s t None = Done refl
 edits_made s t (Some edit) =
-    elim (fits edit.1 (s.wires edit.0).chars) as (λ x. Made t (if x then [] else Lacked Short ∷ [])) [ true ↦ Done refl | false ↦ one_part (Lacks Short refl) ]
+    elim (fits edit.1 (s.wires edit.0).chars) as (λ x. Made t
+    (if x then [] else Lacked Short ∷ [])) [
+      | true ↦ Done refl
+      | false ↦
+          one_part (Lacks Short refl)
+    ]
 
-pub link_made : (s : Seen) (a b : PortRef) (block : List TraceLine) → IsGood s → s.unfaithful ≡ None → ArePeers s.network.links a b → IsSettle s a b block → Made s block
-link_made s a b block good none peers settles = made_by settles.lines (acts_reach settles.acts s a b good none peers).made
+pub link_made : (s : Seen) (a b : PortRef) (block : List TraceLine) → IsGood s → s.unfaithful ≡ None
+    → ArePeers s.network.links a b → IsSettle s a b block → Made s block
+link_made s a b block good none peers settles =
+    made_by settles.lines (acts_reach settles.acts s a b good none peers).made
 
-settle_made : (s : Seen) (port : PortRef) (link : Option (PortRef × PortRef)) (block : List TraceLine) → IsGood s → s.unfaithful ≡ None → link_in s.network.links port ≡ link
+settle_made : (s : Seen) (port : PortRef) (link : Option (PortRef × PortRef))
+    (block : List TraceLine) → IsGood s → s.unfaithful ≡ None → link_in s.network.links port ≡ link
     → WithLink link (IsSettle s) block → Made s block
 settle_made s port None block good none is settles = absurd settles
 settle_made s port (Some link) block good none is settles =
-    link_made s link.0 link.1 block good none (link_peers s.network.links port link good.proper is) settles
+    link_made s link.0 link.1 block good none (link_peers s.network.links port link good.proper is)
+    settles
 
-rounds_made : (s : Seen) (n : ℕ) (block : List TraceLine) → IsGood s → s.unfaithful ≡ None → Rounds IsSettle n s block → Made s block
+rounds_made : (s : Seen) (n : ℕ) (block : List TraceLine) → IsGood s → s.unfaithful ≡ None
+    → Rounds IsSettle n s block → Made s block
 rounds_made s n block good none rounds =
-    (rounds_come IsSettle IsSettle (λ s a b lines good none peers settles. (link_made s a b lines good none peers settles, settles)) move_made n s block good none rounds).0
+    (rounds_come IsSettle IsSettle
+    (λ s a b lines good none peers
+    settles. (link_made s a b lines good none peers settles, settles)) move_made n s block good none
+    rounds).0
 
-pub block_made : (line : Line) (s : Seen) (block : List TraceLine) → IsGood s → s.unfaithful ≡ None → IsBlock s line block → Made (edited_by s (edit_of line)) block
+pub block_made : (line : Line) (s : Seen) (block : List TraceLine) → IsGood s → s.unfaithful ≡ None
+    → IsBlock s line block → Made (edited_by s (edit_of line)) block
 block_made (Endpoint name id) s block good none is = absurd is
 block_made (Switch name ports) s block good none is = absurd is
 block_made (Link a b) s block good none is = absurd is
@@ -292,45 +170,67 @@ block_made (Route node id p) s block good none is = absurd is
 block_made (Default node p) s block good none is = absurd is
 block_made (Lock node id) s block good none is = absurd is
 block_made (Large node id) s block good none is = absurd is
+block_made (Credits port) s block good none is = absurd is
 block_made (Send node prio ftype dest hex) s block good none is = sends_made s node _ block is
 block_made (Read node prio dest hop tid offset) s block good none is = sends_made s node _ block is
-block_made (Write node prio dest hop tid offset value) s block good none is = sends_made s node _ block is
+block_made (Write node prio dest hop tid offset value) s block good none is =
+    sends_made s node _ block is
 block_made (Send16 node prio ftype dest hex) s block good none is = sends_made s node _ block is
-block_made (Read16 node prio dest hop tid offset) s block good none is = sends_made s node _ block is
-block_made (Write16 node prio dest hop tid offset value) s block good none is = sends_made s node _ block is
+block_made (Read16 node prio dest hop tid offset) s block good none is =
+    sends_made s node _ block is
+block_made (Write16 node prio dest hop tid offset value) s block good none is =
+    sends_made s node _ block is
 block_made (Pump port n) s block good none is =
-    peer_made s port (peer_of s port) (pumps s port n) block refl is (λ q peer. one_part (Turns port q n peer none refl))
+    peer_made s port (peer_of s port) (pumps s port n) block refl is
+    (λ q peer. one_part (Turns port q n peer none refl))
 block_made (Deliver port n) s block good none is =
-    peer_made s port (peer_of s port) (delivers s port n) block refl is (λ q peer. delivers_made s port n q none peer)
-block_made (Alter port place ch) s block good none is = made_by is (edits_made s _ (edit_of (Alter port place ch)))
-block_made (Insert port place ch) s block good none is = made_by is (edits_made s _ (edit_of (Insert port place ch)))
-block_made (Erase port place n) s block good none is = made_by is (edits_made s _ (edit_of (Erase port place n)))
+    peer_made s port (peer_of s port) (delivers s port n) block refl is
+    (λ q peer. delivers_made s port n q none peer)
+block_made (Alter port place ch) s block good none is =
+    made_by is (edits_made s _ (edit_of (Alter port place ch)))
+block_made (Insert port place ch) s block good none is =
+    made_by is (edits_made s _ (edit_of (Insert port place ch)))
+block_made (Erase port place n) s block good none is =
+    made_by is (edits_made s _ (edit_of (Erase port place n)))
 block_made (Timeout port) s block good none is =
-    peer_made s port (peer_of s port) (times_out s port) block refl is (λ q peer. times_out_made s port q none peer)
-block_made (Settle port) s block good none is = settle_made s port (link_in s.network.links port) block good none refl is
+    peer_made s port (peer_of s port) (times_out s port) block refl is
+    (λ q peer. times_out_made s port q none peer)
+block_made (Settle port) s block good none is =
+    settle_made s port (link_in s.network.links port) block good none refl is
 block_made (Move node) s block good none is = move_made s node block good is
 block_made (Collect node) s block good none is = collect_made s node block good is
 block_made (Run n) s block good none is = rounds_made s n block good none is
 
 -- ---- runs
 
-follows_made : (t : Seen) (found : Option Found) (More : List TraceLine → Type 0) (number : ℕ) (rest : List TraceLine) → t.unfaithful ≡ found
-    → (t.unfaithful ≡ None → More rest → Made t rest) → Follows found More (NamesLast number) rest → Made t rest
+follows_made : (t : Seen) (found : Option Found) (More : List TraceLine → Type 0) (number : ℕ)
+    (rest : List TraceLine) → t.unfaithful ≡ found
+    → (t.unfaithful ≡ None → More rest → Made t rest) → Follows found More (NamesLast number) rest
+    → Made t rest
 follows_made t None More number rest is more follows = more is follows
-follows_made t (Some found) More number rest is more follows = one_part (Names number found.port found.event is follows)
+follows_made t (Some found) More number rest is more follows =
+    one_part (Names number found.port found.event is follows)
 
-event_made : (s : Seen) (line : Line) (number : ℕ) (More : Seen → List TraceLine → Type 0) (lines : List TraceLine) → IsGood s → s.unfaithful ≡ None
-    → ((t : Seen) (rest : List TraceLine) → IsGood t → t.unfaithful ≡ None → More t rest → Made t rest) → BlockThen More (NamesLast number) s line lines → Made s lines
+event_made : (s : Seen) (line : Line) (number : ℕ) (More : Seen → List TraceLine → Type 0)
+    (lines : List TraceLine) → IsGood s → s.unfaithful ≡ None
+    → ((t : Seen) (rest : List TraceLine) → IsGood t → t.unfaithful ≡ None → More t rest
+    → Made t rest) → BlockThen More (NamesLast number) s line lines → Made s lines
 event_made s line number More lines good none more run =
     let block = run.0 in
     let t = seen s (Begun line ∷ block) in
-    let begun : Made s (Begun line ∷ block) = Then (Begun line ∷ []) block refl (Begins line refl) (block_made line s block good none run.3) in
+    let begun : Made s (Begun line ∷ block) =
+    Then (Begun line ∷ []) block refl (Begins line refl)
+    (block_made line s block good none run.3) in
     let kept = made_keeps good begun in
-    made_by run.2 (made-append begun (follows_made t t.unfaithful (More t) number run.1 refl (λ still follows. more t run.1 kept.good still follows) run.4))
+    made_by run.2 (made-append begun
+    (follows_made t t.unfaithful (More t) number run.1 refl
+    (λ still follows. more t run.1 kept.good still follows) run.4))
 
-pub runs_made : (script : List Numbered) (s : Seen) (lines : List TraceLine) → IsGood s → s.unfaithful ≡ None → RunsFrom s script lines → Made s lines
+pub runs_made : (script : List Numbered) (s : Seen) (lines : List TraceLine) → IsGood s
+    → s.unfaithful ≡ None → RunsFrom s script lines → Made s lines
 runs_made [] s lines good none run = one_part (Ends run)
 runs_made (line ∷ script) s lines good none run =
     by_test (is_event line.line)
-    (event_made s line.line line.number (λ t rest. RunsFrom t script rest) lines good none (λ t rest g still more. runs_made script t rest g still more))
+    (event_made s line.line line.number (λ t rest. RunsFrom t script rest) lines good none
+    (λ t rest g still more. runs_made script t rest g still more))
     (λ more. runs_made script s lines good none more) run

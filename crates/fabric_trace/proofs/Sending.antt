@@ -1,5 +1,6 @@
--- What a port sends it has to send or has lent, and a time-out fires where both wires are empty: at each line of a trace.
-use Rattle.std.proofs.Common.{◌≡◌, inl, inr, ℕ, zero, suc, ◌<◌, ◌==◌, nat_lt, ◌++◌, true, false, List, [], ◌∷◌, map, take, filter, length, Contains, slice_get, Option, Some, None, option_to_list, refl, sym, ap, ◌∙◌, subst, if◌then◌else◌}
+-- What a port sends it has to send or has lent, and a time-out fires where both wires are empty: at
+-- each line of a trace.
+use Rattle.std.proofs.Common.{◌≡◌, inl, inr, ℕ, zero, suc, ◌<◌, ◌==◌, nat_lt, ◌++◌, Bool, true, false, List, [], ◌∷◌, map, take, filter, length, Contains, slice_get, Option, Some, None, option_to_list, refl, sym, ap, ◌∙◌, subst, if◌then◌else◌}
 use Rattle.std.specs.List.{AllByRecursion}
 use Rattle.std.proofs.lemmas.Bool.{and_parts}
 use Rattle.std.proofs.lemmas.List.Elements.{Contains-append_left, Contains-append_right, Contains-append_cases}
@@ -16,16 +17,17 @@ use Rattle.link_model.specs.declared.event.Event.TheVariants.{Ctl, Pkt, Bad}
 use Rattle.link_model.specs.Output as out
 use Rattle.link_model.specs.Outstanding.{Outstanding, next_ack}
 use Rattle.link_model.specs.Places.{run}
+use Rattle.link_model.specs.Symbols.{status}
 use Rattle.link_model.specs.Window.{window}
 use Rattle.link_port.specs.Ports.{PortState, IsPort}
-use Rattle.link_port.specs.States.{prios_of, expected_of}
+use Rattle.link_port.specs.States.{prios_of}
 use Rattle.link_port.specs.Steps.{acts, is_acted}
-use Rattle.link_port.specs.Turns.{packet_burst, burst_of, turn_sends, turns_to}
+use Rattle.link_port.specs.Turns.{standing, no_burst, symbol_burst, packet_burst, burst_of, turn_sends, turns_to, tell_sends}
 use Rattle.link_port.proofs.AnswerLaws.{reply_answers}
 use Rattle.link_port.proofs.FirstPackets.{first_has_prio}
 use Rattle.link_port.specs.Answers.{IsReply}
 use Rattle.link_rest.specs.Led.{AreAnswers}
-use Rattle.link_rest.proofs.AnswerLaws.{acts_below, AreAnswers-append}
+use Rattle.link_rest.proofs.AnswerLaws.{IsNarrow, port_narrow, acts_narrow, AreAnswers-append}
 use Rattle.link_sound.proofs.PortBounds.{turn_port}
 use Rattle.link_watch.specs.declared.note.Note.TheVariants as Notes
 use Rattle.link_watch.specs.declared.side.Side.{Side}
@@ -35,7 +37,7 @@ use Rattle.link_wires.specs.Kept.{behind}
 use Rattle.link_wires.specs.Wires.{bursts, answers}
 use Rattle.link_wires.specs.declared.moves.Move.{Move}
 use Rattle.link_wires.specs.declared.moves.Move.TheVariants.{Held, Freed}
-use Rattle.link_machine.specs.Calls.{sent_notes, has_chars, has_none, is_silent, delivery_from, move_note, told_notes, delivery_notes, pump_notes, time_out_notes}
+use Rattle.link_machine.specs.Calls.{sent_notes, has_chars, has_none, is_silent, delivery_from, move_note, told_notes, delivery_notes, pump_notes, tell_notes, time_out_notes}
 use Rattle.fabric_script.specs.declared.ports.PortRef.{PortRef}
 use Rattle.fabric_model.specs.Network.{Item, Network}
 use Rattle.fabric_model.proofs.Boards.{all-append}
@@ -44,8 +46,8 @@ use Rattle.fabric_trace.specs.Views.{packets_in, lists_in, queue}
 use Rattle.fabric_trace.specs.Known.{Seen, peer_of, port_at, kept_of, link_at}
 use Rattle.fabric_trace.specs.Fold.{says, seen_line, seen}
 use Rattle.fabric_trace.specs.Blocks.{port_at_side, line_of, lines_of}
-use Rattle.fabric_trace.specs.Parts.{Part, Begins, Lacks, Ends, Names, Steps, Serves, Turns, Delivers, Fires, Made, Done, Then}
-use Rattle.fabric_trace.proofs.Bursts.{startable_has, turns_read, answers_say}
+use Rattle.fabric_trace.specs.Parts.{Part, Begins, Lacks, Ends, Names, Steps, Serves, Turns, Tells, Delivers, Fires, Made, Done, Then}
+use Rattle.fabric_trace.proofs.Bursts.{startable_has, turns_read, answers_say, tell_read}
 use Rattle.fabric_trace.proofs.Folding.{lines-append}
 use Rattle.fabric_trace.proofs.Keeping.{IsGood, part_keeps}
 use Rattle.fabric_trace.proofs.Lanes.{packets-append, lane_at}
@@ -82,36 +84,57 @@ get_contains : (packets : List (List ℕ)) (k : ℕ) (packet : List ℕ)
 get_contains packets k packet is =
     (k, slice_get_within packets k packet is, get_or_from_slice_get packets k packet packet is)
 
-packet_queued : (lists : List (List (List ℕ))) (prios : List ℕ) (expected ack prio : ℕ)
+packet_queued : (lists : List (List (List ℕ))) (prios : List ℕ) (port : PortState) (ack prio : ℕ)
     (found : Option (List ℕ)) → IsOutStore (lists_without prios lists) → prio < 4
     → slice_get (list_at (lists_without prios lists) prio) 0 ≡ found → AllByRecursion
-    (IsQueued lists) (packet_burst expected ack found).sent
-packet_queued lists prios expected ack prio None store few is = tt
-packet_queued lists prios expected ack prio (Some packet) store few is =
+    (IsQueued lists) (packet_burst (standing port) ack found).sent
+packet_queued lists prios port ack prio None store few is = tt
+packet_queued lists prios port ack prio (Some packet) store few is =
     let own = first_has_prio (lists_without prios lists) prio packet store few is in
-    let there = get_contains (list_at lists prio) (count_of prios prio) packet (sym (slice_get-lists_without prios lists prio) ∙ is) in
-    (tt, ((subst (λ r. r < 4) (sym own) few, subst (λ r. Contains (list_at lists r) packet) (sym own) there), (tt, tt)))
+    let there =
+    get_contains (list_at lists prio) (count_of prios prio) packet
+    (sym (slice_get-lists_without prios lists prio) ∙ is) in (
+      tt,
+      (
+        (
+          subst (λ r. r < 4) (sym own) few,
+          subst (λ r. Contains (list_at lists r) packet) (sym own) there,
+        ),
+        (tt, tt),
+      ),
+    )
 
-started_queued : (w : Outstanding) (expected : ℕ) (lists : List (List (List ℕ))) (prios : List ℕ)
-    (waiting : Option ℕ) → IsOutStore (lists_without prios lists)
+unstarted_queued : (tells : Bool) (port : PortState) (lists waiting : List (List (List ℕ)))
+    → AllByRecursion (IsQueued lists)
+    (burst_of (out.unstarted tells) (standing port) waiting).sent
+unstarted_queued true port lists waiting = (tt, tt)
+unstarted_queued false port lists waiting = tt
+
+started_queued : (tells : Bool) (w : Outstanding) (port : PortState) (lists : List (List (List ℕ)))
+    (prios : List ℕ) (waiting : Option ℕ) → IsOutStore (lists_without prios lists)
     → ((prio : ℕ) → waiting ≡ Some prio → prio < 4)
     → AllByRecursion (IsQueued lists)
-    (burst_of (out.started w waiting).sends expected (lists_without prios lists)).sent
-started_queued w expected lists prios None store few = tt
-started_queued w expected lists prios (Some prio) store few =
-    packet_queued lists prios expected (next_ack w) prio
+    (burst_of (out.started tells w waiting).sends (standing port)
+    (lists_without prios lists)).sent
+started_queued tells w port lists prios None store few =
+    unstarted_queued tells port lists (lists_without prios lists)
+started_queued tells w port lists prios (Some prio) store few =
+    packet_queued lists prios port (next_ack w) prio
     (slice_get (list_at (lists_without prios lists) prio) 0) store (few prio refl) refl
 
-turn_queued_by : (output : out.Output) (expected : ℕ) (lists : List (List (List ℕ)))
-    (prios : List ℕ) → IsOutStore (lists_without prios lists)
+turn_queued_by : (tells : Bool) (output : out.Output) (port : PortState)
+    (lists : List (List (List ℕ))) (prios : List ℕ) → IsOutStore (lists_without prios lists)
     → AllByRecursion (IsQueued lists)
-    (burst_of (out.turns output (highest (lists_without prios lists))).sends expected (lists_without prios lists)).sent
-turn_queued_by (out.Output.Ok w) expected lists prios store =
-    started_queued w expected lists prios (out.startable w (highest (lists_without prios lists))) store (λ prio is. (startable_has (lists_without prios lists) (nat_lt (length w.prios) window) prio is).0)
-turn_queued_by (out.Output.RetryStopped w) expected lists prios store = (tt, tt)
-turn_queued_by (out.Output.ErrorStopped true w) expected lists prios store = tt
-turn_queued_by (out.Output.ErrorStopped false w) expected lists prios store = (tt, tt)
-turn_queued_by out.Output.Failed expected lists prios store = tt
+    (burst_of (out.turns tells output (highest (lists_without prios lists))).sends (standing port)
+    (lists_without prios lists)).sent
+turn_queued_by tells (out.Output.Ok w) port lists prios store =
+    let waiting = lists_without prios lists in
+    started_queued tells w port lists prios (out.startable w (highest waiting)) store
+    (λ prio is. (startable_has w waiting (nat_lt (length w.prios) window) prio is).0)
+turn_queued_by tells (out.Output.RetryStopped w) port lists prios store = (tt, tt)
+turn_queued_by tells (out.Output.ErrorStopped true w) port lists prios store = tt
+turn_queued_by tells (out.Output.ErrorStopped false w) port lists prios store = (tt, tt)
+turn_queued_by tells out.Output.Failed port lists prios store = tt
 
 turns_queued : (n : ℕ) (port : PortState) → IsPort port
     → AllByRecursion (IsQueued port.queued) (bursts n port).sent
@@ -119,7 +142,8 @@ unfolding bursts
 turns_queued zero port is = tt
 turns_queued (suc n) port is =
     all-append (IsQueued port.queued) (turn_sends port).sent (bursts n (turns_to port)).sent
-    (turn_queued_by port.output _ port.queued (prios_of port.output) (IsOutStore-lists_without (prios_of port.output) port.queued is.covered is.sends))
+    (turn_queued_by port.tells port.output port port.queued (prios_of port.output)
+    (IsOutStore-lists_without (prios_of port.output) port.queued is.covered is.sends))
     (turns_queued n (turns_to port) (turn_port port is))
 
 -- ---- and so in what the network has there
@@ -129,13 +153,23 @@ in_filter : (r : ℕ) (items : List Item) (packet : List ℕ)
     → Contains (packets_in items) packet
 in_filter r [] packet h = h
 in_filter r (item ∷ items) packet h =
-    elim (prio_of item.now == r) as (λ b. Contains (packets_in (if b then item ∷ filter (λ item. prio_of item.now == r) items else filter (λ item. prio_of item.now == r) items)) packet → Contains (item.now ∷ packets_in items) packet) [
-      | true ↦ λ (some : Contains (item.now ∷ packets_in (filter (λ item. prio_of item.now == r) items)) packet).
-          elim (Contains-append_cases (item.now ∷ []) (packets_in (filter (λ item. prio_of item.now == r) items)) packet some) [
+    elim (prio_of item.now == r) as (λ b. Contains
+    (packets_in (if b then item ∷ filter (λ item. prio_of item.now == r) items else filter
+    (λ item. prio_of item.now == r) items)) packet
+    → Contains (item.now ∷ packets_in items) packet) [
+      | true ↦ λ (some : Contains
+          (item.now ∷ packets_in (filter (λ item. prio_of item.now == r) items)) packet).
+          elim (Contains-append_cases (item.now ∷ [])
+          (packets_in (filter (λ item. prio_of item.now == r) items)) packet some) [
             | inl first ↦ Contains-append_left (item.now ∷ []) (packets_in items) packet first
-            | inr rest ↦ Contains-append_right (item.now ∷ []) (packets_in items) packet (in_filter r items packet rest)
+            | inr rest ↦
+                Contains-append_right (item.now ∷ []) (packets_in items) packet
+                (in_filter r items packet rest)
           ]
-      | false ↦ λ (rest : Contains (packets_in (filter (λ item. prio_of item.now == r) items)) packet). Contains-append_right (item.now ∷ []) (packets_in items) packet (in_filter r items packet rest)
+      | false ↦
+          λ (rest : Contains (packets_in (filter (λ item. prio_of item.now == r) items))
+          packet). Contains-append_right (item.now ∷ []) (packets_in items) packet
+          (in_filter r items packet rest)
     ] h
 
 event_there : (net : Network) (p : PortRef) (e : Event) → IsQueued (lists_in (queue net p)) e
@@ -145,7 +179,9 @@ event_there net p (Bad cause) h = tt
 event_there net p (Pkt ack packet) h =
     let r = prio_of packet in
     let lent = filter (λ item. prio_of item.now == r) (net.lent p) in
-    let there = subst (λ (l : List (List ℕ)). Contains l packet) (lane_at (queue net p) r h.0 ∙ packets-append lent (net.waiting p r)) h.1 in
+    let there =
+    subst (λ (l : List (List ℕ)). Contains l packet)
+    (lane_at (queue net p) r h.0 ∙ packets-append lent (net.waiting p r)) h.1 in
     elim (Contains-append_cases (packets_in lent) (packets_in (net.waiting p r)) packet there) [
       | inl own ↦ inr (in_filter r (net.lent p) packet own)
       | inr own ↦ inl own
@@ -176,7 +212,7 @@ no_answers = tt
 -- what was answered so far are answers
 record AnswersSo (flow : Flow) : Type 0 where
   pub are : AreAnswers flow.told.replies
-  pub expected : expected_of flow.port.input < 32
+  pub narrow : IsNarrow flow.port
 
 abbrev AnswersAll : Delivered → Type 0
 AnswersAll (Through flow) = AnswersSo flow
@@ -187,8 +223,8 @@ done_answers : (e : Event) (acted kept : List Event) (flow : Flow) → AnswersSo
 done_answers e acted kept flow h = record {
   are =
       AreAnswers-append flow.told.replies (option_to_list (acts flow.port e).reply) h.are
-      (replied (acts flow.port e).reply (reply_answers flow.port e h.expected));
-  expected = acts_below flow.port e h.expected;
+      (replied (acts flow.port e).reply (reply_answers flow.port e h.narrow.0 h.narrow.1));
+  narrow = acts_narrow flow.port e h.narrow;
 }
 
 met_answers : (at : ℕ) (e : Event) (kept : Option (List Event)) (flow : Flow) → AnswersSo flow
@@ -197,10 +233,13 @@ met_answers at e None flow h = h.are
 met_answers at e (Some kept) flow h = done_answers e (e ∷ []) kept flow h
 
 comes_answers : (flow : Flow) (placed : ℕ × Event) → AnswersSo flow → AnswersAll (comes flow placed)
-comes_answers flow placed h = elim (is_acted flow.port placed.1) as (λ t. AnswersAll (if t then met placed.0 placed.1 (behind placed.1 flow.kept) flow else Through (done placed.1 [] flow.kept flow))) [
-  | true ↦ met_answers placed.0 placed.1 (behind placed.1 flow.kept) flow h
-  | false ↦ done_answers placed.1 [] flow.kept flow h
-]
+comes_answers flow placed h =
+    elim (is_acted flow.port placed.1) as (λ t. AnswersAll
+    (if t then met placed.0 placed.1 (behind placed.1 flow.kept) flow else Through
+    (done placed.1 [] flow.kept flow))) [
+      | true ↦ met_answers placed.0 placed.1 (behind placed.1 flow.kept) flow h
+      | false ↦ done_answers placed.1 [] flow.kept flow h
+    ]
 
 on_answers : (more : Flow → Delivered) (d : Delivered)
     → ((f : Flow) → AnswersSo f → AnswersAll (more f)) → AnswersAll d → AnswersAll (goes_on more d)
@@ -220,10 +259,11 @@ told_answers place count (Through flow) h = h.are
 told_answers place count (Unsent told e) h = h
 
 delivered_answers : (port : PortState) (kept : List Event) (chars : List Char)
-    → expected_of port.input < 32 → AreAnswers (told_of (delivered port kept chars)).replies
-delivered_answers port kept chars below =
+    → IsNarrow port → AreAnswers (told_of (delivered port kept chars)).replies
+delivered_answers port kept chars narrow =
     told_answers _ _ (come (run port.place 0 chars) (begun port kept))
-    (come_answers (run port.place 0 chars) (begun port kept) (record { are = no_answers; expected = below }))
+    (come_answers (run port.place 0 chars) (begun port kept)
+    (record { are = no_answers; narrow = narrow }))
 
 -- ---- lines
 
@@ -247,7 +287,22 @@ turns_owned s p q n is =
     let port = port_at s p in
     let read = turns_read n port is in
     sent_owned s p q A (bursts n port).chars
-    (subst (AllByRecursion (HasEvent s.network p)) (sym read.says) (events_there s.network p (bursts n port).sent (turns_queued n port is)))
+    (subst (AllByRecursion (HasEvent s.network p)) (sym read.says)
+    (events_there s.network p (bursts n port).sent (turns_queued n port is)))
+
+tell_queued : (net : Network) (p : PortRef) (tells : Bool) (symbol : Fields)
+    → AllByRecursion (HasEvent net p) (if tells then symbol_burst symbol else no_burst).sent
+tell_queued net p true symbol = (tt, tt)
+tell_queued net p false symbol = tt
+
+tells_owned : (s : Seen) (p q : PortRef) → IsPort (port_at s p)
+    → AreOwned s (lines_of p q (tell_notes A (link_at s p q)))
+tells_owned s p q is =
+    let port = port_at s p in
+    let at = standing port in
+    sent_owned s p q A (tell_sends port).chars
+    (subst (AllByRecursion (HasEvent s.network p)) (sym (tell_read port is).says)
+    (tell_queued s.network p port.tells (status at.expected at.buffers)))
 
 delivery_owned : (s : Seen) (p q : PortRef) (n : ℕ) → IsPort (port_at s q)
     → has_chars A n (link_at s p q) ≡ true
@@ -257,18 +312,24 @@ delivery_owned s p q n is has =
     let chars = take n (s.wires p).chars in
     let told = told_of (delivery_from A n l) in
     let sent = (answers told.replies).chars in
-    let notes : delivery_notes A n l ≡ told_notes B chars told = ap (λ x. if x then told_notes B chars told else []) has in
+    let notes : delivery_notes A n l ≡ told_notes B chars told =
+    ap (λ x. if x then told_notes B chars told else []) has in
     let moves = lines_of p q (map (move_note B) told.moves) in
     let got = Signed (Got q (take told.count chars)) in
-    let lines : lines_of p q (delivery_notes A n l) ≡ got ∷ (moves ++ lines_of p q (sent_notes B sent)) =
-    ap (lines_of p q) notes ∙ ap (λ (x : List TraceLine). got ∷ x) (lines-append p q (map (move_note B) told.moves) (sent_notes B sent)) in
-    let are = delivered_answers (port_at s q) (kept_of (s.wires p)) chars is.expected_ack in
+    let lines : lines_of p q (delivery_notes A n l) ≡ got
+    ∷ (moves ++ lines_of p q (sent_notes B sent)) =
+    ap (lines_of p q) notes ∙ ap (λ (x : List TraceLine). got ∷ x)
+    (lines-append p q (map (move_note B) told.moves) (sent_notes B sent)) in
+    let are =
+    delivered_answers (port_at s q) (kept_of (s.wires p)) chars (port_narrow (port_at s q) is) in
     let t = seen (seen_line s got) moves in
     subst (AreOwned s) (sym lines) (
       tt,
       owned-append moves (lines_of p q (sent_notes B sent)) (seen_line s got)
           (moves_owned (seen_line s got) p q B told.moves)
-          (sent_owned t p q B sent (subst (AllByRecursion (HasEvent t.network q)) (sym (answers_say told.replies are)) (controls_there t.network q told.replies))),
+          (sent_owned t p q B sent
+          (subst (AllByRecursion (HasEvent t.network q)) (sym (answers_say told.replies are))
+          (controls_there t.network q told.replies))),
     )
 
 none_chars : (chars : List Char) → has_none chars ≡ true → chars ≡ []
@@ -279,9 +340,17 @@ fires_owned : (s : Seen) (p q : PortRef) → peer_of s p ≡ Some q → is_silen
     → AreOwned s (lines_of p q (time_out_notes A (link_at s p q)))
 fires_owned s p q peer silent =
     let both = and_parts (has_none (s.wires p).chars) (has_none (s.wires q).chars) silent in
-    let lines : lines_of p q (time_out_notes A (link_at s p q)) ≡ Signed (Fired p) ∷ [] = ap (λ x. lines_of p q (if x then Notes.Fire A ∷ [] else [])) silent in
-    subst (AreOwned s) (sym lines)
-    (record { peer = q; peer_is = peer; near = none_chars (s.wires p).chars both.0; far = none_chars (s.wires q).chars both.1 }, tt)
+    let lines : lines_of p q (time_out_notes A (link_at s p q)) ≡ Signed (Fired p) ∷ [] =
+    ap (λ x. lines_of p q (if x then Notes.Fire A ∷ [] else [])) silent in
+    subst (AreOwned s) (sym lines) (
+      record {
+        peer = q;
+        peer_is = peer;
+        near = none_chars (s.wires p).chars both.0;
+        far = none_chars (s.wires q).chars both.1;
+      },
+      tt,
+    )
 
 pub part_owned : (s : Seen) (lines : List TraceLine) → IsGood s → Part s lines → AreOwned s lines
 part_owned s lines good (Begins line is) = subst (AreOwned s) (sym is) (tt, tt)
@@ -292,6 +361,8 @@ part_owned s lines good (Steps step needs few is) = subst (AreOwned s) (sym is) 
 part_owned s lines good (Serves step needs is) = subst (AreOwned s) (sym is) (tt, tt)
 part_owned s lines good (Turns p q n peer none is) =
     subst (AreOwned s) (sym is) (turns_owned s p q n (good.links none p q peer).sound.port_a)
+part_owned s lines good (Tells p q peer none is) =
+    subst (AreOwned s) (sym is) (tells_owned s p q (good.links none p q peer).sound.port_a)
 part_owned s lines good (Delivers p q n peer none has is) =
     subst (AreOwned s) (sym is) (delivery_owned s p q n (good.links none p q peer).sound.port_b has)
 part_owned s lines good (Fires p q peer none silent is) =
@@ -301,4 +372,5 @@ pub made_owned : {s : Seen} {lines : List TraceLine} → IsGood s → Made s lin
 made_owned {s} good (Done is) = subst (AreOwned s) (sym is) tt
 made_owned {s} good (Then first rest is own more) =
     subst (AreOwned s) (sym is)
-    (owned-append first rest s (part_owned s first good own) (made_owned (part_keeps good own).good more))
+    (owned-append first rest s (part_owned s first good own)
+    (made_owned (part_keeps good own).good more))

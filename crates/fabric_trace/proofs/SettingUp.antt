@@ -4,14 +4,15 @@ use Rattle.std.proofs.lemmas.Bool.{false≢true}
 use Rattle.std.proofs.lemmas.List.{map-append}
 use Rattle.maint_registers.specs.Devices.{Device, is_switch, new_endpoint, new_switch, with_link}
 use Rattle.fabric_script.specs.declared.lines.Line.{Line}
-use Rattle.fabric_script.specs.declared.lines.Line.TheVariants.{Endpoint, Switch, Link, Buffers, Route, Default, Lock, Large}
+use Rattle.fabric_script.specs.declared.lines.Line.TheVariants.{Endpoint, Switch, Link, Buffers, Route, Default, Lock, Large, Credits}
 use Rattle.fabric_script.specs.Known.{links_after}
 use Rattle.fabric_script.specs.Lines.{is_event}
 use Rattle.fabric_model.specs.Network.{Network}
 use Rattle.fabric_model.proofs.Devices.{map-with_device}
 use Rattle.fabric_trace.specs.Settings.{routed, defaulted, held_by, large_set, with_end, set_up}
 
-pub set_up-links : (net : Network) (line : Line) → (set_up net line).links ≡ links_after net.links line
+pub set_up-links : (net : Network) (line : Line)
+    → (set_up net line).links ≡ links_after net.links line
 set_up-links net (Link a b) = refl
 set_up-links net _ = refl
 
@@ -24,6 +25,7 @@ set_up-event net (Route node id p) event = absurd (false≢true event)
 set_up-event net (Default node p) event = absurd (false≢true event)
 set_up-event net (Lock node id) event = absurd (false≢true event)
 set_up-event net (Large node id) event = absurd (false≢true event)
+set_up-event net (Credits port) event = absurd (false≢true event)
 set_up-event net _ event = refl
 
 -- the device that a line makes, as a list
@@ -43,26 +45,46 @@ changed device linked routes port lock large = record device {
 }
 
 -- what no line changes of a device, stays of all, and a new device stands behind them
-pub set_up-map : {A : Type 0} (view : Device → A) → ((device : Device) (linked : ℕ) (routes : List ℕ) (port lock large : ℕ) → view (changed device linked routes port lock large) ≡ view device) → (net : Network) (line : Line) → map view (set_up net line).registers ≡ map view net.registers ++ map view (made_by line)
+pub set_up-map : {A : Type 0} (view : Device → A)
+    → ((device : Device) (linked : ℕ) (routes : List ℕ) (port lock large : ℕ)
+    → view (changed device linked routes port lock large) ≡ view device)
+    → (net : Network) (line : Line)
+    → map view (set_up net line).registers ≡ map view net.registers ++ map view (made_by line)
 set_up-map view same net line = by_line line
   where
     devices : List Device
     devices = net.registers
 
-    by_line : (line : Line) → map view (set_up net line).registers ≡ map view net.registers ++ map view (made_by line)
+    by_line : (line : Line) → map view (set_up net line).registers ≡ map view net.registers
+        ++ map view (made_by line)
     by_line (Endpoint name id) = map-append view devices _
     by_line (Switch name ports) = map-append view devices _
     by_line (Link a b) =
-        map-with_device view (with_end net a).registers b.node _ (λ d. same d (with_link d.linked b.port) d.routes d.default_port d.lock d.large_id)
-        ∙ map-with_device view devices a.node _ (λ d. same d (with_link d.linked a.port) d.routes d.default_port d.lock d.large_id)
+        map-with_device view (with_end net a).registers b.node _
+        (λ d. same d (with_link d.linked b.port) d.routes d.default_port d.lock d.large_id)
+        ∙ map-with_device view devices a.node _
+        (λ d. same d (with_link d.linked a.port) d.routes d.default_port d.lock d.large_id)
         ∙ sym (append-nil (map view devices))
     by_line (Buffers port n) = sym (append-nil (map view devices))
-    by_line (Route node id p) = map-with_device view devices node (routed id p) (λ d. same d d.linked (routed id p d).routes d.default_port d.lock d.large_id) ∙ sym (append-nil (map view devices))
-    by_line (Default node p) = map-with_device view devices node (defaulted p) (λ d. same d d.linked d.routes p d.lock d.large_id) ∙ sym (append-nil (map view devices))
-    by_line (Lock node id) = map-with_device view devices node (held_by id) (λ d. same d d.linked d.routes d.default_port id d.large_id) ∙ sym (append-nil (map view devices))
-    by_line (Large node id) = map-with_device view devices node (large_set id) (λ d. same d d.linked d.routes d.default_port d.lock id) ∙ sym (append-nil (map view devices))
+    by_line (Route node id p) =
+        map-with_device view devices node (routed id p)
+        (λ d. same d d.linked (routed id p d).routes d.default_port d.lock d.large_id)
+        ∙ sym (append-nil (map view devices))
+    by_line (Default node p) =
+        map-with_device view devices node (defaulted p)
+        (λ d. same d d.linked d.routes p d.lock d.large_id) ∙ sym (append-nil (map view devices))
+    by_line (Lock node id) =
+        map-with_device view devices node (held_by id)
+        (λ d. same d d.linked d.routes d.default_port id d.large_id)
+        ∙ sym (append-nil (map view devices))
+    by_line (Large node id) =
+        map-with_device view devices node (large_set id)
+        (λ d. same d d.linked d.routes d.default_port d.lock id)
+        ∙ sym (append-nil (map view devices))
     by_line _ = sym (append-nil (map view devices))
 
 -- which nodes are switches
-pub set_up-kinds : (net : Network) (line : Line) → map is_switch (set_up net line).registers ≡ map is_switch net.registers ++ map is_switch (made_by line)
+pub set_up-kinds : (net : Network) (line : Line)
+    → map is_switch (set_up net line).registers ≡ map is_switch net.registers
+    ++ map is_switch (made_by line)
 set_up-kinds net line = set_up-map is_switch (λ device linked routes port lock large. refl) net line

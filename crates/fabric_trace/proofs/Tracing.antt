@@ -1,19 +1,15 @@
--- Each script that passes has a trace: each of its events has a block in the state that the blocks before it lead to.
-use Rattle.std.proofs.Common.{◌≡◌, ℕ, ◌+◌, ◌*◌, ◌%◌, ◌^◌, ◌<◌, ◌≤◌, Bool, true, false, List, [], ◌∷◌, ◌++◌, Option, Some, None, MatchBool, option_map, is_some, slice_get, unwrap_or, length, All, arith, refl, ap, ◌∙◌, if◌then◌else◌}
+-- Each script that passes has a trace: each of its events has a block in the state that the blocks
+-- before it lead to.
+use Rattle.std.proofs.Common.{◌≡◌, ℕ, Bool, true, false, List, [], ◌∷◌, ◌++◌, Option, Some, None, MatchBool, option_map, is_some, slice_get, arith, refl, ap, ◌∙◌, if◌then◌else◌}
 use Rattle.std.specs.Bool.{⊤}
 use Rattle.std.specs.List.{AllByRecursion}
-use Rattle.std.proofs.lemmas.Bool.{true≢false}
-use Rattle.std.proofs.lemmas.List.Elements.{All-from_recursion, recursion_from_All}
-use Rattle.rio_packets.specs.Fields.{prio_of, body_of}
-use Rattle.rio_packets.specs.LinkForm.{IsBody, Passes}
-use Rattle.rio_packets.specs.Making.{made, most_rest}
-use Rattle.rio_packets.proofs.FormLaws.{LinkForm-made}
-use Rattle.rio_packets.proofs.MakingLaws.{IsBody-body_of}
+use Rattle.std.proofs.lemmas.List.Elements.{recursion_from_All}
+use Rattle.rio_packets.specs.Fields.{prio_of}
+use Rattle.rio_packets.specs.LinkForm.{Passes}
 use Rattle.maint_registers.specs.Devices.{Device, is_switch}
 use Rattle.maint_registers.specs.Within.{IsWithin}
-use Rattle.maint_packets.specs.Layout.{behind_ids}
 use Rattle.maint_packets.specs.declared.request.Request.{Request}
-use Rattle.maint_packets.specs.Requests.{names_second, in_half, request_of}
+use Rattle.maint_packets.specs.Requests.{request_of}
 use Rattle.maint_packets.specs.Responses.{response_bytes}
 use Rattle.maint_packets.specs.Answers.{answered}
 use Rattle.maint_packets.proofs.AnswerLaws.{responses_pass}
@@ -23,18 +19,18 @@ use Rattle.switch_core.specs.EndpointSteps.{first_held, collected_of, collected_
 use Rattle.switch_core.proofs.OrderLaws.{greatest_first-is}
 use Rattle.fabric_script.specs.declared.ports.PortRef.{PortRef}
 use Rattle.fabric_script.specs.declared.lines.Line.{Line}
-use Rattle.fabric_script.specs.declared.lines.Line.TheVariants.{Endpoint, Switch, Link, Buffers, Route, Default, Lock, Large, Send, Read, Write, Pump, Deliver, Alter, Insert, Erase, Timeout, Settle, Move, Collect, Run, Send16, Read16, Write16}
+use Rattle.fabric_script.specs.declared.lines.Line.TheVariants.{Endpoint, Switch, Link, Buffers, Route, Default, Lock, Large, Send, Read, Write, Pump, Deliver, Alter, Insert, Erase, Timeout, Settle, Move, Collect, Run, Send16, Read16, Write16, Credits}
 use Rattle.fabric_script.specs.declared.lines.Numbered.{Numbered}
 use Rattle.fabric_script.specs.Lines.{is_event, new_name}
 use Rattle.fabric_script.specs.Known.{Known, nothing, known_after}
 use Rattle.fabric_script.specs.Reading.{MayBe}
 use Rattle.fabric_script.specs.Scripts.{PassesFrom, Passes as IsPassed}
-use Rattle.fabric_model.specs.Network.{Network, same_port, port_of, peer_in, link_in, sender_id, id_of, switch_at, IsEndpoint}
+use Rattle.fabric_model.specs.Network.{Network, same_port, port_of, peer_in, link_in, id_of, switch_at, IsEndpoint}
 use Rattle.fabric_model.specs.Laws.Forms.{IsFormed}
 use Rattle.fabric_model.proofs.Forms.{device_at}
 use Rattle.fabric_model.proofs.Peers.{link_peers}
-use Rattle.fabric_trace.specs.Blocks.{takes, Sends, pumps, delivers, times_out, edits, IsSettle, WithPeer, WithLink, IsBlock}
-use Rattle.fabric_trace.specs.Events.{id_limit, FitsSend, FitsRequest, FitsPacket, IsInRange, IsThere, MayHappen}
+use Rattle.fabric_trace.specs.Blocks.{pumps, delivers, times_out, edits, IsSettle, WithPeer, WithLink, IsBlock}
+use Rattle.fabric_trace.specs.Events.{FitsPacket, IsInRange, IsThere, MayHappen}
 use Rattle.fabric_trace.specs.Fold.{edit_of, seen}
 use Rattle.fabric_trace.specs.Known.{Found, Seen, peer_of}
 use Rattle.fabric_trace.specs.Lines.{TraceLine, Begun, Ended, Undetected, steps_of}
@@ -51,143 +47,7 @@ use Rattle.fabric_trace.proofs.Keeping.{IsGood, good_by_priority, passes_first, 
 use Rattle.fabric_trace.proofs.Running.{block_made}
 use Rattle.fabric_trace.proofs.Starting.{set_up_bare}
 use Rattle.fabric_trace.proofs.Unique.{runs_one}
-
--- ---- packets
-
-sized : (large : Bool) (id : ℕ) → id < id_limit large
-    → (id < 0x10000) × (large ≡ false → id < 256)
-sized false id low = (omega (arith, low), λ small. low)
-sized true id low = (low, λ small. absurd (true≢false small))
-
-body_is : (large : Bool) (prio ftype dest source : ℕ) (rest : List ℕ) → prio < 4 → ftype < 16
-    → dest < id_limit large → source < id_limit large → All (λ b. b < 256) rest
-    → length rest % 2 ≡ 0 → length rest ≤ most_rest large
-    → IsBody (body_of prio ftype large dest source rest)
-body_is large prio ftype dest source rest p f d s range even most =
-    let to = sized large dest d in
-    let from = sized large source s in
-    IsBody-body_of prio ftype large dest source rest p f to.0 from.0 to.1 from.1 range even most
-
-send_body : (large : Bool) (prio ftype dest source : ℕ) (hex : List ℕ)
-    → FitsSend large prio ftype dest hex → source < id_limit large
-    → IsBody (body_of prio ftype large dest source hex)
-send_body large prio ftype dest source hex fits s =
-    body_is large prio ftype dest source hex fits.0 fits.1 fits.2 s fits.3 fits.4.even
-    fits.4.most
-
-module _ (hop tid offset : ℕ) (h : hop < 256) (t : tid < 256) (o : offset < 16 ^ 6) where
-  read_rest : All (λ b. b < 256) (behind_ids 0 8 tid hop offset None)
-  read_rest =
-      let low : offset < 0x1000000 = o in
-      All-from_recursion (λ b. b < 256) (behind_ids 0 8 tid hop offset None)
-      (omega arith, (t, (h, (omega arith, (omega arith, (omega arith, tt))))))
-
-  write_rest : (a b : ℕ) → a < 0x100000000 → b < 0x100000000
-      → All (λ b. b < 256) (behind_ids 1 8 tid hop offset (Some (a, b)))
-  write_rest a b x y =
-      let low : offset < 0x1000000 = o in
-      All-from_recursion (λ b. b < 256) (behind_ids 1 8 tid hop offset (Some (a, b))) (
-        omega arith,
-        (
-          t,
-          (
-            h,
-            (
-              omega arith,
-              (
-                omega arith,
-                (
-                  omega arith,
-                  (
-                    omega arith,
-                    (
-                      omega arith,
-                      (
-                        omega arith,
-                        (
-                          omega arith,
-                          (
-                            omega arith,
-                            (
-                              omega arith,
-                              (
-                                omega arith,
-                                (
-                                  omega arith,
-                                  tt,
-                                ),
-                              ),
-                            ),
-                          ),
-                        ),
-                      ),
-                    ),
-                  ),
-                ),
-              ),
-            ),
-          ),
-        ),
-      )
-
-most_least : (large : Bool) (n : ℕ) → n ≤ 14 → n ≤ most_rest large
-most_least false n most = omega arith
-most_least true n most = omega arith
-
-module _ (large : Bool) (prio dest source hop tid offset : ℕ)
-    (fits : FitsRequest large prio dest hop tid offset) (s : source < id_limit large) where
-  ask_body : (rest : List ℕ) → All (λ b. b < 256) rest → length rest % 2 ≡ 0 → length rest ≤ 14
-      → IsBody (body_of prio 8 large dest source rest)
-  ask_body rest range even most =
-      body_is large prio 8 dest source rest fits.0 (omega arith) fits.1 s range even
-      (most_least large (length rest) most)
-
-  read_body : IsBody (body_of prio 8 large dest source (behind_ids 0 8 tid hop offset None))
-  read_body = ask_body (behind_ids 0 8 tid hop offset None)
-      (read_rest hop tid offset fits.2 fits.3 fits.4) refl (omega arith)
-
-  write_body : (a b : ℕ) → a < 0x100000000 → b < 0x100000000
-      → IsBody (body_of prio 8 large dest source (behind_ids 1 8 tid hop offset (Some (a, b))))
-  write_body a b x y = ask_body (behind_ids 1 8 tid hop offset (Some (a, b)))
-      (write_rest hop tid offset fits.2 fits.3 fits.4 a b x y) refl (omega arith)
-
-  half_body : (value : ℕ) → value < 16 ^ 8 → IsBody (body_of prio 8 large dest source
-      (behind_ids 1 8 tid hop offset (Some (in_half offset value))))
-  half_body value v =
-      let word : value < 0x100000000 = v in
-      elim (names_second offset) as (λ x. IsBody (body_of prio 8 large dest source
-      (behind_ids 1 8 tid hop offset (Some (if x then (0, value) else (value, 0)))))) [
-        | true ↦ write_body 0 value (omega arith) word
-        | false ↦ write_body value 0 word (omega arith)
-      ]
-
--- the ID of a node fits its size
-id_low : (net : Network) (node : ℕ) (large : Bool) → IsFormed net
-    → id_of net node large < id_limit large
-id_low net node large formed = by_found (slice_get net.registers node) refl
-  where
-    of_size : (device : Device) (large : Bool) → IsWithin device
-        → sender_id device large < id_limit large
-    of_size device false within = within.base_id
-    of_size device true within = within.large_id
-
-    zero_low : (large : Bool) → 0 < id_limit large
-    zero_low false = omega arith
-    zero_low true = omega arith
-
-    by_found : (found : Option Device) → slice_get net.registers node ≡ found
-        → unwrap_or (option_map (λ (device : Device). sender_id device large) found) 0
-        < id_limit large
-    by_found None at = zero_low large
-    by_found (Some device) at =
-        of_size device large (device_at net.registers node device at formed.registers)
-
-sends_exist : (s : Seen) (node : ℕ) (body : List ℕ) → IsEndpoint s.network node → IsBody body
-    → (block : List TraceLine) × Sends s node body block
-sends_exist s node body there is = (
-  takes s node (made body),
-  record { packet = made body; endpoint = there; form = LinkForm-made body is; lines = refl },
-)
+use Rattle.fabric_trace.proofs.Giving.{send_body, read_body, half_body, id_low, sends_exist}
 
 -- ---- links
 
@@ -216,7 +76,8 @@ settle_block : (s : Seen) (port : PortRef) (link : Option (PortRef × PortRef)) 
     → (block : List TraceLine) × WithLink link (IsSettle s) block
 settle_block s port None good none is has = absurd cc
 settle_block s port (Some link) good none is has =
-    let own = settle_exists s link.0 link.1 good none (link_peers s.network.links port link good.proper is) in
+    let own =
+    settle_exists s link.0 link.1 good none (link_peers s.network.links port link good.proper is) in
     (own.lines, own.is)
 
 -- ---- endpoints
@@ -229,13 +90,16 @@ endpoint_stands net node endpoint = by_found (slice_get net.registers node) refl
     by_found None at is = absurd cc
     by_found (Some device) at is = record { device = device; stands = at }
 
-module _ (s : Seen) (node : ℕ) (device : Device) (good : IsGood s) (formed : IsFormed s.network) (stands : slice_get s.network.registers node ≡ Some device) where
+module _ (s : Seen) (node : ℕ) (device : Device) (good : IsGood s) (formed : IsFormed s.network)
+    (stands : slice_get s.network.registers node ≡ Some device) where
   room_form : (packet : List ℕ) (request : Request) (room : Bool) → Passes packet
       → request_of packet ≡ Some request
       → HasResponseForm
-      (if room then Collects.Answered packet (response_bytes (answered device request 0).response) else Collects.Full)
+      (if room then Collects.Answered packet
+      (response_bytes (answered device request 0).response) else Collects.Full)
   room_form packet request true passes asks =
-      let within : IsWithin device = device_at s.network.registers node device stands formed.registers in
+      let within : IsWithin device =
+      device_at s.network.registers node device stands formed.registers in
       responses_pass device packet request 0 within (omega arith) passes asks
   room_form packet request false passes asks = tt
 
@@ -244,7 +108,8 @@ module _ (s : Seen) (node : ℕ) (device : Device) (good : IsGood s) (formed : I
   packet_form packet None passes asks = tt
   packet_form packet (Some request) passes asks =
       room_form packet request
-      (has_room (face_in s.network (port_of node)) (prio_of (response_bytes (answered device request 0).response))) passes asks
+      (has_room (face_in s.network (port_of node))
+      (prio_of (response_bytes (answered device request 0).response))) passes asks
 
   held_form : (head : Option (List ℕ)) → first_held (face_in s.network (port_of node)) ≡ head
       → HasResponseForm (collected_head device (face_in s.network (port_of node)) head)
@@ -252,7 +117,8 @@ module _ (s : Seen) (node : ℕ) (device : Device) (good : IsGood s) (formed : I
   held_form (Some packet) is =
       let at = greatest_first-is (head_of (face_in s.network (port_of node))) 4 packet is in
       packet_form packet (request_of packet)
-      (passes_first s good (port_of node) packet (head_held s.network (port_of node) at.0 packet (good_by_priority good) at.2).first) refl
+      (passes_first s good (port_of node) packet
+      (head_held s.network (port_of node) at.0 packet (good_by_priority good) at.2).first) refl
 
   collect_form : HasResponseForm (collected device (face_in s.network (port_of node)))
   collect_form = held_form (first_held (face_in s.network (port_of node))) refl
@@ -283,6 +149,7 @@ block_exists (Route node id p) s ready none event say there = absurd cc
 block_exists (Default node p) s ready none event say there = absurd cc
 block_exists (Lock node id) s ready none event say there = absurd cc
 block_exists (Large node id) s ready none event say there = absurd cc
+block_exists (Credits port) s ready none event say there = absurd cc
 block_exists (Send node prio ftype dest hex) s ready none event say there =
     sends_exist s node _ there
     (send_body false prio ftype dest (id_of s.network node false) hex say
@@ -322,9 +189,11 @@ block_exists (Timeout port) s ready none event say there =
 block_exists (Settle port) s ready none event say there =
     settle_block s port (link_in s.network.links port) (good_of ready) none refl
     (link_there s.network.links port there)
-block_exists (Move node) s ready none event say there = let own = move_exists s node (good_of ready) ready.formed there in (step_lines node own.0, own.1)
+block_exists (Move node) s ready none event say there = let own =
+    move_exists s node (good_of ready) ready.formed there in (step_lines node own.0, own.1)
 block_exists (Collect node) s ready none event say there = collect_exists s node ready there
-block_exists (Run n) s ready none event say there = let own = rounds_exist n s ready none in (own.lines, own.is)
+block_exists (Run n) s ready none event say there = let own =
+    rounds_exist n s ready none in (own.lines, own.is)
 
 -- ---- what an event names stays there
 
@@ -340,13 +209,20 @@ there_stays net end (Write16 node prio dest hop tid offset value) links kinds th
     kinds node ∙ there
 there_stays net end (Move node) links kinds there = kinds node ∙ there
 there_stays net end (Collect node) links kinds there = kinds node ∙ there
-there_stays net end (Pump port n) links kinds there = ap (λ l. is_some (peer_in l port)) links ∙ there
-there_stays net end (Deliver port n) links kinds there = ap (λ l. is_some (peer_in l port)) links ∙ there
-there_stays net end (Alter port place ch) links kinds there = ap (λ l. is_some (peer_in l port)) links ∙ there
-there_stays net end (Insert port place ch) links kinds there = ap (λ l. is_some (peer_in l port)) links ∙ there
-there_stays net end (Erase port place n) links kinds there = ap (λ l. is_some (peer_in l port)) links ∙ there
-there_stays net end (Timeout port) links kinds there = ap (λ l. is_some (peer_in l port)) links ∙ there
-there_stays net end (Settle port) links kinds there = ap (λ l. is_some (peer_in l port)) links ∙ there
+there_stays net end (Pump port n) links kinds there =
+    ap (λ l. is_some (peer_in l port)) links ∙ there
+there_stays net end (Deliver port n) links kinds there =
+    ap (λ l. is_some (peer_in l port)) links ∙ there
+there_stays net end (Alter port place ch) links kinds there =
+    ap (λ l. is_some (peer_in l port)) links ∙ there
+there_stays net end (Insert port place ch) links kinds there =
+    ap (λ l. is_some (peer_in l port)) links ∙ there
+there_stays net end (Erase port place n) links kinds there =
+    ap (λ l. is_some (peer_in l port)) links ∙ there
+there_stays net end (Timeout port) links kinds there =
+    ap (λ l. is_some (peer_in l port)) links ∙ there
+there_stays net end (Settle port) links kinds there =
+    ap (λ l. is_some (peer_in l port)) links ∙ there
 there_stays net end _ links kinds there = tt
 
 -- ---- scripts
@@ -387,11 +263,16 @@ runs_exist (line ∷ script) s ready none can =
     let own = block_exists line.line s ready none event (can.0 event).0 (can.0 event).1 in
     let block = own.0 in
     let t = seen s (Begun line.line ∷ block) in
-    let begun : Made s (Begun line.line ∷ block) = Then (Begun line.line ∷ []) block refl (Begins line.line refl) (block_made line.line s block (good_of ready) none own.1) in
+    let begun : Made s (Begun line.line ∷ block) =
+    Then (Begun line.line ∷ []) block refl (Begins line.line refl)
+    (block_made line.line s block (good_of ready) none own.1) in
     let legal = (made_keeps (good_of ready) begun).legal in
     let links = legal_links s.network (steps_of (Begun line.line ∷ block)) t.network legal in
     let kinds = switches_along s.network (steps_of (Begun line.line ∷ block)) t.network legal in
-    let rest = follow_exists line.number (RunsFrom t script) t.unfaithful (λ still. runs_exist script t (ready_on ready begun) still (cans_stay s.network t.network script links kinds can.1)) in
+    let rest =
+    follow_exists line.number (RunsFrom t script) t.unfaithful
+    (λ still. runs_exist script t (ready_on ready begun) still
+    (cans_stay s.network t.network script links kinds can.1)) in
     ((Begun line.line ∷ block) ++ rest.0, (block, rest.0, refl, own.1, rest.1)))
     (runs_exist script s ready none can.1)
 
@@ -430,7 +311,8 @@ sayable known new _ may range = tt
 cans_from : (known : Known) (names : List (List ℕ)) (net : Network) (script : List Numbered)
     → PassesFrom known names script
     → AllByRecursion
-    (λ line. is_event line.line ≡ true → MayHappen names net line.line) script → EventsCan net script
+    (λ line. is_event line.line ≡ true → MayHappen names net line.line) script
+    → EventsCan net script
 cans_from known names net [] passes all = tt
 cans_from known names net (line ∷ script) passes all =
     let new = new_name names line.line in (
@@ -445,7 +327,9 @@ script_has_trace names script passes =
     let is = set_up_bare script (may_set_up names script passes) in
     let ready : IsReady (begins net) = ready_begun net is in
     runs_exist script (begins net) ready refl
-    (cans_from nothing names net script passes (recursion_from_All (λ line. is_event line.line ≡ true → MayHappen names net line.line) script (may_happen names script passes)))
+    (cans_from nothing names net script passes
+    (recursion_from_All (λ line. is_event line.line ≡ true → MayHappen names net line.line) script
+    (may_happen names script passes)))
 
 -- and no other one
 pub script_has_one : (names : List (List ℕ)) (script : List Numbered) → IsPassed names script

@@ -1,5 +1,6 @@
 -- No sender fails within a delivery of a trace.
 use Rattle.std.proofs.Common.{◌≡◌, ◌++◌, Bool, true, false, List, [], ◌∷◌, map, take, None, sym, ap, ◌∙◌, subst, if◌then◌else◌}
+use Rattle.std.proofs.lemmas.List.Elements.{All-take}
 use Rattle.rio_chars.specs.declared.chars.Char.{Char}
 use Rattle.link_model.specs.Prelude.{run}
 use Rattle.link_watch.specs.declared.note.Note.TheVariants as Notes
@@ -11,14 +12,16 @@ use Rattle.link_wires.specs.declared.moves.Move.{Move}
 use Rattle.link_wires.specs.declared.moves.Move.TheVariants.{Held, Freed}
 use Rattle.link_machine.specs.Calls.{sent_notes, delivery_from, move_note, told_notes, is_silent}
 use Rattle.link_machine.proofs.Ways.{events_work}
+use Rattle.link_machine.proofs.Arriving.{HasAckAt, run_has}
 use Rattle.fabric_script.specs.declared.ports.PortRef.{PortRef}
 use Rattle.fabric_trace.specs.Blocks.{lines_of}
 use Rattle.fabric_trace.specs.Fold.{seen_line, seen}
 use Rattle.fabric_trace.specs.Known.{Seen, port_at, kept_of, link_at}
 use Rattle.fabric_trace.specs.Lines.{TraceLine, Got, Signed}
 use Rattle.fabric_trace.specs.OnTheWay.{WorksWithin, NeverFailWithin}
-use Rattle.fabric_trace.specs.Parts.{Part, Begins, Lacks, Ends, Names, Steps, Serves, Turns, Delivers, Fires, Made, Done, Then}
+use Rattle.fabric_trace.specs.Parts.{Part, Begins, Lacks, Ends, Names, Steps, Serves, Turns, Tells, Delivers, Fires, Made, Done, Then}
 use Rattle.fabric_trace.proofs.Keeping.{IsGood, part_keeps}
+use Rattle.link_port.specs.Turns.{tell_sends}
 
 -- a port of a sound link
 got_works : (s : Seen) (q : PortRef) (chars : List Char) → IsGood s → s.unfaithful ≡ None
@@ -26,7 +29,9 @@ got_works : (s : Seen) (q : PortRef) (chars : List Char) → IsGood s → s.unfa
 got_works s q chars good none p events peer =
     let link = (good.links none q p peer).sound in
     events_work (port_at s q) (port_at s p) (kept_of (s.wires q)) (kept_of (s.wires p))
-    (take events (run (port_at s q).place 0 chars)) link.port_a link.port_b link.sound
+    (take events (run (port_at s q).place 0 chars)) link.port_a link.port_b
+    (All-take HasAckAt events (run (port_at s q).place 0 chars)
+    (run_has (port_at s q).place 0 chars)) link.sound
 
 -- ---- lines in which no port gets anything
 
@@ -61,10 +66,13 @@ part_ways {s} good (Steps step needs few is) = by_lines s is (tt, tt)
 part_ways {s} good (Serves step needs is) = by_lines s is (tt, tt)
 part_ways {s} good (Turns p q n peer none is) =
     by_lines s is (sent_ways p q A (bursts n (link_at s p q).a).chars s)
+part_ways {s} good (Tells p q peer none is) =
+    by_lines s is (sent_ways p q A (tell_sends (link_at s p q).a).chars s)
 part_ways {s} good (Delivers p q n peer none has is) =
     let told = told_of (delivery_from A n (link_at s p q)) in
     let chars = take told.count (take n (s.wires p).chars) in
-    by_lines s (is ∙ ap (λ x. lines_of p q (if x then told_notes B (take n (s.wires p).chars) told else [])) has)
+    by_lines s (is ∙ ap (λ x. lines_of p q
+    (if x then told_notes B (take n (s.wires p).chars) told else [])) has)
     (got_works s q chars good none, moves_ways p q B told.moves (answers told.replies).chars _)
 part_ways {s} good (Fires p q peer none silent is) =
     by_lines s is (fire_ways p q (is_silent (link_at s p q)) s)

@@ -88,7 +88,13 @@ idle_runs = (
               Lacked Empty ∷ [],
               _,
               refl,
-              record { endpoint = refl; device = new_endpoint 1 true; stands = refl; form = tt; lines = refl },
+              record {
+                endpoint = refl;
+                device = new_endpoint 1 true;
+                stands = refl;
+                form = tt;
+                lines = refl;
+              },
               refl,
             ),
           ),
@@ -110,11 +116,13 @@ switch_runs = (
 
 pub higher_first : IsMove (two_held 1) 0 (dropped_at 1 1)
 unfolding greatest_first least_first
-higher_first = record { switch = refl; device = new_switch 2 0; stands = refl; form = tt; lines = refl }
+higher_first =
+    record { switch = refl; device = new_switch 2 0; stands = refl; form = tt; lines = refl }
 
 pub lower_port_first : IsMove (two_held 0) 0 (dropped_at 0 0)
 unfolding greatest_first least_first
-lower_port_first = record { switch = refl; device = new_switch 2 0; stands = refl; form = tt; lines = refl }
+lower_port_first =
+    record { switch = refl; device = new_switch 2 0; stands = refl; form = tt; lines = refl }
 
 pub elsewhere_breaks : (net end : Network) (node from named to : ℕ) (packet : List ℕ)
     → next_at net node packet ≡ Some (Port named) → named ≢ to
@@ -170,7 +178,9 @@ pub another_breaks : (sent other : Char) → sent ≢ other
 another_breaks sent other apart fold =
     let peer : Some near ≡ Some fold.1.0.peer = fold.1.0.peer_is in
     let one : near ≡ fold.1.0.peer = cc in
-    let stands = subst (λ p. (if same_port p near then ([] ++ sent ∷ []) else []) ≡ other ∷ fold.1.0.behind) (sym one) fold.1.0.stands in
+    let stands =
+    subst (λ p. (if same_port p near then ([] ++ sent ∷ []) else []) ≡ other ∷ fold.1.0.behind)
+    (sym one) fold.1.0.stands in
     apart (cc stands)
 
 pub moving_breaks : IsSettled (link_at (seen (begins pair) still_under_way) near far) → ⊥
@@ -183,7 +193,8 @@ acted_breaks faithful = no_more ((faithful.0 near refl).sent refl) refl refl
 
 pub unsent_breaks : Faithful (begins pair) named_though_sent → ⊥
 unfolding run place_after kind spelled is_spelling crc5_value crc5_of crc5_message field_bits bits number division_steps complemented
-unsent_breaks faithful = (faithful.1.0 near refl).unsent refl (Takes (Ctl (packet_accepted 0)) Ends)
+unsent_breaks faithful =
+    (faithful.1.0 near refl).unsent refl (Takes (Ctl (packet_accepted 0 31)) Ends)
 
 pub freed_breaks : FreesSaid near nothing_got 0 freed → ⊥
 unfolding run
@@ -195,9 +206,9 @@ one_in Ends is one = absurd cc
 one_in (Takes y rest) is one = cc
 one_in (Skips y rest) is one = let none : _ ≡ [] = ap (drop 1) one in absurd (no_more rest is none)
 
-twice : (e : Event) → e ≡ Ctl (packet_accepted 0) → Acknowledges 1 e → ⊥
+twice : (e : Event) → e ≡ Ctl (packet_accepted 0 31) → Acknowledges 1 e → ⊥
 twice (Ctl symbol) is (inl own) =
-    let same : symbol ≡ packet_accepted 0 = ap (λ (x : Event). symbol_of x symbol) is in
+    let same : symbol ≡ packet_accepted 0 31 = ap (λ (x : Event). symbol_of x symbol) is in
     let zero_is : 0 ≡ 1 = sym (ap (λ (s : Fields). s.p0) same) ∙ own.1 in
     omega (arith, zero_is)
   where
@@ -206,7 +217,7 @@ twice (Ctl symbol) is (inl own) =
     symbol_of (Pkt ack packet) other = other
     symbol_of (Bad cause) other = other
 twice (Ctl symbol) is (inr own) =
-    let same : symbol ≡ packet_accepted 0 = ap (λ (x : Event). symbol_in x symbol) is in
+    let same : symbol ≡ packet_accepted 0 31 = ap (λ (x : Event). symbol_in x symbol) is in
     let zero_is : 0 ≡ 6 = sym (ap (λ (s : Fields). s.s0) same) ∙ own in
     omega (arith, zero_is)
   where
@@ -217,7 +228,7 @@ twice (Ctl symbol) is (inr own) =
 twice (Pkt ack packet) is none = absurd none
 twice (Bad cause) is none = absurd none
 
-pub twice_breaks : (known : Gotten) → completed known ≡ Ctl (packet_accepted 0) ∷ []
+pub twice_breaks : (known : Gotten) → completed known ≡ Ctl (packet_accepted 0 31) ∷ []
     → FreesSaid near known 0 freed_twice → ⊥
 twice_breaks known one said =
     let second = said.1.0 refl in
@@ -227,7 +238,14 @@ twice_breaks known one said =
 
 pub pieces_said : FreesSaid near accepted_in_pieces 0 freed
 unfolding run place_after kind spelled is_spelling crc5_value crc5_of crc5_message field_bits bits number division_steps complemented
-pieces_said = (λ own. record { event = Ctl (packet_accepted 0); among = Takes (Ctl (packet_accepted 0)) Ends; acknowledges = inl (refl, refl) }, tt)
+pieces_said = (
+  λ own. record {
+    event = Ctl (packet_accepted 0 31);
+    among = Takes (Ctl (packet_accepted 0 31)) Ends;
+    acknowledges = inl (refl, refl);
+  },
+  tt,
+)
 
 pub noted_breaks : FreesNoted near false freed → ⊥
 noted_breaks noted = absurd (cc (noted.0 refl))
@@ -254,7 +272,8 @@ nothing_there packet there = let within = there.1 in omega (arith, within)
 
 pub sent_breaks : AreOwned (begins pair) sent_from_nowhere → ⊥
 unfolding run place_after kind spelled is_spelling crc5_value crc5_of crc5_message field_bits bits number division_steps complemented packet_event carried fed shifted shifted_times
-sent_breaks owned = elim owned.0.1.0 [ inl own ↦ nothing_there packet own | inr own ↦ nothing_there packet own ]
+sent_breaks owned =
+    elim owned.0.1.0 [ inl own ↦ nothing_there packet own | inr own ↦ nothing_there packet own ]
 
 pub fired_breaks : AreOwned moving fired → ⊥
 fired_breaks owned = absurd (cc owned.0.near)
@@ -268,7 +287,8 @@ pub settle_at_rest : (s : Seen) (block : List TraceLine) → s.network ≡ pair
     → IsBlockAtRest s (Settle near) block → (seen s block).unfaithful ≡ None
     → IsSettled (link_at (seen s block) near far)
 settle_at_rest s block is rests still =
-    let link : link_in s.network.links near ≡ Some (near, far) = ap (λ (net : Network). link_in net.links near) is in
+    let link : link_in s.network.links near ≡ Some (near, far) =
+    ap (λ (net : Network). link_in net.links near) is in
     (subst (λ o. WithLink o (SettlesTo IsSettle s) block) link rests).1 still
 
 -- the first link of a round
@@ -279,16 +299,22 @@ pub round_at_rest : (s : Seen) (block : List TraceLine) → s.network ≡ pair
 round_at_rest s block is rounds =
     let round = rounds.3 in
     let links : s.network.links ≡ pair.links = ap (λ (net : Network). net.links) is in
-    let own = subst (λ (l : List (PortRef × PortRef)). SettleAll (SettlesTo IsSettle) l s round.0) links round.3 in
+    let own =
+    subst (λ (l : List (PortRef × PortRef)). SettleAll (SettlesTo IsSettle) l s round.0) links
+    round.3 in
     let whole : block ≡ own.0 ++ (own.1 ++ (round.1 ++ rounds.1)) =
-    rounds.2 ∙ ap (λ l. l ++ rounds.1) (round.2 ∙ ap (λ l. l ++ round.1) own.2) ∙ append_assoc (own.0 ++ own.1) round.1 rounds.1 ∙ append_assoc own.0 own.1 (round.1 ++ rounds.1) in
+    rounds.2 ∙ ap (λ l. l ++ rounds.1) (round.2 ∙ ap (λ l. l ++ round.1) own.2)
+    ∙ append_assoc (own.0 ++ own.1) round.1 rounds.1
+    ∙ append_assoc own.0 own.1 (round.1 ++ rounds.1) in
     (own.0, own.1 ++ (round.1 ++ rounds.1), whole, own.3.1)
 
 pub rest_breaks : Settled (begins pair) None not_settled → ⊥
-rest_breaks settled = let rests : IsSettled (link_at moving near far) = settled.1.1.0.1 (near, far) refl in moving_breaks rests
+rest_breaks settled = let rests : IsSettled (link_at moving near far) =
+    settled.1.1.0.1 (near, far) refl in moving_breaks rests
 
 pub rest_before_breaks : Settled (begins pair) None not_settled_yet → ⊥
-rest_before_breaks settled = let rests : IsSettled (link_at moving near far) = settled.1.1.0.1 (near, far) refl in moving_breaks rests
+rest_before_breaks settled = let rests : IsSettled (link_at moving near far) =
+    settled.1.1.0.1 (near, far) refl in moving_breaks rests
 
 pub found_breaks : Settled found_before None goes_on_with → ⊥
 found_breaks settled = absurd (cc settled.0.0)

@@ -1,4 +1,4 @@
--- The run of one packet is a trace of its script.
+-- The runs of one packet and of one status are traces of their scripts.
 use Rattle.std.proofs.Common.{◌<◌, true, [], ◌∷◌, arith, refl, false}
 use Rattle.std.proofs.lemmas.List.Elements.{All-from_recursion}
 use Rattle.crc_division.specs.Bits.{bits, number}
@@ -27,7 +27,7 @@ use Rattle.fabric_model.specs.Steps.{Hold, Free, Take, Leave, Linked, AtNode}
 use Rattle.fabric_trace.specs.Fold.{sends}
 use Rattle.fabric_trace.specs.Lines.{Sent, Got, Stepped, Signed}
 use Rattle.fabric_trace.specs.Runs.{Runs}
-use Rattle.fabric_trace.specs.Examples.{near, far, packet_chars, accepted_chars, packet_script, packet_trace}
+use Rattle.fabric_trace.specs.Examples.{near, far, packet_chars, accepted_chars, packet_script, packet_trace, status_chars, telling_script, telling_trace}
 
 body : IsBody (body_of 0 15 false 2 1 (0xca ∷ 0xfe ∷ 0x00 ∷ 0x01 ∷ []))
 body = record {
@@ -35,8 +35,19 @@ body = record {
   least = omega arith;
   most = omega arith;
   range =
-      All-from_recursion (λ b. b < 256) (body_of 0 15 false 2 1 (0xca ∷ 0xfe ∷ 0x00 ∷ 0x01 ∷ []))
-      (omega arith, (omega arith, (omega arith, (omega arith, (omega arith, (omega arith, (omega arith, (omega arith, tt))))))));
+      All-from_recursion (λ b. b < 256) (body_of 0 15 false 2 1 (0xca ∷ 0xfe ∷ 0x00 ∷ 0x01 ∷ [])) (
+        omega arith,
+        (
+          omega arith,
+          (
+            omega arith,
+            (
+              omega arith,
+              (omega arith, (omega arith, (omega arith, (omega arith, tt)))),
+            ),
+          ),
+        ),
+      );
   origin = omega arith;
 }
 
@@ -57,7 +68,8 @@ packet_runs = (
     refl,
     refl,
     (
-      Signed (Got far packet_chars) ∷ Stepped (Linked (Hold far packet)) ∷ Signed (Sent far accepted_chars) ∷ [],
+      Signed (Got far packet_chars) ∷ Stepped (Linked (Hold far packet))
+          ∷ Signed (Sent far accepted_chars) ∷ [],
       _,
       refl,
       refl,
@@ -70,10 +82,27 @@ packet_runs = (
           Stepped (AtNode (Leave 1 packet)) ∷ [],
           _,
           refl,
-          record { endpoint = refl; device = new_endpoint 2 true; stands = refl; form = tt; lines = refl },
+          record {
+            endpoint = refl;
+            device = new_endpoint 2 true;
+            stands = refl;
+            form = tt;
+            lines = refl;
+          },
           refl,
         ),
       ),
     ),
   ),
+)
+
+-- a status of the one port, and none of the other
+pub telling_runs : Runs telling_script telling_trace
+unfolding run place_after kind spelled is_spelling crc5_value crc5_of crc5_message field_bits bits number division_steps complemented packet_event carried fed shifted shifted_times with_crc with_more symbol_bytes symbol_chars_of bytes_with_ack packet_chars_of bursts turned highest_below window come sends replies greatest_first
+telling_runs = (
+  Signed (Sent near status_chars) ∷ [],
+  _,
+  refl,
+  refl,
+  ([], _, refl, refl, (Signed (Got far status_chars) ∷ [], _, refl, refl, refl)),
 )

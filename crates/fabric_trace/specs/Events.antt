@@ -3,7 +3,7 @@ use Rattle.std.specs.Prelude.{◌≡◌, ℕ, Bool, true, false, ◌%◌, ◌^�
 use Rattle.rio_packets.specs.Making.{most_rest}
 use Rattle.fabric_script.specs.declared.ports.PortRef.{PortRef}
 use Rattle.fabric_script.specs.declared.lines.Line.{Line}
-use Rattle.fabric_script.specs.declared.lines.Line.TheVariants.{Endpoint, Switch, Link, Buffers, Send, Read, Write, Pump, Deliver, Alter, Insert, Erase, Timeout, Settle, Move, Collect, Run, Send16, Read16, Write16}
+use Rattle.fabric_script.specs.declared.lines.Line.TheVariants.{Endpoint, Switch, Link, Buffers, Send, Read, Write, Pump, Deliver, Alter, Insert, Erase, Timeout, Settle, Move, Collect, Run, Send16, Read16, Write16, Credits}
 use Rattle.fabric_script.specs.declared.lines.Numbered.{Numbered}
 use Rattle.fabric_script.specs.LineTexts.{AreNamed}
 use Rattle.fabric_model.specs.Network.{Network, IsEndpoint, IsSwitch, peer_in}
@@ -32,6 +32,7 @@ IsPort counts p = p.port < get_or counts p.node 0
 abbrev pub ArePorts : List ℕ → Line → Type 0
 ArePorts counts (Link a b) = IsPort counts a × IsPort counts b
 ArePorts counts (Buffers port n) = IsPort counts port
+ArePorts counts (Credits port) = IsPort counts port
 ArePorts counts (Pump port n) = IsPort counts port
 ArePorts counts (Deliver port n) = IsPort counts port
 ArePorts counts (Alter port place ch) = IsPort counts port

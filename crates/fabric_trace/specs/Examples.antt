@@ -6,7 +6,7 @@ use Rattle.link_model.specs.declared.event.Event.TheVariants.{Ctl, Pkt}
 use Rattle.link_model.specs.Output as out
 use Rattle.link_model.specs.Symbols.{packet_accepted}
 use Rattle.fabric_script.specs.declared.ports.PortRef.{PortRef}
-use Rattle.fabric_script.specs.declared.lines.Line.TheVariants.{Endpoint, Switch, Link, Send, Pump, Deliver, Alter, Insert, Timeout, Settle, Move, Collect}
+use Rattle.fabric_script.specs.declared.lines.Line.TheVariants.{Endpoint, Switch, Link, Credits, Send, Pump, Deliver, Alter, Insert, Timeout, Settle, Move, Collect}
 use Rattle.fabric_script.specs.declared.lines.Numbered.{Numbered}
 use Rattle.maint_registers.specs.Devices.{new_switch}
 use Rattle.fabric_model.specs.Network.{Item, Network, port_of, with_lane}
@@ -105,6 +105,32 @@ packet_trace =
     ∷ Ended
     ∷ []
 
+-- ---- a port that tells its free buffers
+
+-- status with NOP: ackID 0 is expected, and 8 buffers are free
+abbrev pub status_chars : List Char
+status_chars = Special 0x1c ∷ Data 0x80 ∷ Data 0x47 ∷ Data 0x06 ∷ []
+
+-- One of two ports tells. Each has nothing to send and takes a turn, and the other gets the status.
+abbrev pub telling_script : List Numbered
+telling_script =
+    record { number = 1; line = Endpoint 0 1 }
+    ∷ record { number = 2; line = Endpoint 1 2 }
+    ∷ record { number = 3; line = Link near far }
+    ∷ record { number = 4; line = Credits near }
+    ∷ record { number = 5; line = Pump near 1 }
+    ∷ record { number = 6; line = Pump far 1 }
+    ∷ record { number = 7; line = Deliver near 4 }
+    ∷ []
+
+abbrev pub telling_trace : List TraceLine
+telling_trace =
+    Begun (Pump near 1) ∷ Signed (Sent near status_chars)
+    ∷ Begun (Pump far 1)
+    ∷ Begun (Deliver near 4) ∷ Signed (Got far status_chars)
+    ∷ Ended
+    ∷ []
+
 -- ---- switches
 
 -- a switch has nothing to move
@@ -184,7 +210,7 @@ acted_from_nowhere = Signed (Got far accepted_chars) ∷ Ended ∷ []
 abbrev pub named_though_sent : List TraceLine
 named_though_sent =
     Signed (Sent near accepted_chars) ∷ Signed (Got far accepted_chars)
-    ∷ Undetected 1 far (Ctl (packet_accepted 0)) ∷ []
+    ∷ Undetected 1 far (Ctl (packet_accepted 0 31)) ∷ []
 
 -- a link was to settle, and a character is still on its way at the end
 abbrev pub not_settled : List TraceLine

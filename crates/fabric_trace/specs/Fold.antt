@@ -53,7 +53,7 @@ says chars = said start chars
 abbrev pub symbol_leaves : ℕ → out.Output → out.Output
 symbol_leaves s1 (out.Output.Ok w) = out.Output.Ok w
 symbol_leaves s1 (out.Output.RetryStopped w) =
-    if s1 == RESTART_FROM_RETRY then out.Output.Ok (from_ack w.oldest)
+    if s1 == RESTART_FROM_RETRY then out.Output.Ok (from_ack w.oldest w.report)
     else out.Output.RetryStopped w
 symbol_leaves s1 (out.Output.ErrorStopped asked w) =
     if s1 == LINK_REQUEST then out.Output.ErrorStopped true w else out.Output.ErrorStopped asked w

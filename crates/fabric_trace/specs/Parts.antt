@@ -4,7 +4,7 @@ use Rattle.std.specs.Prelude.{◌≡◌, ◌<◌, ℕ, true, List, [], ◌∷◌
 use Rattle.rio_packets.specs.Fields.{prio_of}
 use Rattle.link_model.specs.declared.event.Event.{Event}
 use Rattle.link_watch.specs.declared.side.Side.TheVariants.{A}
-use Rattle.link_machine.specs.Calls.{has_chars, pump_notes, delivery_notes, is_silent, time_out_notes}
+use Rattle.link_machine.specs.Calls.{has_chars, pump_notes, tell_notes, delivery_notes, is_silent, time_out_notes}
 use Rattle.fabric_script.specs.declared.ports.PortRef.{PortRef}
 use Rattle.fabric_script.specs.declared.lines.Line.{Line}
 use Rattle.fabric_model.specs.Steps.{NodeStep, Take, Leave, DeviceStep, AtNode, ByDevice, Needs}
@@ -38,6 +38,9 @@ pub data Part (s : Seen) (lines : List TraceLine) : Type 0 where
   -- turns of a port
   Turns : (p q : PortRef) (n : ℕ) → peer_of s p ≡ Some q → s.unfaithful ≡ None
       → lines ≡ lines_of p q (pump_notes A n (link_at s p q)) → Part s lines
+  -- the status of a port that tells its free buffers
+  Tells : (p q : PortRef) → peer_of s p ≡ Some q → s.unfaithful ≡ None
+      → lines ≡ lines_of p q (tell_notes A (link_at s p q)) → Part s lines
   -- characters of the wire of p come to q
   Delivers : (p q : PortRef) (n : ℕ) → peer_of s p ≡ Some q → s.unfaithful ≡ None
       → has_chars A n (link_at s p q) ≡ true

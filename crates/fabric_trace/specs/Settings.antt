@@ -1,16 +1,20 @@
 -- What the lines of set-up make of a network.
-use Rattle.std.specs.Prelude.{ℕ, false, List, [], ◌∷◌, ◌++◌, if◌then◌else◌}
+use Rattle.std.specs.Prelude.{ℕ, Bool, false, ◌||◌, List, [], ◌∷◌, ◌++◌, if◌then◌else◌}
 use Rattle.maint_registers.specs.Devices.{Device, new_endpoint, new_switch}
 pub use Rattle.maint_registers.specs.Changes.{linked_at, routed, defaulted, held_by, large_set}
 use Rattle.fabric_script.specs.declared.ports.PortRef.{PortRef}
 use Rattle.fabric_script.specs.declared.lines.Line.{Line}
-use Rattle.fabric_script.specs.declared.lines.Line.TheVariants.{Endpoint, Switch, Link, Buffers, Route, Default, Lock, Large}
+use Rattle.fabric_script.specs.declared.lines.Line.TheVariants.{Endpoint, Switch, Link, Buffers, Route, Default, Lock, Large, Credits}
 use Rattle.fabric_script.specs.declared.lines.Numbered.{Numbered}
 use Rattle.fabric_model.specs.Network.{Network, same_port, with_device}
 
 -- so many receive buffers at a port
 abbrev pub with_buffers : (PortRef → ℕ) → PortRef → ℕ → PortRef → ℕ
 with_buffers buffers p n q = if same_port q p then n else buffers q
+
+-- a port tells how many of its receive buffers are free
+abbrev pub with_tells : (PortRef → Bool) → PortRef → PortRef → Bool
+with_tells tells p q = same_port q p || tells q
 
 -- one more device
 abbrev pub with_node : Network → Device → Network
@@ -34,6 +38,7 @@ set_up net (Route node id p) = with_change net node (routed id p)
 set_up net (Default node p) = with_change net node (defaulted p)
 set_up net (Lock node id) = with_change net node (held_by id)
 set_up net (Large node id) = with_change net node (large_set id)
+set_up net (Credits port) = record net { tells = with_tells net.tells port }
 set_up net _ = net
 
 abbrev pub set_up_all : Network → List Numbered → Network

@@ -1,6 +1,6 @@
 -- A port as the step tables see it: what it knows beside its packets, and its lists as the plain
 -- network has them.
-use Rattle.std.specs.Prelude.{ℕ, ◌==◌, List, [], ◌∷◌, ◌++◌, map, filter}
+use Rattle.std.specs.Prelude.{ℕ, ◌==◌, List, [], ◌∷◌, ◌++◌, map, filter, None}
 use Rattle.rio_packets.specs.Fields.{prio_of}
 use Rattle.link_model.specs.Places.{Place, start}
 use Rattle.link_model.specs.Output as out
@@ -16,9 +16,10 @@ pub record Half : Type 0 where
   pub output : out.Output
   pub input : in_half.Input
 
--- of a port that has done nothing: it begins with ackID 0 both ways
+-- of a port that has done nothing: it begins with ackID 0 both ways, and was told nothing
 abbrev pub new_half : Half
-new_half = record { place = start; output = out.Output.Ok (from_ack 0); input = in_half.Input.Ok 0 }
+new_half =
+    record { place = start; output = out.Output.Ok (from_ack 0 None); input = in_half.Input.Ok 0 }
 
 abbrev pub half_of : PortState → Half
 half_of port = record { place = port.place; output = port.output; input = port.input }
@@ -43,4 +44,5 @@ view net p half = record {
   input = half.input;
   queued = lists_in (queue net p);
   received = record { lists = lists_in (net.received p); buffers = net.buffers p };
+  tells = net.tells p;
 }

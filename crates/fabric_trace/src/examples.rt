@@ -12,7 +12,7 @@ ghost use Rattle.fabric_model.specs.Serving.{next_at};
 ghost use Rattle.fabric_model.specs.Steps.{LegalFrom};
 ghost use Rattle.fabric_trace.specs.Allowance.{FreesAllowed};
 ghost use Rattle.fabric_trace.specs.AtRest.{IsBlockAtRest};
-ghost use Rattle.fabric_trace.specs.Examples.{near, far, pair, idle_script, idle_trace, packet_script, packet_trace, accepted_chars, switch_script, switch_trace, two_held, dropped_at, moved_to, joined_with_itself, held_from_nowhere, held_in_wrong_order, freed, freed_twice, freed_later, accepted_in_pieces, got_from_nowhere, got_another, got_nothing, sent_from_nowhere, fired, still_under_way, moving, acted_from_nowhere, named_though_sent, not_settled, not_settled_yet, goes_on_with, named_at, near_failed, found_before};
+ghost use Rattle.fabric_trace.specs.Examples.{near, far, pair, idle_script, idle_trace, packet_script, packet_trace, telling_script, telling_trace, accepted_chars, switch_script, switch_trace, two_held, dropped_at, moved_to, joined_with_itself, held_from_nowhere, held_in_wrong_order, freed, freed_twice, freed_later, accepted_in_pieces, got_from_nowhere, got_another, got_nothing, sent_from_nowhere, fired, still_under_way, moving, acted_from_nowhere, named_though_sent, not_settled, not_settled_yet, goes_on_with, named_at, near_failed, found_before};
 ghost use Rattle.fabric_trace.specs.Faithful.{Faithful};
 ghost use Rattle.fabric_trace.specs.Firsts.{FindsFirst};
 ghost use Rattle.fabric_trace.specs.Fold.{says, seen};
@@ -39,6 +39,12 @@ pub fn small_run()
 /// So is the run of one packet, which is taken, sent, held, acknowledged, freed and collected.
 pub fn small_run_with_a_packet()
     ensures { Runs packet_script packet_trace }
+{}
+
+/// So is that of a status, which a port that tells its free buffers sends in a turn, and another
+/// does not.
+pub fn small_run_with_a_status()
+    ensures { Runs telling_script telling_trace }
 {}
 
 /// So is that of a switch that has nothing to move.
@@ -79,7 +85,7 @@ pub fn laws_can_fail()
 /// in two deliveries: the second completes it.
 pub fn laws_of_frees_can_fail()
     ensures freed { FreesSaid near nothing_got 0 freed → ⊥ }
-    ensures twice { (known : Gotten) → completed known ≡ Ctl (packet_accepted 0) ∷ []
+    ensures twice { (known : Gotten) → completed known ≡ Ctl (packet_accepted 0 31) ∷ []
         → FreesSaid near known 0 freed_twice → ⊥ }
     ensures pieces { FreesSaid near accepted_in_pieces 0 freed }
     ensures noted { FreesNoted near false freed → ⊥ }

@@ -86,8 +86,8 @@ pub fn states_stay_ready()
         → IsReady (seen s lines) }
 {}
 
-/// Every trace of a script is made of parts: event lines, steps at nodes, turns, deliveries and
-/// time-outs, each in the state that is reached.
+/// Every trace of a script is made of parts: event lines, steps at nodes, turns, statuses,
+/// deliveries and time-outs, each in the state that is reached.
 pub fn runs_are_made()
     ensures { (script : List Numbered) (lines : List TraceLine)
         → MaySetUpAll bare script → Runs script lines → Made (start script) lines }

@@ -9,18 +9,18 @@
 //! - `Fold`: the one fold that reads a trace, by its lines alone;
 //! - `Served`, `Blocks`: which lines each event makes, from what is known before it, those of
 //!   devices first; `Rounds`: what the rounds of a run are;
-//! - `Settings`: what the lines of set-up make of a network; `SetUps`: which networks they may give;
-//!   `Events`: which events may happen in a network; `Runs`: what a trace of a script is; `Ready`:
-//!   from which states a trace may go on;
+//! - `Settings`: what the lines of set-up make of a network; `SetUps`: which networks they may
+//!   give; `Events`: which events may happen in a network; `Runs`: what a trace of a script is;
+//!   `Ready`: from which states a trace may go on;
 //! - `Parts`: what may stand in a trace, whatever script it is of;
 //! - `Links`, `Wires`, `Owned`, `Holds`, `Faithful`, `Ends`: what is true of each link, of the
 //!   characters that a port got, of those that it sent, of the packets that it holds, of the events
 //!   that it acted on, and of the last line;
-//! - `Frees`, `Noted`, `Allowance`: that what a port frees was acknowledged, in the delivery where it
-//!   is freed, and that it frees no more than it may;
+//! - `Frees`, `Noted`, `Allowance`: that what a port frees was acknowledged, in the delivery where
+//!   it is freed, and that it frees no more than it may;
 //! - `Working`, `OnTheWay`: senders that never fail, nor within a delivery;
-//! - `Settled`, `AtRest`, `Firsts`: that an event is over when the next begins, that links are at rest
-//!   when they have settled, and that what is found not to be sent is the first;
+//! - `Settled`, `AtRest`, `Firsts`: that an event is over when the next begins, that links are at
+//!   rest when they have settled, and that what is found not to be sent is the first;
 //! - `Shown`: all laws of a trace together;
 //! - `Examples`: small runs, and lines that the laws do not allow.
 //!
@@ -34,7 +34,7 @@ mod scripts;
 
 pub use examples::{
     laws_can_fail, laws_of_frees_can_fail, laws_of_links_can_fail, small_run,
-    small_run_with_a_packet, small_run_with_a_switch, two_ports_in_order,
+    small_run_with_a_packet, small_run_with_a_status, small_run_with_a_switch, two_ports_in_order,
 };
 pub use laws::{
     a_trace_ends, acted_events_were_sent, every_script_has_one_trace, first_blocks_are_a_front,

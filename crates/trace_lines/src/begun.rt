@@ -51,6 +51,7 @@ fn keyword(line: &Line) -> &'static [u8]
         Line::Default { .. } => b"default",
         Line::Lock { .. } => b"lock",
         Line::Large { .. } => b"large",
+        Line::Credits { .. } => b"credits",
         Line::Send { .. } => b"send",
         Line::Read { .. } => b"read",
         Line::Write { .. } => b"write",
@@ -109,7 +110,9 @@ fn put_words<K: Sink>(outbox: &mut Outbox<K>, names: &[Name], line: &Line)
             put_port(outbox, names, *port);
             put_numbers(outbox, *place, *n);
         }
-        Line::Timeout { port } | Line::Settle { port } => put_port(outbox, names, *port),
+        Line::Credits { port } | Line::Timeout { port } | Line::Settle { port } => {
+            put_port(outbox, names, *port);
+        }
         Line::Move { node } | Line::Collect { node } => put_node(outbox, names, *node),
         Line::Run { n } => put_number(outbox, *n),
     }
