@@ -36,7 +36,6 @@ use Rattle.fabric_ports.specs.Fetching.{RoundsLeave, AskLeaves}
 use Rattle.fabric_ports.specs.Places.{IsEndpointAt}
 use Rattle.fabric_ports.specs.Ran.{Ran, RanEnds}
 use Rattle.fabric_ports.specs.declared.answers.EventEnd.{EventEnd}
-use Rattle.fabric_ports.specs.declared.answers.EventEnd.TheVariants as Ends
 use Rattle.fabric_ports.specs.declared.answers.Happened.{Happened}
 use Rattle.fabric_ports.specs.declared.fabric.Fabric.{Fabric}
 use Rattle.fabric_ports.proofs.LeaveLaws.{leaves_behind, nothing_leaves as none_of, did_stands}

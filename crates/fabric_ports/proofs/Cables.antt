@@ -237,6 +237,7 @@ port_stays {s} {t} c un =
           (λ r. filter (λ (item : Item). prio_of item.now == r) (un.lists.lent i) ++
           un.lists.waiting i r);
       received = record { lists = lists_in (un.lists.received i); buffers = un.lists.buffers i };
+      tells = un.lists.tells i;
     }
 
 pub changed_shows : (old new : Fabric) (s t : Seen) (k : ℕ) (d : Cable) (wires : Wires)

@@ -27,7 +27,7 @@ use Rattle.fabric_ports.specs.Events.{Did, collected}
 use Rattle.fabric_ports.specs.Places.{IsEndpointAt}
 use Rattle.fabric_ports.specs.Showing.{ShowsFabric}
 use Rattle.fabric_ports.proofs.Changes.{set-change}
-use Rattle.fabric_ports.proofs.FaceLaws.{without_own, without_other, more_own, more_other, face_of_port, port_faced, port_stays}
+use Rattle.fabric_ports.proofs.FaceLaws.{without_own, without_other, more_own, more_other, face_of_port, SamePlans, port_faced, port_stays}
 use Rattle.fabric_ports.proofs.NodeLaws.{set_same, HasBoth, port_shows}
 
 -- its packets are ones in their link form
@@ -60,13 +60,13 @@ seen_after s n (Collects.Answered request response) = refl
 seen_after s n Collects.Empty = refl
 seen_after s n Collects.Full = refl
 
-buffers_stay : (net : Network) (n : ℕ) (told : Collected)
-    → (after_collect net n told).buffers ≡ net.buffers
+plans_stay : (net : Network) (n : ℕ) (told : Collected)
+    → SamePlans (after_collect net n told) net
 unfolding after_collect
-buffers_stay net n (Collects.Left packet) = refl
-buffers_stay net n (Collects.Answered request response) = refl
-buffers_stay net n Collects.Empty = refl
-buffers_stay net n Collects.Full = refl
+plans_stay net n (Collects.Left packet) = (refl, refl)
+plans_stay net n (Collects.Answered request response) = (refl, refl)
+plans_stay net n Collects.Empty = (refl, refl)
+plans_stay net n Collects.Full = (refl, refl)
 
 links_stay : (net : Network) (n : ℕ) (told : Collected)
     → (after_collect net n told).links ≡ net.links
@@ -139,8 +139,8 @@ pub did_collect : (names : List (List ℕ)) {K : Type 0} (written : K → Option
     → WasCollected device next x y told → HasBoth old new n next (port_of n) y
     → happens ≡ collected (collect_lines n told)
     → Writes written faults b b2 (trace_text names (collect_lines n told))
-    → Did (λ block. IsCollect s.network n block × (happens ≡ collected block)) names written faults b
-    b2 s new
+    → Did (λ block. IsCollect s.network n block × (happens ≡ collected block)) names written faults
+    b b2 s new
 did_collect names written faults b b2 s old new n device next x y told happens shows sent at stands
     is was has answers prints =
     let net = s.network in
@@ -153,11 +153,11 @@ did_collect names written faults b b2 s old new n device next x y told happens s
     let own : face_of_port y ≡ face_in later p = was.face
     ∙ ap (λ (z : PortState). face_after (face_of_port z) told) (sym is)
     ∙ sym (collect_face net n told was.forms) in
-    let becomes : port_at t p ≡ y = port_faced s later p y (buffers_stay net n told)
+    let becomes : port_at t p ≡ y = port_faced s later p y (plans_stay net n told)
     (subst (λ z. AreAlike z y) (sym is) was.alike) own in
     let showing : ShowsFabric new t = port_shows old new s t n device next y shows at stands
     was.same has becomes
-    (λ q apart. port_stays s later q (buffers_stay net n told) (collect_others net n told q apart))
+    (λ q apart. port_stays s later q (plans_stay net n told) (collect_others net n told q apart))
     refl (links_stay net n told)
     (collect_registers net n device told known
     ∙ ap (slice_set net.registers n) (sym was.registers)) in

@@ -15,16 +15,15 @@ use Rattle.link_wires.specs.declared.edits.Edited.{Edited}
 use Rattle.link_machine.specs.Calls.{edited_from}
 use Rattle.link_machine.specs.States.{Wires, LinkState, link, wire_at}
 use Rattle.fabric_script.specs.declared.lines.Line.{Line}
-use Rattle.fabric_script.specs.declared.lines.Line.TheVariants.{Endpoint, Switch, Link, Buffers, Route, Default, Lock, Large, Send, Read, Write, Pump, Deliver, Alter, Insert, Erase, Timeout, Settle, Move, Collect, Run, Send16, Read16, Write16}
+use Rattle.fabric_script.specs.declared.lines.Line.TheVariants.{Endpoint, Switch, Link, Buffers, Route, Default, Lock, Large, Send, Read, Write, Pump, Deliver, Alter, Insert, Erase, Timeout, Settle, Move, Collect, Run, Send16, Read16, Write16, Credits}
 use Rattle.fabric_script.specs.declared.ports.PortRef.{PortRef}
-use Rattle.fabric_model.specs.Network.{Network, same_port}
+use Rattle.fabric_model.specs.Network.{same_port}
 use Rattle.fabric_model.proofs.Peers.{apart_back}
 use Rattle.fabric_trace.specs.Blocks.{port_at_side, edits, IsBlock}
 use Rattle.fabric_trace.specs.Fold.{edit_of, changed, edited_by, seen}
 use Rattle.fabric_trace.specs.Known.{Wire, Seen, wire_state, port_at, link_at}
 use Rattle.fabric_trace.specs.Lines as traced
 use Rattle.fabric_trace.specs.Lines.{TraceLine, Begun, Lacked}
-use Rattle.fabric_trace.specs.Runs.{begins}
 use Rattle.fabric_trace.specs.Text.{trace_text}
 use Rattle.fabric_trace.proofs.Folding.{wire_own, wire_other}
 use Rattle.fabric_trace.proofs.Making.{AreOthers}
@@ -56,6 +55,7 @@ edit_block s (Endpoint name id) port edit block is same = absurd cc
 edit_block s (Switch name ports) port edit block is same = absurd cc
 edit_block s (Link a b) port edit block is same = absurd cc
 edit_block s (Buffers p n) port edit block is same = absurd cc
+edit_block s (Credits p) port edit block is same = absurd cc
 edit_block s (Route node id p) port edit block is same = absurd cc
 edit_block s (Default node p) port edit block is same = absurd cc
 edit_block s (Lock node id) port edit block is same = absurd cc

@@ -4,7 +4,7 @@ use Rattle.std.proofs.lemmas.Option.{slice_get-get_or, slice_get_within, get_or_
 use Rattle.link_watch.specs.declared.side.Side.{Side}
 use Rattle.link_watch.specs.declared.side.Side.TheVariants.{A, B}
 use Rattle.fabric_script.specs.declared.ports.PortRef.{PortRef}
-use Rattle.fabric_model.specs.Network.{Network, same_port, link_in, peer_in}
+use Rattle.fabric_model.specs.Network.{same_port, link_in, peer_in}
 use Rattle.fabric_model.specs.Laws.Proper.{AreProper}
 use Rattle.fabric_model.proofs.Peers.{port_is}
 use Rattle.fabric_ports.specs.Ends.{IsLinked, IsEndOf, IsPlaceOf}
@@ -19,7 +19,6 @@ use Rattle.fabric_ports.proofs.PlaceLaws.{places_apart}
 use Rattle.fabric_trace.specs.Fold.{seen}
 use Rattle.fabric_trace.specs.Known.{Seen}
 use Rattle.fabric_trace.specs.Lines.{TraceLine}
-use Rattle.fabric_trace.specs.Runs.{begins}
 
 drop_at : {X : Type 0} (xs : List X) (k : ℕ) (x : X) → k < length xs → x ≡ slice_index_or xs k x
     → (rest : List X) × (drop k xs ≡ x ∷ rest)

@@ -10,7 +10,7 @@ use Rattle.maint_registers.specs.Devices.{Device, is_switch}
 use Rattle.maint_packets.specs.declared.request.Request.{Request}
 use Rattle.maint_packets.specs.Requests.{request_body}
 use Rattle.fabric_script.specs.declared.lines.Line.{Line}
-use Rattle.fabric_script.specs.declared.lines.Line.TheVariants.{Endpoint, Switch, Link, Buffers, Route, Default, Lock, Large, Send, Read, Write, Pump, Deliver, Alter, Insert, Erase, Timeout, Settle, Move, Collect, Run, Send16, Read16, Write16}
+use Rattle.fabric_script.specs.declared.lines.Line.TheVariants.{Send, Read, Write, Pump, Deliver, Alter, Insert, Erase, Timeout, Settle, Move, Collect, Run, Send16, Read16, Write16}
 use Rattle.fabric_script.specs.Lines.{is_event}
 use Rattle.fabric_model.specs.Network.{Network, IsEndpoint, IsSwitch, sender_id, id_of, peer_in}
 use Rattle.fabric_trace.specs.Blocks.{takes, Sends, IsBlock}
@@ -18,7 +18,6 @@ use Rattle.fabric_trace.specs.Events.{HasLink, IsThere}
 use Rattle.fabric_trace.specs.Fold.{edit_of, edited_by, seen}
 use Rattle.fabric_trace.specs.Known.{Seen}
 use Rattle.fabric_trace.specs.Lines.{TraceLine, Begun}
-use Rattle.fabric_trace.specs.Runs.{begins}
 use Rattle.fabric_trace.specs.Text.{trace_line_text, trace_text}
 use Rattle.fabric_script.specs.declared.ports.PortRef.{PortRef}
 use Rattle.fabric_ports.specs.declared.answers.EventEnd.{EventEnd}

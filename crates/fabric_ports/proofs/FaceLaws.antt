@@ -1,5 +1,5 @@
 -- What steps make of the lists of ports, and what a port is that has the lists of another network.
-use Rattle.std.proofs.Common.{◌≡◌, ◌≢◌, ◌⊎◌, ℕ, zero, suc, ◌<◌, ◌==◌, ◌&&◌, inl, inr, true, false, List, [], ◌∷◌, ◌++◌, filter, drop, length, slice_set, refl, sym, ap, ◌∙◌, arith, if◌then◌else◌, append_assoc, length-set}
+use Rattle.std.proofs.Common.{◌≡◌, ◌≢◌, ◌⊎◌, ℕ, Bool, zero, suc, ◌<◌, ◌==◌, ◌&&◌, inl, inr, true, false, List, [], ◌∷◌, ◌++◌, filter, drop, length, slice_set, refl, sym, ap, ◌∙◌, arith, if◌then◌else◌, append_assoc, length-set}
 use Rattle.std.proofs.lemmas.Bool.{cases_eq, false_from_ne_true}
 use Rattle.rio_packets.specs.Fields.{prio_of}
 use Rattle.link_buffers.specs.Queues.{list_at, appended, popped}
@@ -88,7 +88,8 @@ port node n = record { node = node; port = n }
 
 pub nodes_differ : (p q : PortRef) → q.node ≢ p.node → same_port q p ≡ false
 nodes_differ p q apart =
-    false_from_ne_true (same_port q p) (λ same. apart (ap (λ (c : PortRef). c.node) (port_is q p same)))
+    false_from_ne_true (same_port q p)
+    (λ same. apart (ap (λ (c : PortRef). c.node) (port_is q p same)))
 
 ports_differ : (node j k : ℕ) → j ≢ k → same_port (port node j) (port node k) ≡ false
 ports_differ node j k apart =
@@ -160,24 +161,31 @@ put_faces net node n at item faces few are =
 abbrev pub face_of_port : PortState → Face
 face_of_port port = record { received = port.received.lists; queued = port.queued }
 
--- a port that is alike to what it was, and has the lists of another network, is the one that is known there
+-- the ports of two networks have as many buffers, and tell their free ones or do not alike
+abbrev pub SamePlans : Network → Network → Type 0
+SamePlans next net = (next.buffers ≡ net.buffers) × (next.tells ≡ net.tells)
+
+-- a port that is alike to what it was, and has the lists of another network, is the one that is
+-- known there
 pub port_faced : (s : Seen) (next : Network) (p : PortRef) (y : PortState)
-    → next.buffers ≡ s.network.buffers → AreAlike (port_at s p) y
+    → SamePlans next s.network → AreAlike (port_at s p) y
     → face_of_port y ≡ face_in next p → port_at (record s { network = next }) p ≡ y
-port_faced s next p y buffers alike face =
+port_faced s next p y plans alike face =
     let own = sym face in
-    let many = ap (λ (f : PortRef → ℕ). f p) buffers ∙ alike.0 in
+    let many = ap (λ (f : PortRef → ℕ). f p) plans.0 ∙ alike.0 in
+    let tells = ap (λ (f : PortRef → Bool). f p) plans.1 ∙ alike.4 in
     λ i. record {
       place = alike.1 i;
       output = alike.2 i;
       input = alike.3 i;
       queued = (own i).queued;
       received = record { lists = (own i).received; buffers = many i };
+      tells = tells i;
     }
 
 -- a port whose lists are as they were stays
-pub port_stays : (s : Seen) (next : Network) (p : PortRef) → next.buffers ≡ s.network.buffers
+pub port_stays : (s : Seen) (next : Network) (p : PortRef) → SamePlans next s.network
     → face_in next p ≡ face_in s.network p
     → port_at (record s { network = next }) p ≡ port_at s p
-port_stays s next p buffers face =
-    port_faced s next p (port_at s p) buffers (refl, refl, refl, refl) (sym face)
+port_stays s next p plans face =
+    port_faced s next p (port_at s p) plans (refl, refl, refl, refl, refl) (sym face)

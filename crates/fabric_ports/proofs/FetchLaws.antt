@@ -2,7 +2,6 @@
 use Rattle.std.proofs.Common.{◌≡◌, ℕ, zero, suc, ◌+◌, ◌<◌, Bool, true, false, List, [], ◌++◌, Option, Some, None, MatchBool, refl, sym, ap, ◌∙◌, subst, arith, append-nil, append_assoc}
 use Rattle.rio_chars.proofs.WrittenLaws.{Writes-nil}
 use Rattle.rio_chars.specs.declared.outbox.Outbox.{Outbox}
-use Rattle.switch_core.specs.declared.endpoint.Collected.TheVariants as Collects
 use Rattle.link_wires.specs.declared.edits.Edit.{Edit}
 use Rattle.fabric_model.specs.Network.{IsEndpoint}
 use Rattle.fabric_trace.specs.Fold.{seen}

@@ -10,7 +10,6 @@ use Rattle.link_law.proofs.RestLaws.{IsIdle, idle_by, idle_round, idle_notes, id
 use Rattle.fabric_script.specs.declared.ports.PortRef.{PortRef}
 use Rattle.fabric_trace.specs.Blocks.{lines_of, pumps, IsSettle}
 use Rattle.fabric_trace.specs.Known.{Seen, link_at}
-use Rattle.fabric_trace.specs.Lines.{TraceLine}
 use Rattle.fabric_ask.specs.Noise.{edit_lines, stirred, IsCarry}
 
 -- a wire without characters meets no edit

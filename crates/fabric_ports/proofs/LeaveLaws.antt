@@ -1,5 +1,5 @@
 -- What leaves at a host, and for which lines a fabric stands behind a call.
-use Rattle.std.proofs.Common.{◌≡◌, ℕ, ◌+◌, ◌<◌, List, [], ◌∷◌, ◌++◌, Option, Some, None, option_map, slice_get, length, ◌≤◌, refl, sym, ap, ◌∙◌, subst, arith, append_assoc}
+use Rattle.std.proofs.Common.{◌≡◌, ℕ, ◌<◌, List, [], ◌∷◌, ◌++◌, Option, Some, None, option_map, slice_get, length, ◌≤◌, refl, sym, ap, ◌∙◌, subst, arith, append_assoc}
 use Rattle.std.proofs.lemmas.Option.{slice_get_within}
 use Rattle.rio_chars.specs.declared.outbox.Outbox.{Outbox}
 use Rattle.maint_registers.specs.Devices.{Device, is_switch}

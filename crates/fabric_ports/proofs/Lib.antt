@@ -27,6 +27,7 @@ pub mod NodeLaws
 pub mod OwnLaws
 pub mod PlaceLaws
 pub mod PlanLaws
+pub mod PortPlans
 pub mod RanLaws
 pub mod RoundLaws
 pub mod RowLaws

@@ -14,20 +14,18 @@ use Rattle.link_machine.specs.States.{Wires, LinkState, link}
 use Rattle.link_rest.specs.Acts.{Act, At, Found, goes, acts_notes}
 use Rattle.link_law.specs.Does.{Comes, Stops}
 use Rattle.fabric_script.specs.declared.ports.PortRef.{PortRef}
-use Rattle.fabric_model.specs.Network.{Network, link_in}
+use Rattle.fabric_model.specs.Network.{link_in}
 use Rattle.fabric_model.proofs.Peers.{ArePeers, link_peers}
 use Rattle.fabric_trace.specs.Fold.{seen}
 use Rattle.fabric_trace.specs.Known.{Seen, port_at, link_at}
 use Rattle.fabric_trace.specs.Lines.{TraceLine, Begun}
 use Rattle.fabric_trace.specs.Blocks.{port_at_side, lines_of, IsBlock}
-use Rattle.fabric_trace.specs.Runs.{begins}
 use Rattle.fabric_trace.specs.Text.{trace_text}
 use Rattle.fabric_trace.proofs.Folding.{seen-append, lines-append}
 use Rattle.fabric_trace.proofs.Existing.{good_of}
 use Rattle.fabric_trace.proofs.Keeping.{IsGood, made_keeps}
 use Rattle.fabric_trace.proofs.Making.{Reaches}
 use Rattle.fabric_trace.proofs.Running.{acts_reach}
-use Rattle.fabric_trace.proofs.Starting.{good_start}
 use Rattle.trace_lines.specs.Watching.{WritesNotes}
 use Rattle.trace_lines.specs.declared.watching.LinkLines.{LinkLines}
 use Rattle.fabric_ports.specs.Acting.{line_for, part_of, answer_of, lack_lines}

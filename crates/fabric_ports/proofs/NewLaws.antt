@@ -1,5 +1,5 @@
 -- What a new fabric shows, and what a plan is for after more lines.
-use Rattle.std.proofs.Common.{◌≡◌, ℕ, zero, suc, ◌+◌, ◌<◌, List, [], ◌∷◌, ◌++◌, All, Some, false, map, get_or, take, drop, length, length-append, option_map, refl, sym, ap, ◌∙◌, subst, filter, ◌==◌, arith}
+use Rattle.std.proofs.Common.{◌≡◌, ℕ, zero, suc, ◌+◌, ◌<◌, List, [], ◌∷◌, ◌++◌, All, Some, None, false, map, get_or, take, drop, length, length-append, option_map, refl, sym, ap, ◌∙◌, subst, filter, ◌==◌, arith}
 use Rattle.std.proofs.lemmas.List.{take_more, drop_more, take-append-drop, length-map}
 use Rattle.std.proofs.lemmas.List.Elements.{All-head, All-tail, All-weaker}
 use Rattle.std.proofs.lemmas.Option.{same_Some, slice_get-map}
@@ -9,7 +9,6 @@ use Rattle.link_model.specs.Places.{start as place_start}
 use Rattle.link_model.specs.Output as out
 use Rattle.link_model.specs.Input as in_half
 use Rattle.link_model.specs.Outstanding.{from_ack}
-use Rattle.link_port.specs.Ports.{new_port}
 use Rattle.maint_registers.specs.Devices.{Device, is_switch}
 use Rattle.fabric_script.specs.declared.ports.PortRef.{PortRef}
 use Rattle.fabric_script.specs.declared.lines.Line.{Line}
@@ -26,27 +25,26 @@ use Rattle.fabric_trace.specs.Parts.{Done}
 use Rattle.fabric_trace.specs.Runs.{bare, set_up, set_up_all, begins}
 use Rattle.fabric_trace.specs.SetUps.{MaySetUp, MaySetUpAll}
 use Rattle.fabric_trace.specs.Views.{packets_in}
-use Rattle.fabric_trace.proofs.Starting.{good_start}
-use Rattle.fabric_model.proofs.Forms.{empty_formed}
 use Rattle.fabric_trace.proofs.Existing.{ready_begun}
 use Rattle.fabric_trace.proofs.Happening.{may_set_up, ports_there}
 use Rattle.fabric_trace.proofs.Starting.{set_up_bare}
 use Rattle.fabric_ports.specs.Places.{IsEndpointAt, place_of}
 use Rattle.fabric_ports.specs.Showing.{ShowsCable, ShowsFabric}
 use Rattle.fabric_ports.specs.Standing.{Stands}
-use Rattle.fabric_ports.specs.Plans.{counts_of, HasPorts, IsNewCable, PlansFor, MayAdd}
+use Rattle.fabric_ports.specs.Plans.{counts_of, HasPorts, IsNewCable, PlansFor, MayAdd, port_plan, planned_port}
 use Rattle.fabric_ports.proofs.PlanLaws.{Lists, lists_of, lists_same}
 use Rattle.fabric_ports.specs.declared.fabric.Fabric.{Fabric}
 use Rattle.fabric_ports.specs.declared.plans.Plan.{Plan}
+use Rattle.fabric_ports.specs.declared.plans.PortPlan.{PortPlan}
 
 -- ---- a new fabric
 
 -- the view of a port where no packet was taken is a new port
 new_view : (net : Network) (p : PortRef) → IsEmptyNetwork net
-    → port_at (begins net) p ≡ new_port (net.buffers p)
+    → port_at (begins net) p ≡ planned_port (port_plan net p)
 new_view net p empty = λ i. record {
   place = place_start;
-  output = out.Output.Ok (from_ack 0);
+  output = out.Output.Ok (from_ack 0 None);
   input = in_half.Input.Ok 0;
   queued =
       packets_in (filter (λ item. prio_of item.now == 0) (empty.lent p i) ++ empty.waiting p 0 i)
@@ -59,6 +57,7 @@ new_view net p empty = λ i. record {
         (empty.received p 2 i) ∷ packets_in (empty.received p 3 i) ∷ [];
     buffers = net.buffers p;
   };
+  tells = net.tells p;
 }
 
 -- an endpoint has a port
@@ -75,17 +74,17 @@ endpoint_at (device ∷ devices) (suc n) have is =
     let one = endpoint_at devices n (All-tail HasPorts device devices have) is in
     record { device = one.device; stands = one.stands; kind = one.kind; has_port = one.has_port }
 
--- a fabric with new ports of the planned buffers shows the network of the plan
-new_shows : (fabric : Fabric) (buffers : List ℕ) (net : Network) → IsEmptyNetwork net
-    → Lists fabric.devices.items fabric.firsts.items buffers fabric.cables.items net
-    → fabric.ports.items ≡ map new_port buffers → ShowsFabric fabric (begins net)
-new_shows fabric buffers net empty l ports = record {
+-- a fabric with new ports as planned shows the network of the plan
+new_shows : (fabric : Fabric) (plans : List PortPlan) (net : Network) → IsEmptyNetwork net
+    → Lists fabric.devices.items fabric.firsts.items plans fabric.cables.items net
+    → fabric.ports.items ≡ map planned_port plans → ShowsFabric fabric (begins net)
+new_shows fabric plans net empty l ports = record {
   firsts = l.rows;
-  count = ap length ports ∙ length-map buffers new_port ∙ l.count;
+  count = ap length ports ∙ length-map plans planned_port ∙ l.count;
   ports = λ p here.
       ap (λ ps. slice_get ps (place_of fabric.firsts.items p)) ports
-      ∙ slice_get-map new_port buffers (place_of fabric.firsts.items p)
-      ∙ ap (option_map new_port) (l.here p here) ∙ ap Some (sym (new_view net p empty));
+      ∙ slice_get-map planned_port plans (place_of fabric.firsts.items p)
+      ∙ ap (option_map planned_port) (l.here p here) ∙ ap Some (sym (new_view net p empty));
   cables = All-weaker (IsNewCable fabric.devices.items)
       (ShowsCable fabric.devices.items (begins net))
       (λ cable new. record { port_a = new.port_a; port_b = new.port_b; wires = new.wires })
@@ -100,7 +99,8 @@ new_shows fabric buffers net empty l ports = record {
 pub new_stands : (names : List (List ℕ)) (lines : List Numbered) (plan : Plan) (fabric : Fabric)
     → Passes names lines → PlansFor plan (set_up_all bare lines)
     → fabric.devices.items ≡ plan.devices.items → fabric.firsts.items ≡ plan.firsts.items
-    → fabric.cables.items ≡ plan.cables.items → fabric.ports.items ≡ map new_port plan.buffers.items
+    → fabric.cables.items ≡ plan.cables.items
+    → fabric.ports.items ≡ map planned_port plan.ports.items
     → Stands (begins (set_up_all bare lines)) [] fabric
 new_stands names lines plan fabric passes is d f c ports =
     let set_up = set_up_bare lines (may_set_up names lines passes) in
@@ -108,9 +108,9 @@ new_stands names lines plan fabric passes is d f c ports =
       ready = ready_begun (set_up_all bare lines) set_up;
       made = Done refl;
       sent = refl;
-      shows = new_shows fabric plan.buffers.items (set_up_all bare lines) set_up.empty
+      shows = new_shows fabric plan.ports.items (set_up_all bare lines) set_up.empty
           (lists_same plan.devices.items fabric.devices.items plan.firsts.items fabric.firsts.items
-          plan.buffers.items plan.buffers.items plan.cables.items fabric.cables.items
+          plan.ports.items plan.ports.items plan.cables.items fabric.cables.items
           (set_up_all bare lines) d f refl c (lists_of plan (set_up_all bare lines) is)) ports;
     }
 

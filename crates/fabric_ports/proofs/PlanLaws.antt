@@ -1,91 +1,89 @@
--- What lines of set-up make of a plan, and what a fabric shows that is made by one.
-use Rattle.std.proofs.Common.{◌≡◌, ℕ, zero, suc, ◌+◌, ◌<◌, true, false, List, [], ◌∷◌, ◌++◌, All, Some, Result, Ok, Err, IfOk, map, get_or, set, replicate, length, length-append, refl, sym, ap, ◌∙◌, subst, arith, inl, inr, if◌then◌else◌}
+-- What lines of set-up make of a plan.
+use Rattle.std.proofs.Common.{◌≡◌, ℕ, zero, suc, ◌+◌, ◌<◌, List, [], ◌∷◌, ◌++◌, All, Some, Result, Ok, Err, IfOk, map, get_or, replicate, length, length-append, refl, sym, ap, ◌∙◌, subst, arith, inl, inr}
 use Rattle.std.specs.List.{slice_get}
-use Rattle.std.proofs.lemmas.Bool.{true≢false, false_from_ne_true}
-use Rattle.std.proofs.lemmas.List.{map-append, length-set, length-replicate}
-use Rattle.std.proofs.lemmas.List.Elements.{All-nil, All-push, All-append, All-replicate, All-set, All-weaker}
+use Rattle.std.proofs.lemmas.List.{map-append, length-replicate}
+use Rattle.std.proofs.lemmas.List.Elements.{All-nil, All-push, All-append, All-replicate, All-weaker}
 use Rattle.std.proofs.Math.Seq.{get_or-append_seam}
 use Rattle.link_machine.specs.States.{empty_wires}
-use Rattle.link_sound.specs.Histories.{AreBuffers}
 use Rattle.maint_registers.specs.Devices.{Device, with_link}
 use Rattle.fabric_script.specs.declared.ports.PortRef.{PortRef}
-use Rattle.fabric_script.specs.declared.lines.Line.TheVariants.{Link, Buffers}
-use Rattle.fabric_model.specs.Network.{Network, same_port, with_device}
-use Rattle.fabric_model.proofs.Peers.{port_is, same_port-refl}
+use Rattle.fabric_script.specs.declared.lines.Line.TheVariants.{Link}
+use Rattle.fabric_model.specs.Network.{Network, with_device}
 use Rattle.fabric_trace.specs.Events.{IsPort}
 use Rattle.fabric_trace.specs.Runs.{bare, set_up}
 use Rattle.fabric_trace.specs.Settings.{with_node, with_change, with_end}
 use Rattle.fabric_ports.specs.Places.{AreFirsts, port_count, HasPort, IsPortOf, place_of}
 use Rattle.fabric_ports.specs.Showing.{ends_of, AreRegisters}
-use Rattle.fabric_ports.specs.Plans.{counts_of, HasPorts, IsNewCable, PlansFor, with_end_at}
+use Rattle.fabric_ports.specs.Plans.{counts_of, HasPorts, HasBuffers, IsNewCable, PlansFor, plain_port, port_plan, with_end_at}
 use Rattle.fabric_ports.specs.declared.fabric.Cable.{Cable}
 use Rattle.fabric_ports.specs.declared.plans.Plan.{Plan}
+use Rattle.fabric_ports.specs.declared.plans.PortPlan.{PortPlan}
 use Rattle.fabric_ports.proofs.Changes.{KeepsPorts, counts-change, firsts-change, count-change, have_ports-change, port-change, port-unchange}
-use Rattle.fabric_ports.proofs.PlaceLaws.{same_place}
-use Rattle.fabric_ports.proofs.Rows.{get-append, get-behind, get-set, get-set_other, placed, count-append, firsts-append, as_many_firsts, place_stays, port_stays, old_or_new}
+use Rattle.fabric_ports.proofs.Rows.{get-append, get-behind, placed, count-append, firsts-append, as_many_firsts, place_stays, port_stays, old_or_new}
 
 -- ---- the lists of a plan
 
 -- what a plan is for, by its lists
-pub record Lists (devices : List Device) (firsts buffers : List ℕ) (cables : List Cable)
-    (net : Network) : Type 0 where
+pub record Lists (devices : List Device) (firsts : List ℕ) (ports : List PortPlan)
+    (cables : List Cable) (net : Network) : Type 0 where
   pub rows : AreFirsts 0 devices firsts
   pub have_ports : All HasPorts devices
-  pub count : length buffers ≡ port_count devices
-  pub few : All AreBuffers buffers
+  pub count : length ports ≡ port_count devices
+  pub few : All HasBuffers ports
   pub here : (p : PortRef) → IsPortOf devices p
-      → slice_get buffers (place_of firsts p) ≡ Some (net.buffers p)
-  pub elsewhere : (p : PortRef) → ¬ IsPortOf devices p → net.buffers p ≡ 8
+      → slice_get ports (place_of firsts p) ≡ Some (port_plan net p)
+  pub elsewhere : (p : PortRef) → ¬ IsPortOf devices p → port_plan net p ≡ plain_port
   pub new : All (IsNewCable devices) cables
   pub links : map ends_of cables ≡ net.links
   pub registers : AreRegisters net devices
 
 pub lists_of : (plan : Plan) (net : Network) → PlansFor plan net
-    → Lists plan.devices.items plan.firsts.items plan.buffers.items plan.cables.items net
+    → Lists plan.devices.items plan.firsts.items plan.ports.items plan.cables.items net
 lists_of plan net is = record {
   rows = is.whole.firsts;
   have_ports = is.whole.have_ports;
   count = is.whole.count;
   few = is.whole.few;
-  here = is.buffers;
-  elsewhere = is.other_buffers;
+  here = is.ports;
+  elsewhere = is.other_ports;
   new = is.cables;
   links = is.links;
   registers = is.registers;
 }
 
-plan_of : (plan : Plan) (net : Network)
-    → Lists plan.devices.items plan.firsts.items plan.buffers.items plan.cables.items net
+pub plan_of : (plan : Plan) (net : Network)
+    → Lists plan.devices.items plan.firsts.items plan.ports.items plan.cables.items net
     → PlansFor plan net
 plan_of plan net l = record {
   whole = record { firsts = l.rows; have_ports = l.have_ports; count = l.count; few = l.few };
-  buffers = l.here;
-  other_buffers = l.elsewhere;
+  ports = l.here;
+  other_ports = l.elsewhere;
   cables = l.new;
   links = l.links;
   registers = l.registers;
 }
 
-pub lists_same : (devices devices2 : List Device) (firsts firsts2 buffers buffers2 : List ℕ)
+pub lists_same : (devices devices2 : List Device) (firsts firsts2 : List ℕ)
+    (ports ports2 : List PortPlan)
     (cables cables2 : List Cable) (net : Network) → devices2 ≡ devices → firsts2 ≡ firsts
-    → buffers2 ≡ buffers → cables2 ≡ cables → Lists devices firsts buffers cables net
-    → Lists devices2 firsts2 buffers2 cables2 net
-lists_same devices devices2 firsts firsts2 buffers buffers2 cables cables2 net d f b c l =
-    subst (λ x. Lists x firsts2 buffers2 cables2 net) (sym d)
-    (subst (λ x. Lists devices x buffers2 cables2 net) (sym f)
+    → ports2 ≡ ports → cables2 ≡ cables → Lists devices firsts ports cables net
+    → Lists devices2 firsts2 ports2 cables2 net
+lists_same devices devices2 firsts firsts2 ports ports2 cables cables2 net d f b c l =
+    subst (λ x. Lists x firsts2 ports2 cables2 net) (sym d)
+    (subst (λ x. Lists devices x ports2 cables2 net) (sym f)
     (subst (λ x. Lists devices firsts x cables2 net) (sym b)
-    (subst (λ x. Lists devices firsts buffers x net) (sym c) l)))
+    (subst (λ x. Lists devices firsts ports x net) (sym c) l)))
 
 pub plan_bare : (plan : Plan) → plan.devices.items ≡ [] → plan.firsts.items ≡ []
-    → plan.buffers.items ≡ [] → plan.cables.items ≡ [] → PlansFor plan bare
+    → plan.ports.items ≡ [] → plan.cables.items ≡ [] → PlansFor plan bare
 plan_bare plan d f b c =
     plan_of plan bare
-    (lists_same [] plan.devices.items [] plan.firsts.items [] plan.buffers.items []
+    (lists_same [] plan.devices.items [] plan.firsts.items [] plan.ports.items []
     plan.cables.items bare d f b c (record {
       rows = tt;
       have_ports = All-nil HasPorts;
       count = refl;
-      few = All-nil AreBuffers;
+      few = All-nil HasBuffers;
       here = λ p is. absurd is;
       elsewhere = λ p not. refl;
       new = All-nil (IsNewCable []);
@@ -95,53 +93,54 @@ plan_bare plan d f b c =
 
 -- ---- a device
 
-device_here : (devices : List Device) (firsts buffers : List ℕ) (cables : List Cable)
-    (net : Network) (device : Device) → Lists devices firsts buffers cables net → (p : PortRef)
-    → IsPortOf (devices ++ device ∷ []) p
-    → slice_get (buffers ++ replicate device.ports 8)
-    (place_of (firsts ++ length buffers ∷ []) p) ≡ Some (net.buffers p)
-device_here devices firsts buffers cables net device l p is =
+device_here : (devices : List Device) (firsts : List ℕ) (ports : List PortPlan)
+    (cables : List Cable) (net : Network) (device : Device)
+    → Lists devices firsts ports cables net → (p : PortRef) → IsPortOf (devices ++ device ∷ []) p
+    → slice_get (ports ++ replicate device.ports plain_port)
+    (place_of (firsts ++ length ports ∷ []) p) ≡ Some (port_plan net p)
+device_here devices firsts ports cables net device l p is =
     elim (old_or_new devices device p is) [
       | inl old ↦
           let at = placed devices firsts p l.rows old in
           let within = at.within in
           let all = l.count in
-          ap (slice_get (buffers ++ replicate device.ports 8))
-          (place_stays firsts (length buffers ∷ []) p at.known)
-          ∙ get-append buffers (replicate device.ports 8) (place_of firsts p) (omega arith)
+          ap (slice_get (ports ++ replicate device.ports plain_port))
+          (place_stays firsts (length ports ∷ []) p at.known)
+          ∙ get-append ports (replicate device.ports plain_port) (place_of firsts p) (omega arith)
           ∙ l.here p old
       | inr last ↦
           let node = last.0 in
           let port = last.1 in
           let many = as_many_firsts 0 devices firsts l.rows in
-          let first : get_or (firsts ++ length buffers ∷ []) p.node 0 ≡ length buffers =
-          ap (λ n. get_or (firsts ++ length buffers ∷ []) n 0) (node ∙ sym many)
-          ∙ get_or-append_seam firsts (length buffers) [] 0 in
-          let place : place_of (firsts ++ length buffers ∷ []) p ≡ length buffers + p.port =
+          let first : get_or (firsts ++ length ports ∷ []) p.node 0 ≡ length ports =
+          ap (λ n. get_or (firsts ++ length ports ∷ []) n 0) (node ∙ sym many)
+          ∙ get_or-append_seam firsts (length ports) [] 0 in
+          let place : place_of (firsts ++ length ports ∷ []) p ≡ length ports + p.port =
           ap (λ n. n + p.port) first in
-          get-behind buffers device.ports p.port 8 (place_of (firsts ++ length buffers ∷ []) p)
+          get-behind ports device.ports p.port plain_port (place_of (firsts ++ length ports ∷ []) p)
           port place
           ∙ ap Some (sym
           (l.elsewhere p (λ old. let at = (placed devices firsts p l.rows old).device in
           omega arith)))
     ]
 
-device_lists : (devices : List Device) (firsts buffers : List ℕ) (cables : List Cable)
-    (net : Network) (device : Device) → HasPorts device → Lists devices firsts buffers cables net
-    → Lists (devices ++ device ∷ []) (firsts ++ length buffers ∷ [])
-    (buffers ++ replicate device.ports 8) cables (with_node net device)
-device_lists devices firsts buffers cables net device has l =
+device_lists : (devices : List Device) (firsts : List ℕ) (ports : List PortPlan)
+    (cables : List Cable) (net : Network) (device : Device) → HasPorts device
+    → Lists devices firsts ports cables net
+    → Lists (devices ++ device ∷ []) (firsts ++ length ports ∷ [])
+    (ports ++ replicate device.ports plain_port) cables (with_node net device)
+device_lists devices firsts ports cables net device has l =
     let all = l.count in
     record {
       rows = subst (λ n. AreFirsts 0 (devices ++ device ∷ []) (firsts ++ n ∷ [])) (sym all)
           (firsts-append devices firsts device l.rows);
       have_ports = All-push HasPorts devices device l.have_ports has;
-      count = length-append buffers (replicate device.ports 8)
-          ∙ ap (λ n. length buffers + n) (length-replicate device.ports 8)
+      count = length-append ports (replicate device.ports plain_port)
+          ∙ ap (λ n. length ports + n) (length-replicate device.ports plain_port)
           ∙ ap (λ n. n + device.ports) all ∙ sym (count-append devices device);
-      few = All-append AreBuffers buffers (replicate device.ports 8) l.few
-          (All-replicate AreBuffers device.ports 8 (omega arith, omega arith));
-      here = device_here devices firsts buffers cables net device l;
+      few = All-append HasBuffers ports (replicate device.ports plain_port) l.few
+          (All-replicate HasBuffers device.ports plain_port (omega arith, omega arith));
+      here = device_here devices firsts ports cables net device l;
       elsewhere = λ p not. l.elsewhere p (λ old. not (port_stays devices (device ∷ []) p old));
       new = All-weaker (IsNewCable devices) (IsNewCable (devices ++ device ∷ []))
           (λ cable is. record {
@@ -156,17 +155,17 @@ device_lists devices firsts buffers cables net device has l =
 
 pub plan-device : (old new : Plan) (net : Network) (device : Device) → HasPorts device
     → new.devices.items ≡ old.devices.items ++ device ∷ []
-    → new.firsts.items ≡ old.firsts.items ++ length old.buffers.items ∷ []
-    → new.buffers.items ≡ old.buffers.items ++ replicate device.ports 8
+    → new.firsts.items ≡ old.firsts.items ++ length old.ports.items ∷ []
+    → new.ports.items ≡ old.ports.items ++ replicate device.ports plain_port
     → new.cables.items ≡ old.cables.items
     → PlansFor old net → PlansFor new (with_node net device)
 plan-device old new net device has d f b c is =
     plan_of new (with_node net device)
     (lists_same (old.devices.items ++ device ∷ []) new.devices.items
-    (old.firsts.items ++ length old.buffers.items ∷ []) new.firsts.items
-    (old.buffers.items ++ replicate device.ports 8) new.buffers.items
+    (old.firsts.items ++ length old.ports.items ∷ []) new.firsts.items
+    (old.ports.items ++ replicate device.ports plain_port) new.ports.items
     old.cables.items new.cables.items (with_node net device) d f b c
-    (device_lists old.devices.items old.firsts.items old.buffers.items old.cables.items net device
+    (device_lists old.devices.items old.firsts.items old.ports.items old.cables.items net device
     has (lists_of old net is)))
 
 pub counts-device : (devices new : List Device) (device : Device) (ports : ℕ)
@@ -178,11 +177,11 @@ counts-device devices new device ports is same =
 
 -- ---- a device that changes
 
-change_lists : (devices : List Device) (firsts buffers : List ℕ) (cables : List Cable)
-    (net : Network) (n : ℕ) (change : Device → Device) → KeepsPorts change
-    → Lists devices firsts buffers cables net
-    → Lists (with_device devices n change) firsts buffers cables (with_change net n change)
-change_lists devices firsts buffers cables net n change same l = record {
+change_lists : (devices : List Device) (firsts : List ℕ) (ports : List PortPlan)
+    (cables : List Cable) (net : Network) (n : ℕ) (change : Device → Device) → KeepsPorts change
+    → Lists devices firsts ports cables net
+    → Lists (with_device devices n change) firsts ports cables (with_change net n change)
+change_lists devices firsts ports cables net n change same l = record {
   rows = firsts-change 0 devices firsts n change same l.rows;
   have_ports = have_ports-change devices n change same l.have_ports;
   count = l.count ∙ sym (count-change devices n change same);
@@ -203,15 +202,15 @@ change_lists devices firsts buffers cables net n change same l = record {
 
 pub plan-change : (old new : Plan) (net : Network) (n : ℕ) (change : Device → Device)
     → KeepsPorts change → new.devices.items ≡ with_device old.devices.items n change
-    → new.firsts.items ≡ old.firsts.items → new.buffers.items ≡ old.buffers.items
+    → new.firsts.items ≡ old.firsts.items → new.ports.items ≡ old.ports.items
     → new.cables.items ≡ old.cables.items
     → PlansFor old net → PlansFor new (with_change net n change)
 plan-change old new net n change same d f b c is =
     plan_of new (with_change net n change)
     (lists_same (with_device old.devices.items n change) new.devices.items
-    old.firsts.items new.firsts.items old.buffers.items new.buffers.items
+    old.firsts.items new.firsts.items old.ports.items new.ports.items
     old.cables.items new.cables.items (with_change net n change) d f b c
-    (change_lists old.devices.items old.firsts.items old.buffers.items old.cables.items net n change
+    (change_lists old.devices.items old.firsts.items old.ports.items old.cables.items net n change
     same (lists_of old net is)))
 
 -- ---- a link
@@ -223,12 +222,12 @@ linked_at port device = record device { linked = with_link device.linked port }
 keeps_ports : (port : ℕ) → KeepsPorts (linked_at port)
 keeps_ports port = λ device. refl
 
-cable_lists : (devices : List Device) (firsts buffers : List ℕ) (cables : List Cable)
-    (net : Network) (a b : PortRef) → IsPortOf devices a → IsPortOf devices b
-    → Lists devices firsts buffers cables net
-    → Lists devices firsts buffers (cables ++ record { a = a; b = b; link = empty_wires } ∷ [])
+cable_lists : (devices : List Device) (firsts : List ℕ) (ports : List PortPlan)
+    (cables : List Cable) (net : Network) (a b : PortRef) → IsPortOf devices a → IsPortOf devices b
+    → Lists devices firsts ports cables net
+    → Lists devices firsts ports (cables ++ record { a = a; b = b; link = empty_wires } ∷ [])
     (record net { links = net.links ++ (a, b) ∷ [] })
-cable_lists devices firsts buffers cables net a b is_a is_b l = record {
+cable_lists devices firsts ports cables net a b is_a is_b l = record {
   rows = l.rows;
   have_ports = l.have_ports;
   count = l.count;
@@ -248,38 +247,38 @@ pub told_port : (devices : List Device) (told p : PortRef) → IsPortOf devices 
 told_port devices told p is =
     port-change devices told.node (linked_at told.port) (keeps_ports told.port) p.node p.port is
 
-end_lists : (devices : List Device) (firsts buffers : List ℕ) (cables : List Cable) (net : Network)
-    (p : PortRef) → Lists devices firsts buffers cables net
-    → Lists (with_end_at devices p) firsts buffers cables (with_end net p)
-end_lists devices firsts buffers cables net p l =
-    change_lists devices firsts buffers cables net p.node (linked_at p.port) (keeps_ports p.port) l
+end_lists : (devices : List Device) (firsts : List ℕ) (ports : List PortPlan)
+    (cables : List Cable) (net : Network) (p : PortRef) → Lists devices firsts ports cables net
+    → Lists (with_end_at devices p) firsts ports cables (with_end net p)
+end_lists devices firsts ports cables net p l =
+    change_lists devices firsts ports cables net p.node (linked_at p.port) (keeps_ports p.port) l
 
-link_lists : (devices : List Device) (firsts buffers : List ℕ) (cables : List Cable) (net : Network)
-    (a b : PortRef) → IsPortOf devices a → IsPortOf devices b
-    → Lists devices firsts buffers cables net
-    → Lists (with_end_at (with_end_at devices a) b) firsts buffers
+link_lists : (devices : List Device) (firsts : List ℕ) (ports : List PortPlan)
+    (cables : List Cable) (net : Network) (a b : PortRef) → IsPortOf devices a → IsPortOf devices b
+    → Lists devices firsts ports cables net
+    → Lists (with_end_at (with_end_at devices a) b) firsts ports
     (cables ++ record { a = a; b = b; link = empty_wires } ∷ []) (set_up net (Link a b))
-link_lists devices firsts buffers cables net a b is_a is_b l =
-    cable_lists (with_end_at (with_end_at devices a) b) firsts buffers cables
+link_lists devices firsts ports cables net a b is_a is_b l =
+    cable_lists (with_end_at (with_end_at devices a) b) firsts ports cables
     (with_end (with_end net a) b) a b
     (told_port (with_end_at devices a) b a (told_port devices a a is_a))
     (told_port (with_end_at devices a) b b (told_port devices a b is_b))
-    (end_lists (with_end_at devices a) firsts buffers cables (with_end net a) b
-    (end_lists devices firsts buffers cables net a l))
+    (end_lists (with_end_at devices a) firsts ports cables (with_end net a) b
+    (end_lists devices firsts ports cables net a l))
 
 pub plan-link : (old new : Plan) (net : Network) (a b : PortRef) → IsPortOf old.devices.items a
     → IsPortOf old.devices.items b
     → new.devices.items ≡ with_end_at (with_end_at old.devices.items a) b
-    → new.firsts.items ≡ old.firsts.items → new.buffers.items ≡ old.buffers.items
+    → new.firsts.items ≡ old.firsts.items → new.ports.items ≡ old.ports.items
     → new.cables.items ≡ old.cables.items ++ record { a = a; b = b; link = empty_wires } ∷ []
     → PlansFor old net → PlansFor new (set_up net (Link a b))
 plan-link old new net a b is_a is_b d f bu c is =
     plan_of new (set_up net (Link a b))
     (lists_same (with_end_at (with_end_at old.devices.items a) b) new.devices.items
-    old.firsts.items new.firsts.items old.buffers.items new.buffers.items
+    old.firsts.items new.firsts.items old.ports.items new.ports.items
     (old.cables.items ++ record { a = a; b = b; link = empty_wires } ∷ []) new.cables.items
     (set_up net (Link a b)) d f bu c
-    (link_lists old.devices.items old.firsts.items old.buffers.items old.cables.items net a b is_a
+    (link_lists old.devices.items old.firsts.items old.ports.items old.cables.items net a b is_a
     is_b (lists_of old net is)))
 
 -- so each device has as many ports as before
@@ -287,68 +286,6 @@ pub counts-end : (devices : List Device) (p : PortRef)
     → counts_of (with_end_at devices p) ≡ counts_of devices
 counts-end devices p =
     counts-change devices p.node (linked_at p.port) (keeps_ports p.port)
-
--- ---- the buffers of a port
-
-buffers_here : (devices : List Device) (firsts buffers : List ℕ) (cables : List Cable)
-    (net : Network) (port : PortRef) (n : ℕ) → IsPortOf devices port
-    → Lists devices firsts buffers cables net → (p : PortRef) → IsPortOf devices p
-    → slice_get (set buffers (place_of firsts port) n) (place_of firsts p) ≡ Some
-    (if same_port p port then n else net.buffers p)
-buffers_here devices firsts buffers cables net port n is l p is_p =
-    let at = placed devices firsts port l.rows is in
-    let within = at.within in
-    let all = l.count in
-    elim (same_port p port) as (λ s. same_port p port ≡ s
-    → slice_get (set buffers (place_of firsts port) n) (place_of firsts p) ≡ Some
-    (if s then n else net.buffers p)) [
-      | true ↦ λ same.
-          ap (λ q. slice_get (set buffers (place_of firsts port) n) (place_of firsts q))
-          (port_is p port same) ∙ get-set buffers (place_of firsts port) n (omega arith)
-      | false ↦ λ apart.
-          get-set_other buffers (place_of firsts port) (place_of firsts p) n
-          (λ e. true≢false
-          (sym (ap (λ q. same_port q port)
-          (same_place devices firsts p port l.rows is_p is (sym e)) ∙ same_port-refl port)
-          ∙ apart))
-          ∙ l.here p is_p
-    ] refl
-
-buffers_lists : (devices : List Device) (firsts buffers : List ℕ) (cables : List Cable)
-    (net : Network) (port : PortRef) (n : ℕ) → IsPortOf devices port → AreBuffers n
-    → Lists devices firsts buffers cables net
-    → Lists devices firsts (set buffers (place_of firsts port) n) cables
-    (set_up net (Buffers port n))
-buffers_lists devices firsts buffers cables net port n is few l =
-    let place = place_of firsts port in
-    record {
-      rows = l.rows;
-      have_ports = l.have_ports;
-      count = length-set buffers place n ∙ l.count;
-      few = All-set AreBuffers buffers place n few l.few;
-      here = buffers_here devices firsts buffers cables net port n is l;
-      elsewhere = λ p not.
-          let apart = false_from_ne_true (same_port p port)
-          (λ same. not (subst (IsPortOf devices) (sym (port_is p port same)) is)) in
-          ap (λ s. if s then n else net.buffers p) apart ∙ l.elsewhere p not;
-      new = l.new;
-      links = l.links;
-      registers = l.registers;
-    }
-
-pub plan-buffers : (old new : Plan) (net : Network) (port : PortRef) (n : ℕ)
-    → IsPortOf old.devices.items port → AreBuffers n → new.devices.items ≡ old.devices.items
-    → new.firsts.items ≡ old.firsts.items
-    → new.buffers.items ≡ set old.buffers.items (place_of old.firsts.items port) n
-    → new.cables.items ≡ old.cables.items → PlansFor old net
-    → PlansFor new (set_up net (Buffers port n))
-plan-buffers old new net port n is few d f b c plans =
-    plan_of new (set_up net (Buffers port n))
-    (lists_same old.devices.items new.devices.items old.firsts.items new.firsts.items
-    (set old.buffers.items (place_of old.firsts.items port) n) new.buffers.items
-    old.cables.items new.cables.items (set_up net (Buffers port n)) d f b c
-    (buffers_lists old.devices.items old.firsts.items old.buffers.items old.cables.items net port n
-    is few (lists_of old net plans)))
 
 -- ---- ports by their counts
 

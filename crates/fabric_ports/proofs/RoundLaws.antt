@@ -6,7 +6,6 @@ use Rattle.rio_chars.specs.declared.outbox.Outbox.{Outbox}
 use Rattle.maint_registers.specs.Devices.{Device, is_switch}
 use Rattle.fabric_script.specs.declared.lines.Line.TheVariants.{Run}
 use Rattle.fabric_script.specs.declared.ports.PortRef.{PortRef}
-use Rattle.fabric_model.specs.Network.{Network}
 use Rattle.fabric_model.proofs.Peers.{ArePeers}
 use Rattle.fabric_trace.specs.Blocks.{IsSettle}
 use Rattle.fabric_trace.specs.Fold.{seen}
@@ -14,8 +13,6 @@ use Rattle.fabric_trace.specs.Lines.{TraceLine, Begun}
 use Rattle.fabric_trace.specs.Parts.{Made}
 use Rattle.fabric_trace.specs.Ready.{IsReady}
 use Rattle.fabric_trace.specs.Rounds.{ServeNodes, Round, Rounds}
-use Rattle.fabric_trace.specs.Runs.{begins}
-use Rattle.fabric_trace.specs.SetUps.{IsSetUp}
 use Rattle.fabric_trace.proofs.Existing.{serve_all_exist, rounds_exist, ready_on}
 use Rattle.fabric_trace.proofs.Folding.{seen-append}
 use Rattle.fabric_trace.proofs.Keeping.{IsGood}

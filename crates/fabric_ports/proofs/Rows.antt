@@ -1,9 +1,10 @@
 -- Where ports stand when devices come behind: in the same place, and the new ones behind them.
-use Rattle.std.proofs.Common.{◌≡◌, ◌≢◌, ℕ, zero, suc, ◌+◌, ◌<◌, ◌⊎◌, inl, inr, List, [], ◌∷◌, ◌++◌, Some, None, set, replicate, length, refl, sym, ap, ◌∙◌, subst, arith}
+use Rattle.std.proofs.Common.{◌≡◌, ◌≢◌, ℕ, zero, suc, ◌+◌, ◌<◌, ◌⊎◌, inl, inr, List, [], ◌∷◌, ◌++◌, All, Some, None, get_or, set, replicate, length, refl, sym, ap, ◌∙◌, subst, arith}
 use Rattle.std.specs.List.{slice_get}
 use Rattle.std.proofs.lemmas.Bool.{cases_lt}
 use Rattle.std.proofs.lemmas.List.{get_or_append_left, get_or-replicate, length-replicate}
-use Rattle.std.proofs.lemmas.Option.{slice_get-get_or}
+use Rattle.std.proofs.lemmas.List.Elements.{All-head, All-tail}
+use Rattle.std.proofs.lemmas.Option.{same_Some, slice_get-get_or}
 use Rattle.fabric_script.specs.declared.ports.PortRef.{PortRef}
 use Rattle.maint_registers.specs.Devices.{Device}
 use Rattle.fabric_ports.specs.Places.{AreFirsts, port_count, HasPort, IsPortOf, place_of}
@@ -54,9 +55,23 @@ get-set_other (y ∷ xs) zero (suc j) x apart = refl
 get-set_other (y ∷ xs) (suc i) zero x apart = refl
 get-set_other (y ∷ xs) (suc i) (suc j) x apart = get-set_other xs i j x (λ e. apart (ap suc e))
 
+-- what is found is there
+pub get_or-found : {X : Type 0} (xs : List X) (i : ℕ) (default x : X)
+    → slice_get xs i ≡ Some x → get_or xs i default ≡ x
+get_or-found [] i default x is = absurd cc
+get_or-found (y ∷ ys) zero default x is = same_Some y x is
+get_or-found (y ∷ ys) (suc i) default x is = get_or-found ys i default x is
+
+pub found_has : {X : Type 0} (P : X → Type 0) (xs : List X) (i : ℕ) (x : X) → All P xs
+    → slice_get xs i ≡ Some x → P x
+found_has P [] i x all is = absurd cc
+found_has P (y ∷ ys) zero x all is = subst P (same_Some y x is) (All-head P y ys all)
+found_has P (y ∷ ys) (suc i) x all is = found_has P ys i x (All-tail P y ys all) is
+
 -- ---- places
 
-pub has_node : (devices : List Device) (n k : ℕ) → HasPort (slice_get devices n) k → n < length devices
+pub has_node : (devices : List Device) (n k : ℕ) → HasPort (slice_get devices n) k
+    → n < length devices
 has_node [] n k has = absurd has
 has_node (d ∷ devices) zero k has = omega arith
 has_node (d ∷ devices) (suc n) k has = let rest = has_node devices n k has in omega arith

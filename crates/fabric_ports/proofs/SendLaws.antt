@@ -73,7 +73,7 @@ module _ (names : List (List ℕ)) {K : Type 0} (written : K → Option (List �
       ∙ ap (λ (z : PortState). with_packet (face_of_port z) packet) (sym is)
       ∙ sym (more_own net p (item_of net p packet) few) in
       let becomes : port_at t p ≡ y =
-      port_faced s next p y refl (subst (λ z. AreAlike z y) (sym is) alike) own in
+      port_faced s next p y (refl, refl) (subst (λ z. AreAlike z y) (sym is) alike) own in
       let stands = ap (λ l. slice_get l n) shows.registers ∙ at.stands in
       record {
         block = Stepped (AtNode (Take n packet)) ∷ [];
@@ -86,7 +86,7 @@ module _ (names : List (List ℕ)) {K : Type 0} (written : K → Option (List �
         sent = sent;
         shows = port_shows old new s t n at.device at.device y shows at at.stands
             (same_device at.device) has becomes
-            (λ q apart. port_stays s next q refl
+            (λ q apart. port_stays s next q (refl, refl)
             (more_other net p (prio_of packet) (item_of net p packet ∷ []) q apart))
             refl refl (sym (set_same net.registers n at.device stands));
       }

@@ -1,5 +1,5 @@
 -- A switch that makes one step after another.
-use Rattle.std.proofs.Common.{◌≡◌, ◌≢◌, ℕ, zero, suc, ◌+◌, ◌<◌, ◌≤◌, Bool, true, false, List, [], ◌∷◌, ◌++◌, map, length, Option, Some, None, option_map, slice_get, refl, sym, ap, ◌∙◌, subst, arith, append-nil, append_assoc, length-append}
+use Rattle.std.proofs.Common.{◌≡◌, ◌≢◌, ℕ, zero, suc, ◌+◌, ◌<◌, ◌≤◌, Bool, true, false, List, [], ◌∷◌, ◌++◌, length, Option, Some, None, option_map, slice_get, refl, sym, ap, ◌∙◌, subst, arith, append_assoc, length-append}
 use Rattle.std.proofs.lemmas.List.{length-map}
 use Rattle.rio_chars.specs.declared.outbox.Outbox.{Outbox}
 use Rattle.link_port.specs.Ports.{PortState}
@@ -7,17 +7,15 @@ use Rattle.maint_registers.specs.Devices.{Device}
 use Rattle.switch_core.specs.SwitchSteps.{step_of}
 use Rattle.switch_core.specs.declared.switch.Step as switch
 use Rattle.switch_core.specs.declared.switch.Step.TheVariants.{Moved, Dropped, Answered, Nothing}
-use Rattle.fabric_script.specs.declared.ports.PortRef.{PortRef}
-use Rattle.fabric_model.specs.Network.{Item, Network, in_turn}
+use Rattle.fabric_model.specs.Network.{Item, in_turn}
 use Rattle.fabric_model.specs.Steps.{DeviceStep, Move, Drop, Answer, ByDevice, after}
 use Rattle.fabric_model.proofs.Emptying.{packets_at}
 use Rattle.fabric_model.proofs.Nodes.{count_ports, ports_stay}
 use Rattle.fabric_trace.specs.Fold.{seen}
-use Rattle.fabric_trace.specs.Known.{Seen, port_at}
+use Rattle.fabric_trace.specs.Known.{Seen}
 use Rattle.fabric_trace.specs.Lines.{NoStep, TraceLine, Stepped, Lacked}
 use Rattle.fabric_trace.specs.Parts.{Made, Done}
 use Rattle.fabric_trace.specs.Rounds.{ServesAll, Rests, Goes}
-use Rattle.fabric_trace.specs.Runs.{begins}
 use Rattle.fabric_trace.specs.Served.{faces_in, step_lines, IsMove}
 use Rattle.fabric_trace.specs.Views.{lists_in}
 use Rattle.fabric_trace.proofs.Folding.{seen-append}

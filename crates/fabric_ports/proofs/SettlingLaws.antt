@@ -7,7 +7,7 @@ use Rattle.rio_chars.specs.declared.outbox.Outbox.{Outbox}
 use Rattle.maint_registers.specs.Devices.{Device, is_switch}
 use Rattle.fabric_script.specs.declared.lines.Line.TheVariants.{Settle}
 use Rattle.fabric_script.specs.declared.ports.PortRef.{PortRef}
-use Rattle.fabric_model.specs.Network.{Network, link_in}
+use Rattle.fabric_model.specs.Network.{link_in}
 use Rattle.fabric_model.proofs.Peers.{link_peers}
 use Rattle.fabric_trace.specs.Blocks.{IsSettle, WithLink}
 use Rattle.fabric_trace.specs.Fold.{seen}
@@ -15,8 +15,6 @@ use Rattle.fabric_trace.specs.Lines.{TraceLine, Begun}
 use Rattle.fabric_trace.specs.Parts.{Made}
 use Rattle.fabric_trace.specs.Ready.{IsReady}
 use Rattle.fabric_trace.specs.Rounds.{SettleAll}
-use Rattle.fabric_trace.specs.Runs.{begins}
-use Rattle.fabric_trace.specs.SetUps.{IsSetUp}
 use Rattle.fabric_trace.proofs.Boards.{seen_board}
 use Rattle.fabric_trace.proofs.Existing.{good_of, settles_from}
 use Rattle.fabric_trace.proofs.Folding.{seen-append}
@@ -24,7 +22,6 @@ use Rattle.fabric_trace.proofs.Keeping.{IsGood, made_keeps}
 use Rattle.fabric_trace.proofs.Making.{made-append}
 use Rattle.fabric_trace.proofs.Rounds.{AreFound, all_found}
 use Rattle.fabric_trace.proofs.Running.{link_made}
-use Rattle.fabric_trace.proofs.Starting.{good_start}
 use Rattle.fabric_ports.specs.Blocked.{Blocked, BlockEnds}
 use Rattle.fabric_ports.specs.Ends.{IsLinked}
 use Rattle.fabric_ports.specs.Places.{IsSwitchAt}

@@ -1,19 +1,16 @@
 -- For which lines a fabric stands after an event.
 use Rattle.std.proofs.Common.{◌≡◌, List, [], ◌∷◌, ◌++◌, None, subst, sym, refl, ap, ◌∙◌}
 use Rattle.fabric_script.specs.declared.lines.Line.{Line}
-use Rattle.fabric_model.specs.Network.{Network}
 use Rattle.fabric_trace.specs.Blocks.{IsBlock}
 use Rattle.fabric_trace.specs.Fold.{seen}
 use Rattle.fabric_trace.specs.Known.{Seen}
 use Rattle.fabric_trace.specs.Lines.{TraceLine, Begun}
 use Rattle.fabric_trace.specs.Parts.Part.{Begins}
-use Rattle.fabric_trace.specs.Runs.{begins}
 use Rattle.fabric_trace.proofs.Folding.{seen-append}
 use Rattle.fabric_trace.proofs.Existing.{good_of}
 use Rattle.fabric_trace.proofs.Keeping.{made_keeps}
 use Rattle.fabric_trace.proofs.Making.{one_part, made-append}
 use Rattle.fabric_trace.proofs.Running.{block_made}
-use Rattle.fabric_trace.proofs.Starting.{good_start}
 use Rattle.fabric_ports.specs.declared.fabric.Fabric.{Fabric}
 use Rattle.fabric_ports.specs.Showing.{ShowsFabric}
 use Rattle.fabric_ports.specs.Standing.{Stands}

@@ -38,7 +38,7 @@ use Rattle.fabric_ports.specs.Showing.{ShowsFabric}
 use Rattle.fabric_ports.specs.Switching.{faces_at, own_ports, AreForms, MadeStep, is_step, written_lines}
 use Rattle.fabric_ports.proofs.Changes.{set-change}
 use Rattle.fabric_ports.proofs.DeviceLaws.{one_written}
-use Rattle.fabric_ports.proofs.FaceLaws.{without_other, more_other, nodes_differ, port, AreFacesOf, taken_faces, put_faces, face_of_port, port_faced, port_stays}
+use Rattle.fabric_ports.proofs.FaceLaws.{without_other, more_other, nodes_differ, port, AreFacesOf, taken_faces, put_faces, face_of_port, SamePlans, port_faced, port_stays}
 use Rattle.fabric_ports.proofs.NodeLaws.{set_same, served_shows}
 use Rattle.fabric_ports.proofs.RowLaws.{row_within, row_set, replaced, length-replaced, get-own, own-length}
 use Rattle.fabric_ports.proofs.SendLaws.{one_line}
@@ -67,13 +67,13 @@ seen_after s node (Dropped from packet) = refl
 seen_after s node (Answered at request response) = refl
 seen_after s node Nothing = refl
 
-buffers_stay : (net : Network) (node : ℕ) (step : switch.Step)
-    → (after_step net node step).buffers ≡ net.buffers
+plans_stay : (net : Network) (node : ℕ) (step : switch.Step)
+    → SamePlans (after_step net node step) net
 unfolding after_step
-buffers_stay net node (Moved from to packet) = refl
-buffers_stay net node (Dropped from packet) = refl
-buffers_stay net node (Answered at request response) = refl
-buffers_stay net node Nothing = refl
+plans_stay net node (Moved from to packet) = (refl, refl)
+plans_stay net node (Dropped from packet) = (refl, refl)
+plans_stay net node (Answered at request response) = (refl, refl)
+plans_stay net node Nothing = (refl, refl)
 
 links_stay : (net : Network) (node : ℕ) (step : switch.Step)
     → (after_step net node step).links ≡ net.links
@@ -105,7 +105,8 @@ move_faces net node n from to packet lists passes needs are =
     let few : prio_of item.now < 4 = few_prio _ (subst Passes (sym now) on.passes) in
     let taken = taken_faces net node n from r lists (few_prio packet passes) are in
     let put = put_faces less node n to item (taken_at lists from r) few taken in
-    subst (λ (next : Network). AreFacesOf next node n (put_at (taken_at lists from r) to (moved packet)))
+    subst (λ (next : Network). AreFacesOf next node n
+    (put_at (taken_at lists from r) to (moved packet)))
     (λ i. with_waiting less q (prio i) (sym only i))
     (subst (λ (x : List ℕ). AreFacesOf (with_waiting less q (prio_of item.now) (item ∷ [])) node n
     (put_at (taken_at lists from r) to x)) now put)
@@ -223,8 +224,8 @@ ports_are fabric first device next ports step within made =
     ∙ sym fabric.ports.ok.0)
 
 -- the registers and the ports that a call returned
-pub record HasStepped (old new : Fabric) (node first : ℕ) (device next : Device) (step : switch.Step)
-    : Type 0 where
+pub record HasStepped (old new : Fabric) (node first : ℕ) (device next : Device)
+    (step : switch.Step) : Type 0 where
   pub stands : slice_get old.devices.items node ≡ Some device
   pub place : first ≡ slice_index_or old.firsts.items node 0
   pub made : MadeStep first device next old.ports.items new.ports.items step
@@ -246,7 +247,8 @@ module _ (s : Seen) (old new : Fabric) (node first : ℕ) (device next : Device)
 
   within : first + device.ports ≤ length old.ports.items
   within =
-      let row = row_within 0 old.devices.items old.firsts.items node device shows.firsts has.stands in
+      let row = row_within 0 old.devices.items old.firsts.items node device shows.firsts
+      has.stands in
       let count = shows.count in
       let place = has.place in
       omega (arith, row, count, place)
@@ -275,8 +277,10 @@ module _ (s : Seen) (old new : Fabric) (node first : ℕ) (device next : Device)
       let lists : faces_at has.made.own ≡ faces_after (faces_in s.network node device) step =
       has.made.lists ∙ ap (λ l. faces_after l step) lists_known in
       rw lists (step_faces s.network node device.ports step (faces_in s.network node device)
-      forms needs
-      (faces_many s.network node 0 device.ports, λ j below. sym (face_is s.network node device j below)))
+      forms needs (
+        faces_many s.network node 0 device.ports,
+        λ j below. sym (face_is s.network node device j below),
+      ))
 
   own_later : (j : ℕ) → j < device.ports → slice_get has.made.own j
       ≡ Some (port_at (record s { network = after_step s.network node step }) (port node j))
@@ -285,7 +289,7 @@ module _ (s : Seen) (old new : Fabric) (node first : ℕ) (device next : Device)
       (port_at s (port node j)) has.made.alike (own_known j below) in
       like.there
       ∙ ap Some (sym (port_faced s (after_step s.network node step) (port node j) like.y
-      (buffers_stay s.network node step) like.alike (sym like.face ∙ sym (later.1 j below))))
+      (plans_stay s.network node step) like.alike (sym like.face ∙ sym (later.1 j below))))
 
   shows_later : ShowsFabric new (record s { network = after_step s.network node step })
   shows_later =
@@ -294,7 +298,7 @@ module _ (s : Seen) (old new : Fabric) (node first : ℕ) (device next : Device)
       has.made.alike ∙ own-length old.ports.items first device.ports within in
       let ports = row_set old.devices.items old.firsts.items old.ports.items has.made.own s t node
       device shows.firsts shows.count shows.ports has.stands many own_later
-      (λ q apart. port_stays s (after_step s.network node step) q (buffers_stay s.network node step)
+      (λ q apart. port_stays s (after_step s.network node step) q (plans_stay s.network node step)
       (step_others s.network node step q apart)) in
       let all : new.ports.items ≡ replaced old.ports.items has.made.own
       (slice_index_or old.firsts.items node 0) device.ports =

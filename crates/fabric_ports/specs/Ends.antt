@@ -2,7 +2,7 @@
 use Rattle.std.specs.Prelude.{◌≡◌, ◌≢◌, ◌<◌, ℕ, List, length, Some, map, slice_get}
 use Rattle.link_watch.specs.declared.side.Side.{Side}
 use Rattle.fabric_script.specs.declared.ports.PortRef.{PortRef}
-use Rattle.fabric_model.specs.Network.{Network, link_in}
+use Rattle.fabric_model.specs.Network.{link_in}
 use Rattle.fabric_trace.specs.Blocks.{port_at_side}
 use Rattle.fabric_trace.specs.Events.{HasLink}
 use Rattle.fabric_trace.specs.Known.{Seen}

@@ -11,7 +11,7 @@ use Rattle.link_model.specs.declared.event.Event.{Event}
 use Rattle.fabric_script.specs.Lines.{is_event}
 use Rattle.fabric_script.specs.declared.ports.PortRef.{PortRef}
 use Rattle.fabric_script.specs.declared.lines.Line.{Line}
-use Rattle.fabric_script.specs.declared.lines.Line.TheVariants.{Send, Read, Write, Pump, Deliver, Alter, Erase, Insert, Timeout, Settle, Collect, Run, Send16, Read16, Write16}
+use Rattle.fabric_script.specs.declared.lines.Line.TheVariants.{Send, Read, Write, Pump, Deliver, Alter, Erase, Insert, Timeout, Settle, Collect, Send16, Read16, Write16}
 use Rattle.fabric_model.specs.Network.{Network}
 use Rattle.fabric_model.specs.Steps.{Leave, Answer, AtNode, ByDevice}
 use Rattle.fabric_trace.specs.Blocks.{IsBlock}
@@ -19,7 +19,6 @@ use Rattle.fabric_trace.specs.Events.{MayHappen}
 use Rattle.fabric_trace.specs.Fold.{seen}
 use Rattle.fabric_trace.specs.Known.{Seen}
 use Rattle.fabric_trace.specs.Lines.{Full as NoRoom, NoStep, TraceLine, Begun, Stepped, Lacked}
-use Rattle.fabric_trace.specs.Runs.{begins}
 use Rattle.fabric_trace.specs.Served.{IsMove}
 use Rattle.fabric_trace.specs.Text.{trace_text}
 use Rattle.fabric_ports.specs.declared.answers.EventEnd.{EventEnd}

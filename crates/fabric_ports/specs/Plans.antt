@@ -1,6 +1,7 @@
 -- What lines of set-up have made, before there are ports.
-use Rattle.std.specs.Prelude.{◌≡◌, ℕ, ◌<◌, Bool, true, false, List, All, map, length, Some, slice_get}
+use Rattle.std.specs.Prelude.{◌≡◌, ℕ, ◌<◌, Bool, true, false, List, All, map, length, Some, slice_get, slice_set, get_or}
 use Rattle.link_machine.specs.States.{empty_wires}
+use Rattle.link_port.specs.Ports.{PortState, new_port}
 use Rattle.link_sound.specs.Histories.{AreBuffers}
 use Rattle.fabric_script.specs.declared.ports.PortRef.{PortRef}
 use Rattle.fabric_script.specs.declared.lines.Line.{Line}
@@ -13,6 +14,7 @@ use Rattle.fabric_ports.specs.Places.{AreFirsts, port_count, IsPortOf, place_of}
 use Rattle.fabric_ports.specs.Showing.{ends_of, AreRegisters}
 use Rattle.fabric_ports.specs.declared.fabric.Cable.{Cable}
 use Rattle.fabric_ports.specs.declared.plans.Plan.{Plan}
+use Rattle.fabric_ports.specs.declared.plans.PortPlan.{PortPlan}
 
 -- how many ports each device has
 abbrev pub counts_of : List Device → List ℕ
@@ -21,13 +23,34 @@ counts_of devices = map (λ (device : Device). device.ports) devices
 abbrev pub HasPorts : Device → Type 0
 HasPorts device = 0 < device.ports
 
--- Each device of a plan has a port, their ports stand in rows, and the plan has a number of buffers
--- for each.
+-- 4 to 30 buffers
+abbrev pub HasBuffers : PortPlan → Type 0
+HasBuffers port = AreBuffers port.buffers
+
+-- a port of which no line of set-up says anything
+abbrev pub plain_port : PortPlan
+plain_port = record { buffers = 8; tells = false }
+
+-- what a port of a network gets
+abbrev pub port_plan : Network → PortRef → PortPlan
+port_plan net p = record { buffers = net.buffers p; tells = net.tells p }
+
+-- the new port of a plan
+abbrev pub planned_port : PortPlan → PortState
+planned_port port = new_port port.tells port.buffers
+
+-- the plans, of which the one at this place is changed
+abbrev pub with_port : List PortPlan → ℕ → (PortPlan → PortPlan) → List PortPlan
+with_port plans place change =
+    slice_set plans place (change (get_or plans place plain_port))
+
+-- Each device of a plan has a port, their ports stand in rows, and the plan says of each what it
+-- gets.
 pub record IsPlan (plan : Plan) : Type 0 where
   pub have_ports : All HasPorts plan.devices.items
   pub firsts : AreFirsts 0 plan.devices.items plan.firsts.items
-  pub count : length plan.buffers.items ≡ port_count plan.devices.items
-  pub few : All AreBuffers plan.buffers.items
+  pub count : length plan.ports.items ≡ port_count plan.devices.items
+  pub few : All HasBuffers plan.ports.items
 
 -- a cable joins ports of these devices, and nothing is on its wires
 pub record IsNewCable (devices : List Device) (cable : Cable) : Type 0 where
@@ -35,13 +58,14 @@ pub record IsNewCable (devices : List Device) (cable : Cable) : Type 0 where
   pub port_b : IsPortOf devices cable.b
   pub wires : cable.link ≡ empty_wires
 
--- A plan has the links, the registers and the buffers of a network, which has 8 buffers at all
--- ports of other devices.
+-- A plan has the links, the registers and the ports of a network, whose ports at other devices are
+-- plain.
 pub record PlansFor (plan : Plan) (net : Network) : Type 0 where
   pub whole : IsPlan plan
-  pub buffers : (p : PortRef) → IsPortOf plan.devices.items p
-      → slice_get plan.buffers.items (place_of plan.firsts.items p) ≡ Some (net.buffers p)
-  pub other_buffers : (p : PortRef) → ¬ IsPortOf plan.devices.items p → net.buffers p ≡ 8
+  pub ports : (p : PortRef) → IsPortOf plan.devices.items p
+      → slice_get plan.ports.items (place_of plan.firsts.items p) ≡ Some (port_plan net p)
+  pub other_ports : (p : PortRef) → ¬ IsPortOf plan.devices.items p
+      → port_plan net p ≡ plain_port
   pub cables : All (IsNewCable plan.devices.items) plan.cables.items
   pub links : map ends_of plan.cables.items ≡ net.links
   pub registers : AreRegisters net plan.devices.items

@@ -27,8 +27,6 @@ mod links;
 mod nodes;
 mod noise;
 mod own_registers;
-#[cfg(test)]
-mod plan_tests;
 mod plans;
 mod rounds;
 mod switches;

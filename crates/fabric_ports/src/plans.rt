@@ -1,8 +1,6 @@
 //! What lines of set-up make: first the devices and the links, and then the ports.
-ghost use Rattle.std.specs.Prelude.{◌≡◌, ℕ, ◌<◌, false, None, [], ◌∷◌, ◌++◌, All, map, length, replicate, slice_set, IfOk};
+ghost use Rattle.std.specs.Prelude.{◌≡◌, ℕ, ◌<◌, true, false, None, [], ◌∷◌, ◌++◌, All, map, length, replicate, IfOk};
 ghost use Rattle.link_machine.specs.States.{empty_wires};
-ghost use Rattle.link_port.specs.Ports.{new_port};
-ghost use Rattle.link_sound.specs.Histories.{AreBuffers};
 ghost use Rattle.maint_registers.specs.Devices.{with_link};
 ghost use Rattle.fabric_model.specs.Network.{Network};
 ghost use Rattle.fabric_script.specs.Scripts.{Passes};
@@ -10,7 +8,7 @@ ghost use Rattle.fabric_trace.specs.Events.{ArePorts, counts_after};
 ghost use Rattle.fabric_trace.specs.Runs.{bare, set_up, set_up_all, begins};
 ghost use Rattle.fabric_trace.specs.SetUps.{MaySetUp};
 ghost use Rattle.fabric_ports.specs.Places.{IsPortOf, place_of};
-ghost use Rattle.fabric_ports.specs.Plans.{IsPlan, PlansFor, MayAdd, counts_of, with_end_at, is_new};
+ghost use Rattle.fabric_ports.specs.Plans.{IsPlan, PlansFor, MayAdd, HasBuffers, plain_port, planned_port, with_port, counts_of, with_end_at, is_new};
 ghost use Rattle.fabric_ports.specs.Standing.{Stands};
 
 use crate::fabric::{Cable, Fabric};
@@ -21,8 +19,11 @@ use maint_registers::Registers;
 use rio_chars::NoMemory;
 use std::alloc::{AllocError, Global};
 
-/// How many receive buffers a port has if no line says how many.
-const BUFFERS: u8 = 8;
+/// What a port gets if no line says anything of it.
+const PLAIN_PORT: PortPlan = PortPlan {
+    buffers: 8,
+    tells: false,
+};
 
 impl Fabric {
     /// Makes the fabric that the set-up lines of a script make, with no packet in it and nothing on
@@ -39,7 +40,7 @@ impl Fabric {
         for numbered in &script.lines {
             plan.add(alloc, &numbered.line)?;
         }
-        let ports = make_ports(alloc, &plan.buffers)?;
+        let ports = make_ports(alloc, &plan.ports)?;
         Ok(Fabric {
             devices: plan.devices,
             firsts: plan.firsts,
@@ -49,12 +50,19 @@ impl Fabric {
     }
 }
 
-/// A fabric before its ports are made: in place of each port, how many receive buffers it gets.
+/// What a port gets: so many receive buffers, and whether it tells how many of them are free.
+#[derive(Clone, Copy)]
+pub(crate) struct PortPlan {
+    buffers: u8,
+    tells: bool,
+}
+
+/// A fabric before its ports are made: in place of each port, what it gets.
 #[derive(Drop)]
 pub(crate) struct Plan {
     devices: Vec<Registers>,
     firsts: Vec<usize>,
-    buffers: Vec<u8>,
+    ports: Vec<PortPlan>,
     cables: Vec<Cable>,
 }
 
@@ -67,7 +75,7 @@ impl Plan {
         Plan {
             devices: Vec::new(alloc),
             firsts: Vec::new(alloc),
-            buffers: Vec::new(alloc),
+            ports: Vec::new(alloc),
             cables: Vec::new(alloc),
         }
     }
@@ -97,14 +105,14 @@ impl Plan {
         ensures devices { IfOk result (λ _. self.new.devices.items
             ≡ self.old.devices.items ++ device ∷ []) }
         ensures firsts { IfOk result (λ _. self.new.firsts.items
-            ≡ self.old.firsts.items ++ length self.old.buffers.items ∷ []) }
-        ensures buffers { IfOk result (λ _. self.new.buffers.items
-            ≡ self.old.buffers.items ++ replicate device.ports 8) }
+            ≡ self.old.firsts.items ++ length self.old.ports.items ∷ []) }
+        ensures ports { IfOk result (λ _. self.new.ports.items
+            ≡ self.old.ports.items ++ replicate device.ports plain_port) }
         ensures cables { self.new.cables ≡ self.old.cables }
     {
-        self.firsts.push(self.buffers.len())?;
+        self.firsts.push(self.ports.len())?;
         for _ in 0..device.ports() {
-            self.buffers.push(BUFFERS)?;
+            self.ports.push(PLAIN_PORT)?;
         }
         self.devices.push(device)?;
         Ok(())
@@ -150,6 +158,7 @@ impl Plan {
     {
         match line {
             Line::Buffers { port, n } => self.set_buffers(*port, *n),
+            Line::Credits { port } => self.set_telling(*port),
             Line::Route { node, id, p } => self.devices[usize::from(*node)].set_route(*id, *p),
             Line::Default { node, p } => self.devices[usize::from(*node)].set_default(*p),
             Line::Lock { node, id } => self.devices[usize::from(*node)].set_lock(*id),
@@ -162,12 +171,34 @@ impl Plan {
     fn set_buffers(&mut self, port: PortRef, n: u8)
         requires plan { IsPlan self.old }
         requires port { IsPortOf self.old.devices.items port }
-        ensures buffers { self.new.buffers.items ≡ slice_set self.old.buffers.items
-            (place_of self.old.firsts.items port) n }
-        ensures rest { self.new ≡ record self.old { buffers = self.new.buffers } }
+        ensures ports { self.new.ports.items ≡ with_port self.old.ports.items
+            (place_of self.old.firsts.items port) (λ plan. record plan { buffers = n }) }
+        ensures rest { self.new ≡ record self.old { ports = self.new.ports } }
     {
-        let place = self.firsts[usize::from(port.node)] + usize::from(port.port);
-        self.buffers[place] = n;
+        let place = self.place(port);
+        self.ports[place].buffers = n;
+    }
+
+    /// Says that a port tells its free buffers.
+    fn set_telling(&mut self, port: PortRef)
+        requires plan { IsPlan self.old }
+        requires port { IsPortOf self.old.devices.items port }
+        ensures ports { self.new.ports.items ≡ with_port self.old.ports.items
+            (place_of self.old.firsts.items port) (λ plan. record plan { tells = true }) }
+        ensures rest { self.new ≡ record self.old { ports = self.new.ports } }
+    {
+        let place = self.place(port);
+        self.ports[place].tells = true;
+    }
+
+    /// The place of a port among all ports.
+    fn place(&self, port: PortRef) -> usize
+        requires plan { IsPlan self.now }
+        requires port { IsPortOf self.now.devices.items port }
+        ensures value { result ≡ place_of self.now.firsts.items port }
+        ensures within { result < length self.now.ports.items }
+    {
+        self.firsts[usize::from(port.node)] + usize::from(port.port)
     }
 }
 
@@ -181,17 +212,29 @@ fn tell_link(device: &mut Registers, port: u8)
     device.set_linked(port);
 }
 
-/// New ports with so many receive buffers each.
-fn make_ports(alloc: Global, buffers: &[u8]) -> Result<Vec<Port>, NoMemory>
-    requires { All AreBuffers buffers.now }
-    ensures { IfOk result (λ ports. ports.items ≡ map new_port buffers.now) }
+/// New ports as planned.
+fn make_ports(alloc: Global, plans: &[PortPlan]) -> Result<Vec<Port>, NoMemory>
+    requires { All HasBuffers plans.now }
+    ensures { IfOk result (λ ports. ports.items ≡ map planned_port plans.now) }
 {
     let mut ports = Vec::new(alloc);
-    for n in buffers {
-        let port = Port::new(alloc, *n)?;
+    for plan in plans {
+        let port = make_port(alloc, *plan)?;
         let Ok(()) = ports.push(port) else {
             return Err(NoMemory);
         };
     }
     Ok(ports)
+}
+
+/// A new port as planned.
+fn make_port(alloc: Global, plan: PortPlan) -> Result<Port, NoMemory>
+    requires { HasBuffers plan }
+    ensures { IfOk result (λ port. port ≡ planned_port plan) }
+{
+    if plan.tells {
+        Port::telling(alloc, plan.buffers)
+    } else {
+        Port::new(alloc, plan.buffers)
+    }
 }

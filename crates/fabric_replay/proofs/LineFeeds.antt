@@ -21,7 +21,7 @@ use Rattle.fabric_script.specs.Scripts.{PassesFrom, Passes}
 use Rattle.fabric_script.specs.Texts.{value_text, port_text, hex_text, digits_text}
 use Rattle.fabric_script.specs.declared.known.Mode.TheVariants as Mode
 use Rattle.fabric_script.specs.declared.lines.Line.{Line}
-use Rattle.fabric_script.specs.declared.lines.Line.TheVariants.{Endpoint, Switch, Link, Buffers, Route, Default, Lock, Large, Send, Read, Write, Pump, Deliver, Alter, Insert, Erase, Timeout, Settle, Move as Moves, Collect, Run, Send16, Read16, Write16}
+use Rattle.fabric_script.specs.declared.lines.Line.TheVariants.{Endpoint, Switch, Link, Buffers, Route, Default, Lock, Large, Send, Read, Write, Pump, Deliver, Alter, Insert, Erase, Timeout, Settle, Move as Moves, Collect, Run, Send16, Read16, Write16, Credits}
 use Rattle.fabric_script.specs.declared.lines.Numbered.{Numbered}
 use Rattle.fabric_script.specs.declared.ports.PortRef.{PortRef}
 use Rattle.fabric_script.proofs.Joins.{visible_keyword, visible_lacks}
@@ -158,6 +158,7 @@ values names named (Route node id p) = (named node, (number id, (number p, tt)))
 values names named (Default node p) = (named node, (number p, tt))
 values names named (Lock node id) = (named node, (number id, tt))
 values names named (Large node id) = (named node, (number id, tt))
+values names named (Credits p) = (port names p named, tt)
 values names named (Send node prio ftype dest bytes) =
     (named node, (number prio, (number ftype, (number dest, (data_text bytes, tt)))))
 values names named (Read node prio dest hop tid offset) =

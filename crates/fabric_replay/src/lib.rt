@@ -13,8 +13,6 @@ mod replaying;
 mod summing;
 mod tally;
 mod tally_sink;
-#[cfg(test)]
-mod tests;
 mod transcript;
 
 pub use replaying::{ReplayEnd, replay};

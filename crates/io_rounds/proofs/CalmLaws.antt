@@ -268,7 +268,7 @@ event_calm s _ block event good none calm is = absurd event
 -- before the first event all links are calm
 pub begins_calm : (net : Network) → LinksAreCalm (begins net)
 begins_calm net a b peer =
-    let new = new_calm 0 0 in
+    let new = new_calm false false 0 0 in
     record {
       to_b = record { rests = new.to_b.rests; found = new.to_b.found };
       to_a = record { rests = new.to_a.rests; found = new.to_a.found };

@@ -25,6 +25,7 @@ const WIDE: usize = 8;
 pub(crate) struct Coverage {
     shadows: Ports<Option<Shadow>>,
     buffers: Ports<Option<u8>>,
+    tells: Ports<bool>,
     met: Met,
     alloc: Global,
 }
@@ -35,6 +36,7 @@ impl Coverage {
         Coverage {
             shadows: Ports::new(alloc),
             buffers: Ports::new(alloc),
+            tells: Ports::new(alloc),
             met: Met { counts: [0; COUNT] },
             alloc,
         }
@@ -46,12 +48,9 @@ impl View for Coverage {
         let nodes = set_up.names().len();
         self.shadows.fill(nodes)?;
         self.buffers.fill(nodes)?;
+        self.tells.fill(nodes)?;
         for line in set_up.lines() {
-            if let Line::Buffers { port, n } = &line.line {
-                if let Some(buffers) = self.buffers.get_mut(*port) {
-                    *buffers = Some(*n);
-                }
-            }
+            self.set_up(&line.line);
         }
         for line in set_up.lines() {
             if let Line::Link { a, b } = &line.line {
@@ -108,13 +107,34 @@ impl View for Coverage {
 }
 
 impl Coverage {
+    /// Keeps what a line says of a port.
+    fn set_up(&mut self, line: &Line) {
+        match line {
+            Line::Buffers { port, n } => {
+                if let Some(buffers) = self.buffers.get_mut(*port) {
+                    *buffers = Some(*n);
+                }
+            }
+            Line::Credits { port } => {
+                if let Some(tells) = self.tells.get_mut(*port) {
+                    *tells = true;
+                }
+            }
+            _ => {}
+        }
+    }
+
     /// A port that follows the trace.
     fn add_port(&mut self, port: PortRef) -> Result<(), ViewEnd> {
         let buffers = match self.buffers.get(port) {
             Some(Some(buffers)) if 4 <= *buffers && *buffers <= 30 => *buffers,
             _ => BUFFERS,
         };
-        let Ok(made) = Port::new(self.alloc, buffers) else {
+        let made = match self.tells.get(port) {
+            Some(true) => Port::telling(self.alloc, buffers),
+            _ => Port::new(self.alloc, buffers),
+        };
+        let Ok(made) = made else {
             return Err(ViewEnd::Ended(Status::NoMemory));
         };
         if let Some(shadow) = self.shadows.get_mut(port) {

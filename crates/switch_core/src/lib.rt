@@ -16,8 +16,6 @@
 mod endpoint;
 mod ports;
 mod switch;
-#[cfg(test)]
-mod tests;
 
 pub use endpoint::{Collected, Sent, endpoint_collect, endpoint_send};
 pub use switch::{Step, switch_step};

@@ -4,7 +4,7 @@ use Rattle.std.proofs.lemmas.Option.{same_Some, slice_get_read}
 use Rattle.link_buffers.specs.Queues.{no_packets}
 use Rattle.maint_registers.specs.Devices.{Device, is_switch, new_endpoint, new_switch}
 use Rattle.fabric_script.specs.declared.lines.Line.{Line}
-use Rattle.fabric_script.specs.declared.lines.Line.TheVariants.{Endpoint, Switch, Link, Buffers, Route, Default, Lock, Large}
+use Rattle.fabric_script.specs.declared.lines.Line.TheVariants.{Endpoint, Switch, Link, Buffers, Route, Default, Lock, Large, Credits}
 use Rattle.fabric_script.specs.declared.ports.PortRef.{PortRef}
 use Rattle.fabric_model.specs.Network.{Item, Network, bare, peer_in, same_port, switch_at, with_device}
 use Rattle.fabric_model.proofs.Devices.{length-with_device}
@@ -263,6 +263,8 @@ joined_other net kept (Switch name ports) no_endpoint no_switch no_link joined =
 joined_other net kept (Link a b) no_endpoint no_switch no_link joined =
     absurd (no_link a b refl)
 joined_other net kept (Buffers p n) no_endpoint no_switch no_link joined =
+    record { peers = joined.peers; ends = joined.ends }
+joined_other net kept (Credits p) no_endpoint no_switch no_link joined =
     record { peers = joined.peers; ends = joined.ends }
 joined_other net kept (Route node id p) no_endpoint no_switch no_link joined =
     joined_change net kept node (routed id p) joined

@@ -9,7 +9,7 @@ use Rattle.fabric_script.specs.Lines.{new_name}
 use Rattle.fabric_script.specs.Reading.{MayBe}
 use Rattle.fabric_script.specs.Scripts.{Passes, PassesFrom}
 use Rattle.fabric_script.specs.declared.lines.Line.{Line}
-use Rattle.fabric_script.specs.declared.lines.Line.TheVariants.{Endpoint, Switch, Link, Buffers, Route, Default, Lock, Large}
+use Rattle.fabric_script.specs.declared.lines.Line.TheVariants.{Endpoint, Switch, Link, Buffers, Route, Default, Lock, Large, Credits}
 use Rattle.fabric_script.specs.declared.lines.Numbered.{Numbered}
 use Rattle.fabric_script.specs.declared.ports.PortRef.{PortRef}
 use Rattle.fabric_model.specs.Network.{Network, peer_in, same_port, with_device}
@@ -247,6 +247,10 @@ ports_in known new nodes (Link a b) same may =
       record { node = omega (arith, same, low_second); port = second.1 },
     )
 ports_in known new nodes (Buffers p n) same may =
+    let first = may.fit.0 in
+    let low = first.0 in
+    record { node = omega (arith, same, low); port = first.1 }
+ports_in known new nodes (Credits p) same may =
     let first = may.fit.0 in
     let low = first.0 in
     record { node = omega (arith, same, low); port = first.1 }

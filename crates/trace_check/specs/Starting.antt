@@ -2,7 +2,7 @@
 use Rattle.std.specs.Prelude.{◌≡◌, ℕ, ◌≤◌, Bool, true, false, List, length, map, ⊤}
 use Rattle.std.specs.List.{AllByRecursion}
 use Rattle.fabric_script.specs.declared.lines.Line.{Line}
-use Rattle.fabric_script.specs.declared.lines.Line.TheVariants.{Endpoint, Switch, Link, Buffers}
+use Rattle.fabric_script.specs.declared.lines.Line.TheVariants.{Endpoint, Switch, Link, Buffers, Credits}
 use Rattle.fabric_script.specs.declared.ports.PortRef.{PortRef}
 use Rattle.fabric_script.specs.Scripts.{Passes}
 use Rattle.fabric_script.specs.SetUps.{SetUpLines}
@@ -39,6 +39,7 @@ is_node _ = false
 abbrev pub ArePortsIn : ℕ → Line → Type 0
 ArePortsIn nodes (Link a b) = IsIn nodes a × IsIn nodes b
 ArePortsIn nodes (Buffers p n) = IsIn nodes p
+ArePortsIn nodes (Credits p) = IsIn nodes p
 ArePortsIn nodes _ = ⊤
 
 -- a line may stand behind those that made this network

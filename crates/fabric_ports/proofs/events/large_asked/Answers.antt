@@ -1,4 +1,4 @@
-use Rattle.std.proofs.Common.{true, ◌∙◌}
+use Rattle.std.proofs.Common.{true}
 use Rattle.fabric_script.specs.declared.lines.Line.TheVariants.{Read16, Write16}
 use Rattle.maint_packets.specs.Requests.{request_body}
 use Rattle.maint_packets.specs.declared.request.Op.TheVariants as Ops

@@ -1,6 +1,6 @@
 use Rattle.std.proofs.Common.{◌≡◌, map, take}
-use Rattle.link_port.specs.Ports.{new_port}
+use Rattle.fabric_ports.specs.Plans.{planned_port}
 use Rattle.fabric_ports.proofs.plans.make_ports.Given as goal
 
-abbrev pub invariant-loop-n : goal.invariant-loop-n
-invariant-loop-n l = l.ports.items ≡ map new_port (take l.n-index l.buffers)
+abbrev pub invariant-loop-plan : goal.invariant-loop-plan
+invariant-loop-plan l = l.ports.items ≡ map planned_port (take l.plan-index l.plans)

@@ -1,12 +1,10 @@
 use Rattle.std.proofs.Common.{List, OnOk, IfErr, refl, sym, subst}
 use Rattle.fabric_script.specs.declared.lines.Line.{Line}
 use Rattle.fabric_script.specs.declared.lines.Line.TheVariants.{Alter, Erase, Insert}
-use Rattle.fabric_model.specs.Network.{Network}
 use Rattle.fabric_trace.specs.Events.{IsThere}
 use Rattle.fabric_trace.specs.Fold.{seen}
 use Rattle.fabric_trace.specs.Known.{Seen}
 use Rattle.fabric_trace.specs.Lines.{TraceLine}
-use Rattle.fabric_trace.specs.Runs.{begins}
 use Rattle.fabric_ports.specs.Blocked.{Blocked, BlockEnds}
 use Rattle.fabric_ports.specs.Standing.{Stands}
 use Rattle.fabric_ports.proofs.EventLaws.{is_linked}

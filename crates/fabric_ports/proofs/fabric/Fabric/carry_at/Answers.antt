@@ -1,6 +1,5 @@
-use Rattle.std.proofs.Common.{◌≡◌, sym, subst, ◌∙◌, []}
+use Rattle.std.proofs.Common.{sym, subst, ◌∙◌}
 use Rattle.fabric_trace.specs.Fold.{seen}
-use Rattle.fabric_trace.specs.Lines.{TraceLine}
 use Rattle.fabric_ports.specs.Carrying.{Carries}
 use Rattle.fabric_ports.proofs.IdleLinks.{idle_carries}
 use Rattle.fabric_ports.proofs.RanLaws.{Nothing, ran_nothing, ran_as}

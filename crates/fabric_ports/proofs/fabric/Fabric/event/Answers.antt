@@ -1,19 +1,16 @@
-use Rattle.std.proofs.Common.{◌++◌, ◌∷◌, [], List, IfOk, IfErr, inl, inr, refl, sym, ap, subst, ◌∙◌}
+use Rattle.std.proofs.Common.{◌++◌, ◌∷◌, [], List, IfOk, IfErr, refl, sym, ap, subst, ◌∙◌}
 use Rattle.rio_chars.specs.Written.{Writes}
 use Rattle.fabric_script.specs.declared.lines.Line.{Line}
 use Rattle.fabric_script.specs.declared.lines.Line.TheVariants.{Move, Collect, Run}
 use Rattle.fabric_trace.specs.Fold.{edited_by, seen}
 use Rattle.fabric_trace.specs.Known.{Seen}
 use Rattle.fabric_trace.specs.Lines.{TraceLine, Begun}
-use Rattle.fabric_trace.specs.Runs.{begins}
 use Rattle.fabric_trace.specs.Text.{trace_line_text}
-use Rattle.fabric_model.specs.Network.{Network}
 use Rattle.fabric_ports.specs.Events.{Evented, EventEnds}
 use Rattle.fabric_ports.specs.Standing.{Stands}
 use Rattle.fabric_ports.proofs.RoundLaws.{run_done, run_ended}
 use Rattle.fabric_ports.specs.declared.answers.Happened.TheVariants.{Other}
 use Rattle.fabric_trace.proofs.Existing.{ready_on}
-use Rattle.fabric_trace.proofs.Starting.{good_start}
 use Rattle.fabric_ports.proofs.EventLaws.{end_of, ids_are, is_taken, sent_block, evented, linked_done, linked_ended, none_of, at_link_is, other_happened}
 use Rattle.fabric_ports.proofs.fabric.Fabric.event.Goals as goal
 

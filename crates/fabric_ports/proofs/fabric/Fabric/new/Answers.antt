@@ -1,9 +1,8 @@
 use Rattle.std.proofs.Common.{◌≡◌, ◌<◌, length, get_or, take, map, ◌∙◌, ap, subst, refl, rules, arith}
 use Rattle.std.proofs.lemmas.List.{take_all}
-use Rattle.link_port.specs.Ports.{new_port}
 use Rattle.fabric_trace.specs.Events.{port_counts}
 use Rattle.fabric_trace.specs.Runs.{bare, set_up_all}
-use Rattle.fabric_ports.specs.Plans.{PlansFor, counts_of}
+use Rattle.fabric_ports.specs.Plans.{PlansFor, counts_of, planned_port}
 use Rattle.fabric_ports.proofs.NewLaws.{devices_named, new_stands, next_ports, next_may, next_plan}
 use Rattle.fabric_ports.proofs.fabric.Fabric.new.Goals as goal
 
@@ -44,7 +43,7 @@ returns-clause-stands c =
     let plan = c.loop-numbered.plan in
     let all : take c.loop-numbered.numbered-index script.lines.items ≡ script.lines.items =
     take_all c.loop-numbered.numbered-index script.lines.items (omega arith) in
-    let buffers : c.deref.result.now ≡ plan.buffers.items = search rules in
+    let ports : c.deref.result.now ≡ plan.ports.items = search rules in
     new_stands script.names.items script.lines.items plan
     (record {
       devices = plan.devices;
@@ -55,7 +54,7 @@ returns-clause-stands c =
     }) c.requires.passes
     (subst (λ lines. PlansFor plan (set_up_all bare lines)) all c.loop-numbered.invariant.plans)
     refl refl refl
-    (c.in_ok-ports.ensures ∙ ap (map new_port) buffers)
+    (c.in_ok-ports.ensures ∙ ap (map planned_port) ports)
 
 pub returns-clause-named : goal.returns-clause-named
 returns-clause-named c =

@@ -1,7 +1,5 @@
 use Rattle.std.proofs.Common.{◌++◌, subst}
 use Rattle.fabric_trace.specs.Fold.{seen}
-use Rattle.fabric_trace.specs.Known.{Seen}
-use Rattle.fabric_trace.specs.Runs.{begins}
 use Rattle.fabric_trace.proofs.Keeping.{good_by_priority}
 use Rattle.fabric_ports.specs.Events.{IsStep}
 use Rattle.fabric_ports.proofs.SettlingLaws.{good_behind, switch_stays}

@@ -1,5 +1,4 @@
 use Rattle.std.proofs.Common.{List}
-use Rattle.fabric_model.specs.Network.{Network}
 use Rattle.fabric_trace.specs.Known.{Seen}
 use Rattle.fabric_trace.specs.Lines.{TraceLine}
 use Rattle.fabric_ports.specs.Ran.{Ran}

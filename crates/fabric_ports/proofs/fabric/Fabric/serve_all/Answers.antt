@@ -2,8 +2,6 @@ use Rattle.std.proofs.Common.{◌≡◌, ◌<◌, ◌+◌, ◌++◌, length, tak
 use Rattle.std.proofs.lemmas.List.{take_all}
 use Rattle.std.proofs.lemmas.Option.{slice_get-get_or}
 use Rattle.std.proofs.Common.{Some}
-use Rattle.maint_registers.specs.Devices.{is_switch}
-use Rattle.rio_chars.specs.declared.outbox.Outbox.{Outbox}
 use Rattle.fabric_trace.specs.Rounds.{ServeNodes}
 use Rattle.fabric_ports.specs.Ran.{Ran}
 use Rattle.fabric_ports.specs.declared.fabric.Fabric.{Fabric}

@@ -1,6 +1,4 @@
 use Rattle.std.proofs.Common.{List, take}
-use Rattle.fabric_model.specs.Network.{Network}
-use Rattle.fabric_trace.specs.Fold.{seen}
 use Rattle.fabric_trace.specs.Known.{Seen}
 use Rattle.fabric_trace.specs.Lines.{TraceLine}
 use Rattle.fabric_trace.specs.Rounds.{ServeNodes}

@@ -1,6 +1,5 @@
-use Rattle.std.proofs.Common.{◌≡◌, ◌<◌, ◌≤◌, ◌++◌, List, length, take, rules, arith, vec_len, sym, ap, ◌∙◌}
+use Rattle.std.proofs.Common.{◌≡◌, ◌<◌, ◌++◌, List, length, take, rules, arith, vec_len, sym, ap, ◌∙◌}
 use Rattle.std.proofs.lemmas.List.{take_all, length-map}
-use Rattle.fabric_model.specs.Network.{Network}
 use Rattle.fabric_trace.specs.Known.{Seen}
 use Rattle.fabric_trace.specs.Lines.{TraceLine}
 use Rattle.fabric_ports.specs.Ran.{RanEnds, LinksSettle}

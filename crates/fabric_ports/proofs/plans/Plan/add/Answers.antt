@@ -41,7 +41,7 @@ returns-in-Endpoint-clause-plans c =
     let new = c.add_device.new.self in
     let e = c.add_device.ensures in
     let one : HasPorts (new_endpoint c.in-Endpoint.id false) = omega arith in
-    ok_from_three c.add_device.result e.devices e.firsts e.buffers (λ d f b net is may.
+    ok_from_three c.add_device.result e.devices e.firsts e.ports (λ d f b net is may.
     subst (λ line. PlansFor new (set_up net line)) (sym c.in-Endpoint.is)
     (subst (λ device. PlansFor new (with_node net device)) c.endpoint.ensures
     (plan-device old new net c.endpoint.result (subst HasPorts (sym c.endpoint.ensures) one) d f b
@@ -62,7 +62,7 @@ returns-in-Switch-clause-plans c =
     let e = c.add_device-in-Switch.ensures in
     let least = (subst (MaySetUp c.requires.may.net) c.in-Switch.is c.requires.may.may).0 in
     let some : HasPorts (new_switch c.in-Switch.ports 0) = omega (arith, least) in
-    ok_from_three c.add_device-in-Switch.result e.devices e.firsts e.buffers (λ d f b net is may.
+    ok_from_three c.add_device-in-Switch.result e.devices e.firsts e.ports (λ d f b net is may.
     subst (λ line. PlansFor new (set_up net line)) (sym c.in-Switch.is)
     (subst (λ device. PlansFor new (with_node net device)) c.switch.ensures
     (plan-device old new net c.switch.result (subst HasPorts (sym c.switch.ensures) some) d f b
@@ -90,7 +90,7 @@ returns-in-Link-clause-plans c =
     (port_by_count old.devices.items c.in-Link.a ports.0)
     (port_by_count old.devices.items c.in-Link.b ports.1)
     devices (ap (λ plan. plan.firsts.items) rest)
-    (ap (λ plan. plan.buffers.items) rest) cables is))
+    (ap (λ plan. plan.ports.items) rest) cables is))
 
 pub returns-in-Link-clause-counts : goal.returns-in-Link-clause-counts
 returns-in-Link-clause-counts c =

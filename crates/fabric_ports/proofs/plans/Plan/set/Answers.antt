@@ -9,7 +9,8 @@ use Rattle.fabric_trace.specs.Settings.{with_change, routed, defaulted, held_by,
 use Rattle.fabric_ports.specs.Plans.{PlansFor, counts_of}
 use Rattle.fabric_ports.specs.declared.plans.Plan.{Plan}
 use Rattle.fabric_ports.proofs.Changes.{KeepsPorts, counts-change, changed_at, kind_of}
-use Rattle.fabric_ports.proofs.PlanLaws.{plan-buffers, plan-change, port_by_count}
+use Rattle.fabric_ports.proofs.PlanLaws.{plan-change, port_by_count}
+use Rattle.fabric_ports.proofs.PortPlans.{plan-buffers, plan-telling}
 use Rattle.fabric_ports.proofs.plans.Plan.set.Goals as goal
 
 -- the plan with another device in place of one
@@ -48,14 +49,31 @@ returns-in-Buffers-clause-plans c net is may =
     subst (λ line. PlansFor new (set_up net line)) (sym c.in-Buffers.is)
     (plan-buffers old new net c.in-Buffers.port c.in-Buffers.n port
     (subst (MaySetUp net) c.in-Buffers.is may)
-    (ap (λ plan. plan.devices.items) e.rest) (ap (λ plan. plan.firsts.items) e.rest) e.buffers
+    (ap (λ plan. plan.devices.items) e.rest) (ap (λ plan. plan.firsts.items) e.rest) e.ports
+    (ap (λ plan. plan.cables.items) e.rest) is)
+
+pub set_telling-requires-clause-port : goal.set_telling-requires-clause-port
+set_telling-requires-clause-port c =
+    port_by_count c.args.self.now.devices.items c.in-Credits.port
+    (subst (ArePorts (counts_of c.args.self.now.devices.items)) c.in-Credits.is c.requires.ports)
+
+pub returns-in-Credits-clause-plans : goal.returns-in-Credits-clause-plans
+returns-in-Credits-clause-plans c net is may =
+    let old = c.args.self.now in
+    let new = c.set_telling.new.self in
+    let e = c.set_telling.ensures in
+    let port = port_by_count old.devices.items c.in-Credits.port
+    (subst (ArePorts (counts_of old.devices.items)) c.in-Credits.is c.requires.ports) in
+    subst (λ line. PlansFor new (set_up net line)) (sym c.in-Credits.is)
+    (plan-telling old new net c.in-Credits.port port
+    (ap (λ plan. plan.devices.items) e.rest) (ap (λ plan. plan.firsts.items) e.rest) e.ports
     (ap (λ plan. plan.cables.items) e.rest) is)
 
 pub index_mut-requires : goal.index_mut-requires
 index_mut-requires c =
     let may = c.requires.may in
-    let there = (kind_of true may.net c.args.self.now.devices.items c.in-Route.node may.plans.registers
-    (subst (MaySetUp may.net) c.in-Route.is may.may).0).within in
+    let there = (kind_of true may.net c.args.self.now.devices.items c.in-Route.node
+    may.plans.registers (subst (MaySetUp may.net) c.in-Route.is may.may).0).within in
     grind (arith, there)
 
 pub set_route-requires-clause-destination : goal.set_route-requires-clause-destination
@@ -75,8 +93,8 @@ set_route-requires-clause-switch c =
 pub index_mut-requires-in-Default : goal.index_mut-requires-in-Default
 index_mut-requires-in-Default c =
     let may = c.requires.may in
-    let there = (kind_of true may.net c.args.self.now.devices.items c.in-Default.node may.plans.registers
-    (subst (MaySetUp may.net) c.in-Default.is may.may).0).within in
+    let there = (kind_of true may.net c.args.self.now.devices.items c.in-Default.node
+    may.plans.registers (subst (MaySetUp may.net) c.in-Default.is may.may).0).within in
     grind (arith, there)
 
 pub set_default-requires : goal.set_default-requires
@@ -86,7 +104,8 @@ set_default-requires c =
     let read = c.index_mut-in-Default.result.now in
     (kind_of true may.net devices c.in-Default.node may.plans.registers
     (subst (MaySetUp may.net) c.in-Default.is may.may).0).kind read
-    (c.index_mut-in-Default.ensures.value ∙ ap (λ n. get_or devices n read) c.from-in-Default.ensures)
+    (c.index_mut-in-Default.ensures.value
+    ∙ ap (λ n. get_or devices n read) c.from-in-Default.ensures)
 
 pub returns-in-Route-clause-plans : goal.returns-in-Route-clause-plans
 returns-in-Route-clause-plans c = λ net plans line_may.
@@ -124,8 +143,9 @@ returns-in-Default-clause-plans c = λ net plans line_may.
     let within : c.from-in-Default.result < length old.devices.items = grind (arith, there, at) in
     subst (λ line. PlansFor (with_written old c.from-in-Default.result c.set_default.new.self)
     (set_up net line)) (sym c.in-Default.is)
-    (written_plans old net c.in-Default.node c.from-in-Default.result c.index_mut-in-Default.result.now
-    c.set_default.new.self (defaulted c.in-Default.p) (λ device. refl) at within
+    (written_plans old net c.in-Default.node c.from-in-Default.result
+    c.index_mut-in-Default.result.now c.set_default.new.self (defaulted c.in-Default.p)
+    (λ device. refl) at within
     c.index_mut-in-Default.ensures.value c.set_default.ensures plans)
 
 pub returns-in-Default-clause-counts : goal.returns-in-Default-clause-counts
@@ -169,8 +189,8 @@ returns-in-Lock-clause-counts c =
 pub index_mut-requires-in-Large : goal.index_mut-requires-in-Large
 index_mut-requires-in-Large c =
     let may = c.requires.may in
-    let there = (kind_of false may.net c.args.self.now.devices.items c.in-Large.node may.plans.registers
-    (subst (MaySetUp may.net) c.in-Large.is may.may).0).within in
+    let there = (kind_of false may.net c.args.self.now.devices.items c.in-Large.node
+    may.plans.registers (subst (MaySetUp may.net) c.in-Large.is may.may).0).within in
     grind (arith, there)
 
 pub set_large-requires : goal.set_large-requires

@@ -1,8 +1,7 @@
-use Rattle.std.proofs.Common.{◌≡◌, ◌+◌, ap, arith, slice_set}
+use Rattle.std.proofs.Common.{arith}
 use Rattle.std.proofs.lemmas.Grind.{get_or_default_zero}
-use Rattle.fabric_ports.specs.Places.{place_of}
 use Rattle.fabric_ports.proofs.Rows.{placed}
-use Rattle.fabric_ports.proofs.plans.Plan.set_buffers.Goals as goal
+use Rattle.fabric_ports.proofs.plans.Plan.place.Goals as goal
 
 pub index-requires : goal.index-requires
 index-requires c =
@@ -11,8 +10,8 @@ index-requires c =
     let known = at.known in
     grind (arith, known)
 
-pub overflow_add-place : goal.overflow_add-place
-overflow_add-place c =
+pub overflow_add-result : goal.overflow_add-result
+overflow_add-result c =
     let at = placed c.args.self.now.devices.items c.args.self.now.firsts.items c.args.port
     c.requires.plan.firsts c.requires.port in
     let first = get_or_default_zero c.args.self.now.firsts.items c.args.port.node c.index.result.now
@@ -22,8 +21,17 @@ overflow_add-place c =
     let count = c.requires.plan.count in
     grind (arith, known, within, count, first)
 
-pub index_mut-requires : goal.index_mut-requires
-index_mut-requires c =
+pub returns-clause-value : goal.returns-clause-value
+returns-clause-value c =
+    let at = placed c.args.self.now.devices.items c.args.self.now.firsts.items c.args.port
+    c.requires.plan.firsts c.requires.port in
+    let first = get_or_default_zero c.args.self.now.firsts.items c.args.port.node c.index.result.now
+    at.known in
+    let known = at.known in
+    grind (arith, known, first)
+
+pub returns-clause-within : goal.returns-clause-within
+returns-clause-within c =
     let at = placed c.args.self.now.devices.items c.args.self.now.firsts.items c.args.port
     c.requires.plan.firsts c.requires.port in
     let first = get_or_default_zero c.args.self.now.firsts.items c.args.port.node c.index.result.now
@@ -32,14 +40,3 @@ index_mut-requires c =
     let within = at.within in
     let count = c.requires.plan.count in
     grind (arith, known, within, count, first)
-
-pub returns-clause-buffers : goal.returns-clause-buffers
-returns-clause-buffers c =
-    let at = placed c.args.self.now.devices.items c.args.self.now.firsts.items c.args.port
-    c.requires.plan.firsts c.requires.port in
-    let first = get_or_default_zero c.args.self.now.firsts.items c.args.port.node c.index.result.now
-    at.known in
-    let known = at.known in
-    let place : c.index.result.now + c.from-2.result ≡ place_of c.args.self.now.firsts.items
-    c.args.port = grind (arith, known, first) in
-    ap (λ i. slice_set c.args.self.now.buffers.items i c.args.n) place
