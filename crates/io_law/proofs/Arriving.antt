@@ -1,5 +1,5 @@
 -- What comes is what was taken, if it is no maintenance packet.
-use Rattle.std.proofs.Common.{◌≡◌, ℕ, Bool, true, false, List, [], ◌∷◌, ◌++◌, map, IsTrue, MatchBool, refl, ap₂, ◌∙◌, subst}
+use Rattle.std.proofs.Common.{ap, ◌≡◌, ℕ, Bool, true, false, List, [], ◌∷◌, ◌++◌, map, IsTrue, MatchBool, refl, ap₂, ◌∙◌, subst}
 use Rattle.std.specs.List.{AllByRecursion}
 use Rattle.std.proofs.lemmas.Bool.{false≢true}
 use Rattle.std.proofs.lemmas.List.{map-append}
@@ -40,6 +40,15 @@ same_after taken n now AsItWas none = refl
 same_after taken _ now (OnceMore {n} {old} before move) none =
     one_move old now taken (is_maintenance old) refl move none (same_after taken n old before)
 
+-- what was taken as no maintenance packet never changes
+pub stays_same : (taken : List ℕ) (n : ℕ) (now : List ℕ) → IsAfterMoves taken n now
+    → is_maintenance taken ≡ false → now ≡ taken
+stays_same taken n now AsItWas none = refl
+stays_same taken _ now (OnceMore {n} {old} before move) none =
+    let same = stays_same taken n old before none in
+    subst (λ b. MatchBool b (Lowered old now) (now ≡ old)) (ap is_maintenance same ∙ none) move
+    ∙ same
+
 -- ---- what came is what left, as the lines tell it
 
 packet_act : (task : IoTask) (what : Happened) (items : List Item)
@@ -78,7 +87,7 @@ packets_come (Goes before comes goes) set_up none =
 
 -- ---- what holds of all that left holds of all that came
 
-all_parts : {X : Type 0} (P : X → Type 0) (xs ys : List X) → AllByRecursion P (xs ++ ys)
+pub all_parts : {X : Type 0} (P : X → Type 0) (xs ys : List X) → AllByRecursion P (xs ++ ys)
     → AllByRecursion P xs × AllByRecursion P ys
 all_parts P [] ys all = (tt, all)
 all_parts P (x ∷ xs) ys all =

@@ -138,7 +138,7 @@ collect_not_taken node Collects.Empty is = absurd cc
 collect_not_taken node Collects.Full is = absurd cc
 
 -- a packet was taken, so it is one
-took_one : (s : Seen) (line : Line) (block : List TraceLine) → IsBlock s line block
+pub took_one : (s : Seen) (line : Line) (block : List TraceLine) → IsBlock s line block
     → happened line block ≡ Answers.Took → length (taken s.network (steps_of block)) ≡ 1
 took_one s (Send node prio ftype dest hex) block is took = sends_one s node _ block is took
 took_one s (Read node prio dest hop tid offset) block is took = sends_one s node _ block is took

@@ -8,3 +8,16 @@ pub mod Items
 pub mod Arriving
 pub mod NoTakes
 pub mod Responses
+pub mod Fit
+pub mod Plain
+pub mod Places
+pub mod Order
+pub mod Taking
+pub mod Sending
+pub mod Turning
+pub mod Pending
+pub mod Serving
+pub mod Types
+pub mod Requests
+pub mod Dones
+pub mod Answering

@@ -84,7 +84,7 @@ put_memory stations at memory n within = by (eqb at n) refl
         (λ same. eqb-false at n other (sym same)))
 
 -- only a node that is kept has a memory
-has_place : (stations : List _) (n : ℕ) (memory : List ℕ)
+pub has_place : (stations : List _) (n : ℕ) (memory : List ℕ)
     → memory_of stations n ≡ Some memory → n < length stations
 has_place [] zero memory is = absurd (cc)
 has_place [] (suc n) memory is = absurd (cc)

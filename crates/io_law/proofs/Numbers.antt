@@ -9,16 +9,16 @@ use Rattle.fabric_model.specs.Laws.History.{taken_by, taken}
 use Rattle.fabric_model.specs.Laws.Holding.{how_often}
 use Rattle.fabric_model.proofs.Holding.{how_often-append}
 
-record GivesOne (net : Network) (step : Step) : Type 0 where
-  item : Item
-  only : taken_by net step ≡ item ∷ []
-  number : item.number ≡ net.given
-  next : (after net step).given ≡ net.given + 1
+pub record GivesOne (net : Network) (step : Step) : Type 0 where
+  pub item : Item
+  pub only : taken_by net step ≡ item ∷ []
+  pub number : item.number ≡ net.given
+  pub next : (after net step).given ≡ net.given + 1
 
-abbrev GivesNone : Network → Step → Type 0
+abbrev pub GivesNone : Network → Step → Type 0
 GivesNone net step = (taken_by net step ≡ []) × ((after net step).given ≡ net.given)
 
-gives : (net : Network) (step : Step) → GivesNone net step ⊎ GivesOne net step
+pub gives : (net : Network) (step : Step) → GivesNone net step ⊎ GivesOne net step
 gives net (Linked (Hold q packet)) = by_peer (peer_in net.links q)
   where
     by_peer : (p : Option PortRef)

@@ -127,7 +127,7 @@ fit_set_up names script io fit = set_up_bare script (may_set_up names script fit
 
 -- ---- what its steps give
 
-gathered-append : {A : Type 0} (each : Network → Step → List A) (net : Network)
+pub gathered-append : {A : Type 0} (each : Network → Step → List A) (net : Network)
     (a b : List Step)
     → gathered each net (a ++ b) ≡ gathered each net a ++ gathered each (after_all net a) b
 gathered-append each net [] b = refl

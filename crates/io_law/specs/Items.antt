@@ -1,8 +1,12 @@
 -- Which packets of the network the lines that a run tells are of: each packet is an item, with a
 -- number of its own.
-use Rattle.std.specs.Prelude.{ℕ, ◌+◌, List, [], ◌∷◌, ◌++◌}
+use Rattle.std.specs.Prelude.{◌≡◌, ℕ, ◌+◌, false, List, [], ◌∷◌, ◌++◌}
+use Rattle.rio_packets.specs.Fields.{body_of}
+use Rattle.rio_packets.specs.LinkForm.{LinkForm}
+use Rattle.fabric_script.specs.declared.lines.Line.{Line}
+use Rattle.fabric_script.specs.declared.lines.Line.TheVariants.{Send}
 use Rattle.fabric_script.specs.declared.lines.Numbered.{Numbered}
-use Rattle.fabric_model.specs.Network.{Network, Item}
+use Rattle.fabric_model.specs.Network.{Network, Item, port_of, id_of}
 use Rattle.fabric_model.specs.Laws.History.{taken, gone}
 use Rattle.fabric_trace.specs.Fold.{seen}
 use Rattle.fabric_trace.specs.Lines.{steps_of}
@@ -103,3 +107,13 @@ came_line _ = 0
 abbrev pub lines_in : (Told → ℕ) → List Told → ℕ
 lines_in each [] = 0
 lines_in each (line ∷ lines) = each line + lines_in each lines
+
+-- ---- what is sent
+
+-- It is taken at the node of this event, and is the packet that the event names, with the ID of the
+-- node as source.
+abbrev pub IsSentBy : Network → Line → Item → Type 0
+IsSentBy net (Send node prio ftype dest hex) item =
+    (item.port ≡ port_of node)
+    × LinkForm (body_of prio ftype false dest (id_of net node false) hex) item.taken
+IsSentBy net _ item = ⊥

@@ -1,8 +1,9 @@
 -- Laws of what a run of a script of reads and writes tells.
 use Rattle.std.specs.Prelude.{◌≡◌, ◌≤◌, ◌<◌, ℕ, ◌+◌, false, List, length, map, take, slice_get, slice_range, Some}
 use Rattle.std.specs.List.{AllByRecursion}
-use Rattle.rio_packets.specs.Fields.{ftype_of, is_maintenance}
+use Rattle.rio_packets.specs.Fields.{prio_of, ftype_of, dest_of, is_maintenance}
 use Rattle.fabric_script.specs.declared.lines.Numbered.{Numbered}
+use Rattle.fabric_model.specs.Network.{Item}
 use Rattle.fabric_model.specs.Laws.History.{WasTaken}
 use Rattle.fabric_model.specs.Laws.Holding.{how_often}
 use Rattle.fabric_trace.specs.Lines.{steps_of}
@@ -14,6 +15,7 @@ use Rattle.io_rounds.specs.Drives.{IsIoFit, first_state}
 use Rattle.io_rounds.specs.Going.{IoState, IoComes}
 use Rattle.io_law.specs.Telling.{Came, told, text_told, memory_left}
 use Rattle.io_law.specs.Items.{asked, came, replied, packets_told, asked_line, came_line, lines_in}
+use Rattle.io_law.specs.Replies.{RepliesToServed, DonesAreReplies}
 
 -- A read that is told gives the bytes that stand in the memory that the lines before it leave.
 abbrev pub ReadsAreTold : Type 0
@@ -77,3 +79,61 @@ abbrev pub ResponsesWereReplied : Type 0
 ResponsesWereReplied = (names : List (List ℕ)) (script : List Numbered) (io : List NumberedIo)
     (s : IoState) (comes : IoComes names script (first_state names io) s)
     → IsIoFit names script io → ResponsesAreReplies comes
+
+-- Each other packet that came is one with which a node asked.
+abbrev pub RequestsWereAsked : Type 0
+RequestsWereAsked = (names : List (List ℕ)) (script : List Numbered) (io : List NumberedIo)
+    (s : IoState) (comes : IoComes names script (first_state names io) s)
+    → IsIoFit names script io
+    → AllByRecursion
+    (λ item. (ftype_of item.now ≡ 13 → ⊥) → 0 < how_often item.number (asked comes)) (came comes)
+
+-- ---- the order in which packets come
+
+-- both were sent from one port to one destination
+pub record SameWay (x y : Item) : Type 0 where
+  pub port : x.port ≡ y.port
+  pub dest : dest_of x.taken ≡ dest_of y.taken
+
+-- and at one priority
+abbrev pub SameWayAndPriority : Item → Item → Type 0
+SameWayAndPriority x y = SameWay x y × (prio_of x.taken ≡ prio_of y.taken)
+
+-- one of this number came before the k-th
+pub record ComesBefore (came : List Item) (number k : ℕ) : Type 0 where
+  pub place : ℕ
+  pub item : Item
+  pub below : place < k
+  pub is : slice_get came place ≡ Some item
+  pub same : item.number ≡ number
+
+-- Of two packets that are alike, if the one that was sent later has come, the one that was sent
+-- earlier came before it.
+abbrev pub InTurn : (Item → Item → Type 0) → List Item → List Item → Type 0
+InTurn Alike sent came = (i j k : ℕ) (x y z : Item) → i < j → slice_get sent i ≡ Some x
+    → slice_get sent j ≡ Some y → Alike x y → slice_get came k ≡ Some z → z.number ≡ y.number
+    → ComesBefore came x.number k
+
+-- So do the packets with which one node asked one device, and so those that one node replied to one
+-- device at one priority.
+pub record ComeInTurn {names : List (List ℕ)} {script : List Numbered} {first s : IoState}
+    (comes : IoComes names script first s) : Type 0 where
+  pub asked_in_turn : InTurn SameWay (asked comes) (came comes)
+  pub replied_in_turn : InTurn SameWayAndPriority (replied comes) (came comes)
+
+abbrev pub PacketsComeInTurn : Type 0
+PacketsComeInTurn = (names : List (List ℕ)) (script : List Numbered) (io : List NumberedIo)
+    (s : IoState) (comes : IoComes names script (first_state names io) s)
+    → IsIoFit names script io → ComeInTurn comes
+
+-- ---- replies
+
+abbrev pub RepliesAnswerServed : Type 0
+RepliesAnswerServed = (names : List (List ℕ)) (script : List Numbered) (io : List NumberedIo)
+    (s : IoState) (comes : IoComes names script (first_state names io) s) (node : ℕ)
+    → IsIoFit names script io → RepliesToServed comes node
+
+abbrev pub DonesAnswerRequests : Type 0
+DonesAnswerRequests = (names : List (List ℕ)) (script : List Numbered) (io : List NumberedIo)
+    (s : IoState) (comes : IoComes names script (first_state names io) s)
+    → IsIoFit names script io → DonesAreReplies comes

@@ -1,3 +1,4 @@
 pub mod Telling
 pub mod Items
+pub mod Replies
 pub mod Laws

@@ -1,10 +1,14 @@
 //! Laws of whole runs of a script of reads and writes.
 ghost use Rattle.io_law.specs.Laws.{
+  DonesAnswerRequests,
   MemoriesAreTold,
   OutputIsTold,
   PacketsComeAsTaken,
+  PacketsComeInTurn,
   PacketsHaveOneLine,
   ReadsAreTold,
+  RepliesAnswerServed,
+  RequestsWereAsked,
   ResponsesWereReplied,
 };
 
@@ -44,4 +48,33 @@ pub fn packets_come_as_taken()
 /// reply gives two.
 pub fn responses_were_replied()
     ensures { ResponsesWereReplied }
+{}
+
+/// In every run of a script that may be carried out, each packet that came and is no response is
+/// one with which a node asked. So each line of a read, a write or a failure is of such a packet.
+pub fn requests_were_asked()
+    ensures { RequestsWereAsked }
+{}
+
+/// In every run of a script that may be carried out, of two packets with which one node asked one
+/// device the one that was asked with first comes first; and so it is of two packets that one node
+/// replied to one device at one priority. If the later one has come, so has the earlier one.
+pub fn packets_come_in_turn()
+    ensures { PacketsComeInTurn }
+{}
+
+/// In every run of a script that may be carried out, each node replies to what it serves, in order
+/// and to each packet once: its first reply is that to the first packet that it serves, and so on.
+/// At most the last packet that it has served is without a reply yet, if it is next to be sent or
+/// has no room.
+pub fn replies_answer_what_was_served()
+    ensures { RepliesAnswerServed }
+{}
+
+/// In every run of a script that may be carried out, each `done` line is of the reply to a packet
+/// that a node served, whose line was told before: the reply goes back to the source of that
+/// packet, comes as it was sent, and says what the node answered by its memory then. No two `done`
+/// lines are of one reply, so no two are of one packet that was served.
+pub fn done_lines_answer_requests()
+    ensures { DonesAnswerRequests }
 {}
