@@ -1,5 +1,5 @@
 -- After all turns an access along an open path is carried.
-use Rattle.std.proofs.Common.{◌≡◌, ◌≢◌, ℕ, Bool, false, List, [], ◌∷◌, Some, None, Contains, arith, inl, inr, subst, sym, refl, ap, ◌∙◌}
+use Rattle.std.proofs.Common.{◌≡◌, ◌≢◌, ℕ, ◌≤◌, Bool, false, List, [], ◌∷◌, length, Some, None, Contains, arith, inl, inr, subst, sym, refl, ap, ◌∙◌}
 use Rattle.std.proofs.lemmas.Option.{same_Some}
 use Rattle.fabric_script.specs.declared.ports.PortRef.{PortRef}
 use Rattle.fabric_map.specs.Topology.{Topology}
@@ -24,7 +24,7 @@ use Rattle.contest_numbering.proofs.Whole.{HasCome, IsReady, ReadyFor, turn_read
 use Rattle.contest_asking.specs.Laws.{WantsAlong, IsCarried, OpenPathsCarry}
 use Rattle.contest_asking.proofs.Answering.{only}
 use Rattle.contest_asking.proofs.Guided.{AreOut, AreBehindHost, PathIs, IsGuided, step_guided}
-use Rattle.contest_asking.proofs.Carried.{along_carried}
+use Rattle.contest_asking.proofs.Carried.{along_carried, along_short}
 
 -- a walker that has not taken in its host asks its host alone
 first_own : (view : Topology) (id : ℕ) (begun : Bool) (stage : Stage) (todo : List Pending)
@@ -87,8 +87,9 @@ over_asks w ask Information is over led on wanted = over
 over_asks w ask Status is over led on wanted = over
 over_asks w ask Done is over led on wanted = over
 
-ready_carried : (before : Registers) (w o : Walker) (now : Registers) (ask : Asked) (at : PortRef)
-    → IsReady before w o now → IsGuided w → WantsAlong w now ask at → IsCarried w now ask at
+pub ready_carried : (before : Registers) (w o : Walker) (now : Registers) (ask : Asked)
+    (at : PortRef) → IsReady before w o now → IsGuided w → WantsAlong w now ask at
+    → IsCarried w now ask at
 ready_carried before w o now ask at ready guided wants_it = come ready.come
   where
     mine : IsMine w now
@@ -109,6 +110,30 @@ ready_carried before w o now ask at ready guided wants_it = come ready.come
         absurd (wants_it.some (start_own w (starter w.view w.id false Ask []) now ask new.0 mine
         wants_it.wanted))
 
+-- and its path has at most 64 ports
+pub ready_short : (before : Registers) (w o : Walker) (now : Registers) (ask : Asked)
+    → IsReady before w o now → IsGuided w → w.stage ≢ Free → wants w ≡ Some ask
+    → length ask.path ≤ 64
+ready_short before w o now ask ready guided on wanted = come ready.come
+  where
+    mine : IsMine w now
+    mine = ready.fair.contest.first
+
+    own : ask.path ≡ [] → length ask.path ≤ 64
+    own empty = let none = ap (λ (l : List ℕ). length l) empty in omega (arith, none)
+
+    coming : IsComing w now → length ask.path ≤ 64
+    coming (inl over) =
+        absurd (over_asks w ask w.stage refl over ready.fair.first.led.1 on wanted)
+    coming (inr (inl starting)) = own (start_own w w now ask starting.is mine wanted)
+    coming (inr (inr along)) =
+        along_short w now ready.fair.first.within mine along guided ask on wanted
+
+    come : HasCome w now → length ask.path ≤ 64
+    come (inl begun) = coming begun.1
+    come (inr new) =
+        own (start_own w (starter w.view w.id false Ask []) now ask new.0 mine wanted)
+
 -- ---- all turns
 
 abbrev Guides : State → Type 0
@@ -117,14 +142,14 @@ Guides state = IsGuided state.walker
 turned_guided : (w : Walker) (old : Registers) → IsGuided w → Guides (turned w old)
 turned_guided w old guided = turned_by Guides step_guided w old guided guided
 
-turn_guided : (both : Both) (side turn : Side) → IsGuided (walker_of both side)
+pub turn_guided : (both : Both) (side turn : Side) → IsGuided (walker_of both side)
     → IsGuided (walker_of (turn_of both turn) side)
 turn_guided both A A guided = turned_guided both.first both.registers guided
 turn_guided both A B guided = guided
 turn_guided both B A guided = guided
 turn_guided both B B guided = turned_guided both.second both.registers guided
 
-new_guided : (w : Walker) → IsNew w → IsGuided w
+pub new_guided : (w : Walker) → IsNew w → IsGuided w
 new_guided w new = (
   subst AreOut (sym new.tried) tt,
   subst AreBehindHost (sym new.devices) tt,

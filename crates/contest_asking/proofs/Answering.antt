@@ -12,11 +12,10 @@ use Rattle.fabric_map.proofs.Growing.{device_on, node_at-entered}
 use Rattle.fabric_map.proofs.Lists.{Contains-cases}
 use Rattle.fabric_map.proofs.Ways.{request_ends, answer_returns}
 use Rattle.host_enumerate.specs.declared.maint.Access.{Access}
-use Rattle.host_enumerate.specs.declared.maint.Access.TheVariants.{Read, Write}
+use Rattle.host_enumerate.specs.declared.maint.Access.TheVariants.{Write}
 use Rattle.host_enumerate.specs.Accesses.{after_access, answered, IsAnswered}
 use Rattle.host_enumerate.specs.Underway.{IsUnmet}
 use Rattle.host_enumerate.proofs.Frames.{with_device-other}
-use Rattle.contest_machine.proofs.Reading.{read-same}
 use Rattle.contest_numbering.proofs.Leading.{opened-stays}
 
 -- the switches that a path passes are in the list
@@ -57,11 +56,6 @@ module _ (view : Topology) (now : Registers) (id : ℕ) (path : List ℕ) (at : 
             (ap (λ l. entered view l) (sym is) ∙ leads) (omega (arith, long, short)));
       }
 
-  pub open_after_read : (offset : ℕ) → IsOpened view now id path
-      → IsOpened view (after_access now at (Read offset)) id path
-  open_after_read offset opened =
-      subst (λ r. IsOpened view r id path) (sym (read-same now at offset)) opened
-
   pub open_after_write : (offset value : ℕ) → PassesOthers view path at.node
       → IsOpened view now id path
       → IsOpened view (after_access now at (Write offset value)) id path
@@ -80,8 +74,8 @@ only path other found = go (Contains-cases path [] other found)
     go (inl same) = same
     go (inr none) = absurd (omega (arith, none.1))
 
-longer : (front : List ℕ) (port : ℕ) (rest : List ℕ) → ¬ (front ++ port ∷ rest ≡ front)
-longer front port rest same =
+pub not_longer : (front : List ℕ) (port : ℕ) (rest : List ℕ) → ¬ (front ++ port ∷ rest ≡ front)
+not_longer front port rest same =
     let long = ap (λ (l : List ℕ). length l) (sym same) ∙ length-append front (port ∷ rest) in
     omega (arith, long)
 
@@ -96,7 +90,7 @@ module _ (view : Topology) (devices : List Device) (bound path : List ℕ) (at :
   pub listed_others : Contains (paths_of devices) path → entered view path ≡ Some at
       → PassesOthers view path at.node
   listed_others listed leads first front rest port end is enters same =
-      longer (first ∷ front) port rest
+      not_longer (first ∷ front) port rest
       (sym is ∙ walked.once path (first ∷ front) listed
       (listed_passes listed first front rest port end is enters)
       (node_at-entered view path at leads

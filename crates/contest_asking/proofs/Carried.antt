@@ -13,6 +13,7 @@ use Rattle.fabric_map.proofs.Growing.{device_on, node_at-entered}
 use Rattle.host_enumerate.specs.declared.maint.Access.{Access}
 use Rattle.host_enumerate.specs.declared.maint.Access.TheVariants.{Read, Write}
 use Rattle.host_enumerate.specs.Accesses.{after_access}
+use Rattle.host_enumerate.proofs.Opening.{open_after_read}
 use Rattle.contest_machine.specs.declared.stages.Asked.{Asked}
 use Rattle.contest_machine.specs.declared.stages.Pending.{Pending}
 use Rattle.contest_machine.specs.declared.stages.Tried.{Tried}
@@ -29,7 +30,7 @@ use Rattle.contest_numbering.proofs.Along.{IsHere, IsHereAt, IsAlong, front_of, 
 use Rattle.contest_numbering.proofs.Moving.{front_listed}
 use Rattle.contest_asking.specs.Laws.{WantsAlong, IsCarried}
 use Rattle.contest_asking.proofs.Guided.{AreOutside, IsPast, IsGuided}
-use Rattle.contest_asking.proofs.Answering.{only, PassesListed, PassesOthers, carried, open_after_read, open_after_write, listed_others, unmet_others}
+use Rattle.contest_asking.proofs.Answering.{only, PassesListed, PassesOthers, carried, open_after_write, listed_others, unmet_others}
 use Rattle.contest_asking.proofs.Back.{not_back}
 use Rattle.contest_asking.proofs.Hosted.{listed_other, host_base, host_stays}
 
@@ -291,3 +292,7 @@ module _ (w : Walker) (now : Registers) (within : IsWithin w) (mine : IsMine w n
       (free.later at wants_it.leads wants_it.opened) wants_it.leads
       (free.other at wants_it.leads wants_it.some) wants_it.some
       free.short
+
+  pub along_short : (ask : Asked) → w.stage ≢ stages.Free → wants w ≡ Some ask
+      → length ask.path ≤ 64
+  along_short ask on wanted = (wanted_free ask on wanted).short

@@ -69,7 +69,7 @@ behind-append : (devices : List Device) (more : Device) → AreBehindHost device
 behind-append [] more all one = (one, tt)
 behind-append (device ∷ rest) more all one = (all.0, behind-append rest more all.1 one)
 
-behind-but_last : (devices : List Device) → AreBehindHost devices
+pub behind-but_last : (devices : List Device) → AreBehindHost devices
     → AreBehindHost (but_last devices)
 behind-but_last [] all = tt
 behind-but_last (device ∷ []) all = tt

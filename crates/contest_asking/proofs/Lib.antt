@@ -4,4 +4,11 @@ pub mod Hosted
 pub mod Back
 pub mod Carried
 pub mod AllAsked
-pub mod Single
+pub mod OpenWays
+pub mod Trees
+pub mod Leaving
+pub mod Opened
+pub mod TakenOpen
+pub mod StepsOpen
+pub mod AllOpen
+pub mod Reached

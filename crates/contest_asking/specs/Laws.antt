@@ -36,3 +36,27 @@ OpenPathsCarry = (both : Both) (turns : List Side) (side : Side) (ask : Asked) (
     → AreOwnUntagged (walker_of both side).view both.registers (walker_of both side).id
     → WantsAlong (walker_of (after_turns both turns) side) (after_turns both turns).registers ask at
     → IsCarried (walker_of (after_turns both turns) side) (after_turns both turns).registers ask at
+
+-- A walker wants this access on a path that is not the host's own. The path enters a device by this
+-- port.
+pub record WantsBehind (w : Walker) (ask : Asked) (at : PortRef) : Type 0 where
+  pub wanted : wants w ≡ Some ask
+  pub some : ask.path ≢ []
+  pub leads : entered w.view ask.path ≡ Some at
+
+-- Whatever turns two hosts have made, the path of the next access of either is open to it.
+abbrev pub PathsAreOpened : Type 0
+PathsAreOpened = (both : Both) (turns : List Side) (side : Side) (ask : Asked)
+    → AreBegun both
+    → AreOwnUntagged (walker_of both side).view both.registers (walker_of both side).id
+    → wants (walker_of (after_turns both turns) side) ≡ Some ask
+    → IsOpened (walker_of (after_turns both turns) side).view (after_turns both turns).registers
+    (walker_of (after_turns both turns) side).id ask.path
+
+-- So each access behind the host is carried, also those of a host that gives up.
+abbrev pub AccessesAreCarried : Type 0
+AccessesAreCarried = (both : Both) (turns : List Side) (side : Side) (ask : Asked) (at : PortRef)
+    → AreBegun both
+    → AreOwnUntagged (walker_of both side).view both.registers (walker_of both side).id
+    → WantsBehind (walker_of (after_turns both turns) side) ask at
+    → IsCarried (walker_of (after_turns both turns) side) (after_turns both turns).registers ask at

@@ -2,18 +2,18 @@
 //! (RapidIO Interconnect Specification 1.3, Part 3, maintenance requests go by the tables of
 //! switches; the order of the walk is this project's profile).
 //!
-//! Promised: an access along a path that is open ends at the device on the path, and its response
-//! comes back to the host.
+//! Promised: the path of each access is open to the host that asks, so the access ends at the
+//! device on the path, and its response comes back to the host.
 //!
-//! Left out: that a host opens each path before it asks along it, and what it asks while it gives
-//! up.
+//! Left out: links and packets (`fabric_ask`).
 //!
-//! - `specs/Laws.antt` has the law, and `specs/Examples.antt` an access of two hosts.
-//! - [`open_paths_carry`] is the law, and [`a_lock_is_read`] an example.
+//! - `specs/Laws.antt` has the laws, and `specs/Examples.antt` an access of two hosts.
+//! - [`accesses_are_carried`] and [`open_paths_carry`] are the laws, and [`a_lock_is_read`] an
+//!   example.
 #![tactic(auto)]
 
 mod examples;
 mod laws;
 
 pub use examples::a_lock_is_read;
-pub use laws::open_paths_carry;
+pub use laws::{accesses_are_carried, open_paths_carry};

@@ -47,7 +47,7 @@ at-cleared path host_id (suc n) =
     go true = tt
     go false = (refl, (refl, tt))
 
-at-home : (path : List ℕ) (host_id entry : ℕ) → AreAt path (home_set path host_id entry)
+pub at-home : (path : List ℕ) (host_id entry : ℕ) → AreAt path (home_set path host_id entry)
 at-home path host_id entry = (
   refl,
   at-append path (cleared_below path host_id 63) (entry_set path host_id entry)

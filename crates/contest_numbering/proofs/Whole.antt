@@ -44,7 +44,7 @@ step_shown view w old shown = go (wants w)
     go (Some ask) = at ask (entered w.view ask.path)
 
 -- the ID that is given next is small
-few_next : (w : Walker) (old : Registers) → IsWithin w → IsMine w old → w.stage ≡ Features
+pub few_next : (w : Walker) (old : Registers) → IsWithin w → IsMine w old → w.stage ≡ Features
     → w.next ≤ 65
 few_next w old within mine is =
     let bounded = subst (λ s. IsBoundedAt s w.devices w.id w.next w.path w.tried) is

@@ -1,123 +1,137 @@
 -- Two new walkers of the fabric of a script.
-use Rattle.std.proofs.Common.{◌≡◌, ◌≢◌, ℕ, ◌<◌, List, [], length, Contains, arith, refl, sym, ap, subst, ◌∙◌}
+use Rattle.std.proofs.Common.{◌≡◌, ◌≢◌, ℕ, ◌<◌, List, [], length, refl, ap, ◌∙◌}
 use Rattle.maint_registers.specs.Devices.{Device}
-use Rattle.fabric_script.specs.declared.ports.PortRef.{PortRef}
 use Rattle.fabric_script.specs.declared.lines.Numbered.{Numbered}
 use Rattle.fabric_script.specs.Scripts.{Passes}
 use Rattle.fabric_map.specs.Topology.{Topology, IsTopology}
 use Rattle.fabric_map.specs.Routes.{Registers}
-use Rattle.fabric_map.specs.Plain.{topology_of, registers_of}
+use Rattle.fabric_map.specs.Fitting.{Fits}
+use Rattle.fabric_map.specs.Plain.{registers_of}
+use Rattle.fabric_trace.specs.Runs.{start}
+use Rattle.fabric_ports.specs.Standing.{Stands}
+use Rattle.fabric_maint.proofs.Making.{devices_here, new_stands}
 use Rattle.host_enumerate.specs.Checking.{IsNewFabric}
 use Rattle.host_enumerate.specs.Devised.{IsHost, devices_of, links_of}
-use Rattle.host_enumerate.proofs.NewFabrics.{made_fabric}
+use Rattle.host_enumerate.specs.Underway.{AreOwnUntagged}
+use Rattle.host_enumerate.proofs.NewFabrics.{devised_fabric}
+use Rattle.link_watch.specs.declared.side.Side.{Side}
+use Rattle.link_watch.specs.declared.side.Side.TheVariants.{A, B}
 use Rattle.contest_machine.specs.Machine.{Walker}
-use Rattle.contest_machine.specs.Contest.{IsMine, IsContest}
 use Rattle.contest_machine.specs.Laws.{IsNew}
 use Rattle.contest_machine.specs.Turns.{Both}
-use Rattle.contest_machine.specs.Within.{IsWithin}
-use Rattle.contest_machine.proofs.Apart.{begun_holds}
-use Rattle.host_contest.specs.declared.plain.PlainFabric.{PlainFabric}
-use Rattle.host_contest.specs.declared.walker.Walker as walkers
+use Rattle.contest_law.specs.Going.{AreBegun}
+use Rattle.contest_law.specs.Locks.{walker_of}
 use Rattle.host_contest.specs.Machines.{new_walker}
-use Rattle.host_contest.specs.Plain.{view_of}
-use Rattle.host_contest.specs.Steps.{CanStep}
+use Rattle.host_contest.specs.Reaching.{AreLow}
 use Rattle.host_contest.specs.Walkers.{machine_in, HasEntries}
-use Rattle.fabric_contest.specs.Contests.{new_both, both_in, CanTurn}
+use Rattle.fabric_contest.specs.Contests.{new_both, view_of, lines_of, both_of, CanTurn}
+use Rattle.fabric_contest.specs.declared.contest.Contest.{Contest}
 use Rattle.fabric_contest.proofs.Distinct.{ids_differ}
-
--- a new walker keeps nothing, and tries nothing
-new_is_within : (view : Topology) (id : ℕ) → IsTopology view → IsWithin (new_walker view id)
-new_is_within view id proper = record {
-  proper = proper;
-  leading = λ path listed. absurd (none path listed);
-  bounded = record {
-    path_is = omega arith;
-    next_is = omega arith;
-    before = λ most. omega arith;
-    short = tt;
-  };
-}
-  where
-    none : (path : List ℕ) → ¬ Contains [] path
-    none path found = omega (arith, found.1)
 
 new_is_new : (view : Topology) (id : ℕ) → IsNew (new_walker view id)
 new_is_new view id =
     record { devices = refl; tried = refl; todo = refl; path = refl; stage = refl }
 
-module _ (names : List (List ℕ)) (lines : List Numbered) (passes : Passes names lines)
-    (fabric : PlainFabric) (devices : fabric.devices.items ≡ devices_of lines)
-    (links : fabric.links.items ≡ links_of lines) where
+-- the hosts of a script begin
+module _ (names : List (List ℕ)) (lines : List Numbered) (passes : Passes names lines) (f s : ℕ)
+    (host_f : IsHost (devices_of lines) (links_of lines) f)
+    (host_s : IsHost (devices_of lines) (links_of lines) s) (differ : f ≢ s) where
   made : (host : ℕ) → IsHost (devices_of lines) (links_of lines) host
-      → IsNewFabric fabric.devices.items fabric.links.items host
-  made host is =
-      made_fabric names lines fabric.devices.items fabric.links.items host passes is devices links
+      → IsNewFabric (devices_of lines) (links_of lines) host
+  made host is = devised_fabric names lines host passes is
 
-  -- a host is one of the devices
-  pub host_inside : (host : ℕ) → IsHost (devices_of lines) (links_of lines) host
-      → host < length fabric.devices.items
-  host_inside host is = (made host is).topology.host
+  abbrev both : Both
+  both = new_both lines f s
 
-  abbrev regs : Registers
-  regs = registers_of fabric.devices.items
+  are_begun : AreBegun both
+  are_begun = record {
+    new = new;
+    next = next;
+    differ = ids_differ names lines passes f s host_f host_s differ;
+    ids = ids;
+    proper = proper;
+    shown = shown;
+  }
+    where
+      new : (side : Side) → IsNew (walker_of both side)
+      new A = new_is_new (view_of lines f) (registers_of (devices_of lines) f).base_id
+      new B = new_is_new (view_of lines s) (registers_of (devices_of lines) s).base_id
 
-  abbrev begins : ℕ → Walker
-  begins host = new_walker (view_of fabric host) (regs host).base_id
+      next : (side : Side) → (walker_of both side).next ≡ 0
+      next A = refl
+      next B = refl
 
-  module _ (f s : ℕ) (host_f : IsHost (devices_of lines) (links_of lines) f)
-      (host_s : IsHost (devices_of lines) (links_of lines) s) (differ : f ≢ s) where
-    abbrev begun : Both
-    begun = record { first = begins f; second = begins s; registers = regs }
+      ids : (side : Side) → (walker_of both side).id < 0xff
+      ids A = host_f.has_id
+      ids B = host_s.has_id
 
-    apart : IsContest (begins f) (begins s) regs regs
-    apart =
-        begun_holds begun (new_is_new (view_of fabric f) (regs f).base_id)
-        (new_is_new (view_of fabric s) (regs s).base_id)
-        (subst (λ (d : List Device). (registers_of d f).base_id ≢ (registers_of d s).base_id)
-        (sym devices) (ids_differ names lines passes f s host_f host_s differ))
-        (made f host_f).host_has_id (made s host_s).host_has_id
+      proper : (side : Side) → IsTopology (walker_of both side).view
+      proper A = (made f host_f).topology
+      proper B = (made s host_s).topology
 
-    -- a walker that is new can make a turn
-    can_begin_at : (host : ℕ) (walker : walkers.Walker) → walker.host ≡ host
-        → IsNewFabric fabric.devices.items fabric.links.items host
-        → machine_in fabric walker ≡ begins host → IsMine (begins host) regs
-        → CanStep fabric walker.host walker.machine
-    can_begin_at host walker at new is mine = record {
-      topology = subst (λ n. IsTopology (view_of fabric n)) (sym at) new.topology;
-      id = subst (λ n. n < 0xff) (sym (ap (λ (w : Walker). w.id) is)) new.host_has_id;
-      mine = subst (λ (w : Walker). IsMine w regs) (sym is) mine;
-      within = subst IsWithin (sym is)
-          (new_is_within (view_of fabric host) (regs host).base_id new.topology);
-    }
+      shown : (side : Side) → Fits (walker_of both side).view both.registers
+      shown A = (made f host_f).fits
+      shown B = (made s host_s).fits
 
-    module _ (first second : walkers.Walker) (at_f : first.host ≡ f) (at_s : second.host ≡ s)
-        (is_f : machine_in fabric first ≡ begins f)
-        (is_s : machine_in fabric second ≡ begins s) where
-      pub new_can : HasEntries first → HasEntries second
-          → CanTurn (record { fabric = fabric; first = first; second = second })
-      new_can entries_f entries_s = record {
-        first = can_begin_at f first at_f (made f host_f) is_f apart.first;
-        second = can_begin_at s second at_s (made s host_s) is_s apart.second;
-        before = regs;
-        apart = subst (λ (w : Walker). IsContest w (machine_in fabric second) regs regs) (sym is_f)
-            (subst (λ (w : Walker). IsContest (begins f) w regs regs) (sym is_s) apart);
-        entries_first = entries_f;
-        entries_second = entries_s;
-      }
+  none_tagged : (side : Side) → AreOwnUntagged (walker_of both side).view both.registers
+      (walker_of both side).id
+  none_tagged A node inside own = (made f host_f).untagged node inside
+  none_tagged B node inside own = (made s host_s).untagged node inside
 
-      abbrev of_lines : List Device → List (PortRef × PortRef) → Both
-      of_lines d l = record {
-        first = new_walker (topology_of d l f) (registers_of d f).base_id;
-        second = new_walker (topology_of d l s) (registers_of d s).base_id;
-        registers = registers_of d;
-      }
+-- a contest that was made of a new fabric
+module _ (contest : Contest) (passes : Passes contest.script.now.names.items (lines_of contest))
+    (stands : Stands (start (lines_of contest)) [] contest.fabric)
+    (named : length contest.fabric.devices.items ≡ length contest.script.now.names.items)
+    (host_f : IsHost (devices_of (lines_of contest)) (links_of (lines_of contest))
+    contest.first_node)
+    (host_s : IsHost (devices_of (lines_of contest)) (links_of (lines_of contest))
+    contest.second_node)
+    (differ : contest.first_node ≢ contest.second_node) (id_f id_s : ℕ)
+    (first_id : id_f ≡ (registers_of contest.fabric.devices.items contest.first_node).base_id)
+    (second_id : id_s ≡ (registers_of contest.fabric.devices.items contest.second_node).base_id)
+    (first_is : (view : Topology) → machine_in view contest.first ≡ new_walker view id_f)
+    (second_is : (view : Topology) → machine_in view contest.second ≡ new_walker view id_s) where
+  abbrev lines : List Numbered
+  lines = lines_of contest
 
-      pub new_both_is : both_in fabric first second ≡ new_both lines f s
-      new_both_is =
-          ap (λ (w : Walker). both_at w (machine_in fabric second)) is_f
-          ∙ (ap (λ (w : Walker). both_at (begins f) w) is_s
-          ∙ (ap (λ (d : List Device). of_lines d fabric.links.items) devices
-          ∙ ap (λ (l : List (PortRef × PortRef)). of_lines (devices_of lines) l) links))
-        where
-          both_at : Walker → Walker → Both
-          both_at one other = record { first = one; second = other; registers = regs }
+  abbrev Ids : Registers → Both
+  Ids r = record {
+    first = new_walker (view_of lines contest.first_node) (r contest.first_node).base_id;
+    second = new_walker (view_of lines contest.second_node) (r contest.second_node).base_id;
+    registers = r;
+  }
+
+  abbrev with_both : Walker → Walker → Both
+  with_both one other =
+      record { first = one; second = other; registers = registers_of contest.fabric.devices.items }
+
+  pub new_both_is : both_of contest ≡ new_both lines contest.first_node contest.second_node
+  new_both_is =
+      ap (λ (w : Walker). with_both w (both_of contest).second)
+      (first_is (view_of lines contest.first_node)
+      ∙ ap (new_walker (view_of lines contest.first_node)) first_id)
+      ∙ (ap (λ (w : Walker). with_both (Ids (both_of contest).registers).first w)
+      (second_is (view_of lines contest.second_node)
+      ∙ ap (new_walker (view_of lines contest.second_node)) second_id)
+      ∙ ap (λ (d : List Device). Ids (registers_of d))
+      (devices_here contest.script.now.names.items lines contest.first_node contest.fabric passes
+      host_f stands named))
+
+  pub new_can : AreLow contest.first.machine.todo → AreLow contest.second.machine.todo
+      → HasEntries contest.first → HasEntries contest.second → CanTurn contest
+  new_can low_f low_s entries_f entries_s = record {
+    stands = new_stands contest.script.now.names.items lines contest.first_node contest.fabric
+        passes host_f stands named;
+    second_host = host_s;
+    begun = new_both lines contest.first_node contest.second_node;
+    turns = [];
+    both_is = new_both_is;
+    start = are_begun contest.script.now.names.items lines passes contest.first_node
+        contest.second_node host_f host_s differ;
+    untagged = none_tagged contest.script.now.names.items lines passes contest.first_node
+        contest.second_node host_f host_s differ;
+    low_first = low_f;
+    low_second = low_s;
+    entries_first = entries_f;
+    entries_second = entries_s;
+  }

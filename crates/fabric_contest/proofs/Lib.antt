@@ -5,3 +5,5 @@ mod Begun
 mod Telling
 mod AllTurns
 mod StayingOpen
+mod Carrying
+mod MadeTurns

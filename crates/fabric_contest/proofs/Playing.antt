@@ -1,25 +1,21 @@
 -- A turn of one of two walkers of a fabric.
-use Rattle.std.proofs.Common.{◌≡◌, ℕ, sym, ap, subst, ◌∙◌}
-use Rattle.fabric_map.specs.Topology.{IsTopology}
+use Rattle.std.proofs.Common.{◌≡◌, List, [], ◌∷◌, ◌++◌, refl, sym, ap, ◌∙◌}
+use Rattle.fabric_map.specs.Topology.{Topology}
 use Rattle.fabric_map.specs.Routes.{Registers}
 use Rattle.fabric_map.specs.Plain.{registers_of}
+use Rattle.link_watch.specs.declared.side.Side.{Side}
 use Rattle.link_watch.specs.declared.side.Side.TheVariants.{A, B}
-use Rattle.contest_machine.specs.declared.stages.Turn.{Turn}
+use Rattle.fabric_ports.specs.declared.fabric.Fabric.{Fabric}
+use Rattle.fabric_maint.specs.Going.{StandsFor}
+use Rattle.fabric_maint.proofs.Hosts.{other_stands}
 use Rattle.contest_machine.specs.Machine.{Walker, State}
-use Rattle.contest_machine.specs.Contest.{IsContest}
-use Rattle.contest_machine.specs.Turns.{turned, came_of, Both, turn_of}
-use Rattle.contest_machine.specs.Within.{IsWithin}
-use Rattle.contest_machine.proofs.Apart.{turned_holds, HoldsFor}
-use Rattle.host_contest.specs.declared.plain.PlainFabric.{PlainFabric}
+use Rattle.contest_machine.specs.Turns.{turned, came_of, Both, turn_of, after_turns}
 use Rattle.host_contest.specs.declared.walker.Walker as walkers
-use Rattle.host_contest.specs.Machines.{machine_of}
-use Rattle.host_contest.specs.Plain.{view_of}
-use Rattle.host_contest.specs.Steps.{state_in, CanStep}
-use Rattle.host_contest.specs.Walkers.{machine_in}
-use Rattle.fabric_contest.specs.Contests.{both_in}
-
-abbrev regs : PlainFabric → Registers
-regs fabric = registers_of fabric.devices.items
+use Rattle.host_contest.specs.Reaching.{AreLow}
+use Rattle.host_contest.specs.Steps.{state_in}
+use Rattle.host_contest.specs.Walkers.{machine_in, HasEntries}
+use Rattle.fabric_contest.specs.Contests.{view_of, lines_of, both_of, CanTurn}
+use Rattle.fabric_contest.specs.declared.contest.Contest.{Contest}
 
 -- the walkers, if this one has come to a state, and the other one
 abbrev pub first_at : State → Walker → Both
@@ -30,59 +26,77 @@ abbrev pub second_at : State → Walker → Both
 second_at state other =
     record { first = other; second = state.walker; registers = state.registers }
 
--- `w` makes a turn and becomes `after`, and `o` waits
-module _ (old new : PlainFabric) (w after o : walkers.Walker)
-    (views : (other : ℕ) → view_of new other ≡ view_of old other) (host : after.host ≡ w.host)
-    (is : state_in new w.host after.machine ≡ turned (machine_in old w) (regs old)) where
-  -- the other one is the same
-  other_same : machine_in new o ≡ machine_in old o
-  other_same = ap (λ view. machine_of view o.machine) (views o.host)
+grown : (both : Both) (turns : List Side) (side : Side)
+    → after_turns both (turns ++ side ∷ []) ≡ turn_of (after_turns both turns) side
+grown both [] side = refl
+grown both (turn ∷ turns) side = grown (turn_of both turn) turns side
 
-  came : record { walker = machine_in new after; registers = regs new }
-      ≡ turned (machine_in old w) (regs old)
-  came =
-      ap (λ (n : ℕ). record {
-        walker = machine_of (view_of new n) after.machine;
-        registers = regs new;
-      }) host
-      ∙ is
+abbrev turned_by : Side → Both → Both
+turned_by side both = turn_of both side
 
-  pub first_turns : both_in new after o ≡ turn_of (both_in old w o) A
-  first_turns =
-      ap (first_at (record { walker = machine_in new after; registers = regs new })) other_same
-      ∙ ap (λ (s : State). first_at s (machine_in old o)) came
+-- what came of the turn is told by the machine
+pub last_turn : (view : Topology) (old new : Registers) (w after : walkers.Walker)
+    → state_in view new after.machine ≡ turned (machine_in view w) old
+    → after.last ≡ came_of (machine_in view w) (machine_in view after)
+    → after.last ≡ came_of (machine_in view w) (turned (machine_in view w) old).walker
+last_turn view old new w after is last =
+    last ∙ ap (λ (s : State). came_of (machine_in view w) s.walker) is
 
-  pub second_turns : both_in new o after ≡ turn_of (both_in old o w) B
-  second_turns =
-      ap (second_at (record { walker = machine_in new after; registers = regs new })) other_same
-      ∙ ap (λ (s : State). second_at s (machine_in old o)) came
+module _ (contest : Contest) (can : CanTurn contest) (fabric : Fabric) (walker : walkers.Walker)
+    (low : AreLow walker.machine.todo) (entries : HasEntries walker) where
+  abbrev was : Registers
+  was = registers_of contest.fabric.devices.items
 
-  pub still_apart : (before : Registers)
-      → IsContest (machine_in old w) (machine_in old o) before (regs old)
-      → IsContest (machine_in new after) (machine_in new o) before (regs new)
-  still_apart before contest =
-      subst (λ (other : Walker). IsContest (machine_in new after) other before (regs new))
-      (sym other_same)
-      (subst (HoldsFor (machine_in old o) before) (sym came)
-      (turned_holds (machine_in old o) before (machine_in old w) (regs old) contest))
+  abbrev new : Registers
+  new = registers_of fabric.devices.items
 
-  -- the other one can still make a turn
-  pub other_can : (before : Registers) → CanStep old o.host o.machine
-      → IsContest (machine_in old w) (machine_in old o) before (regs old)
-      → CanStep new o.host o.machine
-  other_can before can contest = record {
-    topology = subst IsTopology (sym (views o.host)) can.topology;
-    id = can.id;
-    mine = (still_apart before contest).second;
-    within = subst IsWithin (sym other_same) can.within;
-  }
+  abbrev by_first : Contest
+  by_first = record contest { fabric = fabric; first = walker }
 
-  pub self_can : CanStep new w.host after.machine → CanStep new after.host after.machine
-  self_can can = subst (λ n. CanStep new n after.machine) (sym host) can
+  abbrev by_second : Contest
+  by_second = record contest { fabric = fabric; second = walker }
 
-  -- what came of the turn is told by the machine
-  pub last_turn : (turn : Turn) → after.last ≡ turn
-      → turn ≡ came_of (machine_in old w) (machine_in new after)
-      → after.last ≡ came_of (machine_in old w) (turned (machine_in old w) (regs old)).walker
-  last_turn turn is by =
-      is ∙ (by ∙ ap (λ (s : State). came_of (machine_in old w) s.walker) came)
+  module _ (is : state_in (view_of (lines_of contest) contest.first_node) new walker.machine
+      ≡ turned (machine_in (view_of (lines_of contest) contest.first_node) contest.first) was)
+      (stands : StandsFor contest.script.now.names.items (lines_of contest) contest.first_node
+      fabric) where
+    pub first_turns : both_of by_first ≡ turn_of (both_of contest) A
+    first_turns = ap (λ (s : State). first_at s (both_of contest).second) is
+
+    pub first_can : CanTurn by_first
+    first_can = record {
+      stands = stands;
+      second_host = can.second_host;
+      begun = can.begun;
+      turns = can.turns ++ A ∷ [];
+      both_is = first_turns ∙ (ap (turned_by A) can.both_is ∙ sym (grown can.begun can.turns A));
+      start = can.start;
+      untagged = can.untagged;
+      low_first = low;
+      low_second = can.low_second;
+      entries_first = entries;
+      entries_second = can.entries_second;
+    }
+
+  module _ (is : state_in (view_of (lines_of contest) contest.second_node) new walker.machine
+      ≡ turned (machine_in (view_of (lines_of contest) contest.second_node) contest.second) was)
+      (stands : StandsFor contest.script.now.names.items (lines_of contest) contest.second_node
+      fabric) where
+    pub second_turns : both_of by_second ≡ turn_of (both_of contest) B
+    second_turns = ap (λ (s : State). second_at s (both_of contest).first) is
+
+    pub second_can : CanTurn by_second
+    second_can = record {
+      stands = other_stands contest.script.now.names.items (lines_of contest) contest.second_node
+          contest.first_node fabric stands can.stands.host;
+      second_host = can.second_host;
+      begun = can.begun;
+      turns = can.turns ++ B ∷ [];
+      both_is = second_turns ∙ (ap (turned_by B) can.both_is ∙ sym (grown can.begun can.turns B));
+      start = can.start;
+      untagged = can.untagged;
+      low_first = can.low_first;
+      low_second = low;
+      entries_first = can.entries_first;
+      entries_second = entries;
+    }

@@ -1,15 +1,18 @@
 -- Two hosts that contest the fabric of set-up lines.
-use Rattle.std.specs.Prelude.{ℕ, Bool, ◌&&◌, List}
+use Rattle.std.specs.Prelude.{◌≡◌, ℕ, Bool, ◌&&◌, List}
 use Rattle.fabric_script.specs.declared.lines.Numbered.{Numbered}
-use Rattle.fabric_map.specs.Routes.{Registers}
+use Rattle.fabric_map.specs.Topology.{Topology}
 use Rattle.fabric_map.specs.Plain.{topology_of, registers_of}
-use Rattle.host_enumerate.specs.Devised.{devices_of, links_of}
+use Rattle.host_enumerate.specs.Devised.{IsHost, devices_of, links_of}
+use Rattle.host_enumerate.specs.Underway.{AreOwnUntagged}
+use Rattle.link_watch.specs.declared.side.Side.{Side}
+use Rattle.fabric_maint.specs.Going.{StandsFor}
 use Rattle.contest_machine.specs.Machine.{Walker}
-use Rattle.contest_machine.specs.Contest.{IsContest}
 use Rattle.contest_machine.specs.Turns.{Both, after_turns}
-use Rattle.host_contest.specs.declared.plain.PlainFabric.{PlainFabric}
+use Rattle.contest_law.specs.Going.{AreBegun}
+use Rattle.contest_law.specs.Locks.{walker_of}
 use Rattle.host_contest.specs.Machines.{new_walker, has_ended}
-use Rattle.host_contest.specs.Steps.{CanStep}
+use Rattle.host_contest.specs.Reaching.{AreLow}
 use Rattle.host_contest.specs.Walkers.{machine_in, HasEntries}
 use Rattle.host_contest.specs.declared.walker.Walker as walkers
 use Rattle.fabric_contest.specs.declared.contest.Contest.{Contest}
@@ -36,27 +39,39 @@ contest_of lines first second seed = after_turns (new_both lines first second) (
 
 -- ---- of the code
 
--- two walkers of a fabric, and its registers
-abbrev pub both_in : PlainFabric → walkers.Walker → walkers.Walker → Both
-both_in fabric first second = record {
-  first = machine_in fabric first;
-  second = machine_in fabric second;
-  registers = registers_of fabric.devices.items;
-}
+-- the fabric as a host of the lines sees it
+abbrev pub view_of : List Numbered → ℕ → Topology
+view_of lines node = topology_of (devices_of lines) (links_of lines) node
 
+abbrev pub lines_of : Contest → List Numbered
+lines_of contest = contest.script.now.lines.items
+
+-- two walkers of a fabric, and its registers
 abbrev pub both_of : Contest → Both
-both_of contest = both_in contest.fabric contest.first contest.second
+both_of contest = record {
+  first = machine_in (view_of (lines_of contest) contest.first_node) contest.first;
+  second = machine_in (view_of (lines_of contest) contest.second_node) contest.second;
+  registers = registers_of contest.fabric.devices.items;
+}
 
 -- a walker that has begun and makes no access any more
 abbrev pub has_stopped : walkers.Walker → Bool
 has_stopped walker = walker.machine.begun && has_ended walker.machine
 
--- Both can make a turn, what they keep is apart, and whoever is done has its entries.
+-- The fabric rests, and both hosts are two of its script. They have made turns since they began,
+-- and at first no device that bears the ID of one had a tag. Whoever is done has its entries.
 pub record CanTurn (contest : Contest) : Type 0 where
-  pub first : CanStep contest.fabric contest.first.host contest.first.machine
-  pub second : CanStep contest.fabric contest.second.host contest.second.machine
-  pub before : Registers
-  pub apart : IsContest (both_of contest).first (both_of contest).second before
-      (both_of contest).registers
+  pub stands : StandsFor contest.script.now.names.items (lines_of contest) contest.first_node
+      contest.fabric
+  pub second_host : IsHost (devices_of (lines_of contest)) (links_of (lines_of contest))
+      contest.second_node
+  pub begun : Both
+  pub turns : List Side
+  pub both_is : both_of contest ≡ after_turns begun turns
+  pub start : AreBegun begun
+  pub untagged : (side : Side) → AreOwnUntagged (walker_of begun side).view begun.registers
+      (walker_of begun side).id
+  pub low_first : AreLow contest.first.machine.todo
+  pub low_second : AreLow contest.second.machine.todo
   pub entries_first : HasEntries contest.first
   pub entries_second : HasEntries contest.second

@@ -9,9 +9,11 @@ ghost use Rattle.fabric_contest.specs.LastTurns.{lasts_of, lasts_after, lasts_af
 ghost use Rattle.fabric_contest.specs.Orders.{sides_behind, turns_of};
 
 use crate::orders::{first_number, next_number, side_by};
+use crate::over::{id_of, turn_over};
 use contest_machine::Turn;
+use fabric_ports::Fabric;
 use fabric_script::Script;
-use host_contest::{PlainFabric, Walker};
+use host_contest::Walker;
 use link_watch::Side;
 use rio_chars::NoMemory;
 use std::alloc::Global;
@@ -19,18 +21,27 @@ use std::alloc::Global;
 /// How many turns are made at most behind the first two.
 const LATER_TURNS: u32 = 99_998;
 
-/// Two walkers of one fabric. Side A is the first. After `NoMemory` it is of no use.
+/// Two walkers of one fabric, the nodes of their hosts, and its script. Side A is the first. After
+/// `NoMemory` it is of no use.
 #[derive(Drop)]
-pub struct Contest {
-    pub(crate) fabric: PlainFabric,
+pub struct Contest<'a> {
+    pub(crate) fabric: Fabric,
+    pub(crate) script: &'a Script,
+    pub(crate) first_node: u8,
+    pub(crate) second_node: u8,
     pub(crate) first: Walker,
     pub(crate) second: Walker,
 }
 
-impl Contest {
+impl<'a> Contest<'a> {
     /// The fabric of a script that passes, and two walkers that have made no turn, of two hosts of
     /// it.
-    pub fn new(alloc: Global, script: &Script, first: u8, second: u8) -> Result<Contest, NoMemory>
+    pub fn new(
+        alloc: Global,
+        script: &'a Script,
+        first: u8,
+        second: u8,
+    ) -> Result<Contest<'a>, NoMemory>
         requires passes { Passes script.now.names.items script.now.lines.items }
         requires first { IsHost (devices_of script.now.lines.items)
             (links_of script.now.lines.items) first }
@@ -42,13 +53,16 @@ impl Contest {
         ensures can { IfOk result (λ contest. CanTurn contest) }
         ensures lasts { IfOk result (λ contest. lasts_of contest ≡ (Going, Going)) }
     {
-        let fabric = PlainFabric::new(alloc, script)?;
-        let first = Walker::new(alloc, &fabric, first);
-        let second = Walker::new(alloc, &fabric, second);
+        let mut fabric = Fabric::new(alloc, script)?;
+        let first_id = id_of(&mut fabric, script, first);
+        let second_id = id_of(&mut fabric, script, second);
         Ok(Contest {
             fabric,
-            first,
-            second,
+            script,
+            first_node: first,
+            second_node: second,
+            first: Walker::new(alloc, first_id),
+            second: Walker::new(alloc, second_id),
         })
     }
 
@@ -74,8 +88,8 @@ impl Contest {
             ≡ lasts_after (both_of self.old) (lasts_of self.old) Side.A) }
         ensures can { OnOk result (CanTurn self.new) }
     {
-        self.first.turn(alloc, &mut self.fabric)?;
-        Ok(())
+        let node = self.first_node;
+        turn_over(alloc, &mut self.fabric, self.script, node, &mut self.first)
     }
 
     /// One turn of the second host.
@@ -86,8 +100,8 @@ impl Contest {
             ≡ lasts_after (both_of self.old) (lasts_of self.old) Side.B) }
         ensures can { OnOk result (CanTurn self.new) }
     {
-        self.second.turn(alloc, &mut self.fabric)?;
-        Ok(())
+        let node = self.second_node;
+        turn_over(alloc, &mut self.fabric, self.script, node, &mut self.second)
     }
 
     /// The turns of a list, in order. Answers what came of the last turn of each host, `Going` for

@@ -2,15 +2,16 @@
 //!
 //! Promised: what is written is the word of each host and the map of each that is done, as they
 //! stand after 100,000 turns of the machines of `contest_machine`, over the registers that the
-//! set-up lines make. Want of memory comes before anything is written.
+//! set-up lines make. Each access of a host to another device is a request and its response, which
+//! go over the links of the fabric. Want of memory comes before anything is written.
 //!
-//! Left out: packets and links, as in `host_contest`; and which nodes may be hosts, which
-//! `host_enumerate` says.
+//! Left out: which nodes may be hosts, which `host_enumerate` says; and what the packets are, which
+//! `fabric_maint` says.
 //!
 //! - [`write_contest`] makes the turns of a number and writes what became of both hosts, or tells
 //!   the [`ContestEnd`].
-//! - [`Contest`] has the fabric and both walkers, and makes single turns, those of a list, and those
-//!   of a number.
+//! - [`Contest`] has the fabric and both walkers, and makes single turns, those of a list, and
+//!   those of a number. `over` makes a turn over the links.
 //! - [`contests_keep_apart`], [`the_greater_host_holds_on`] and [`kept_ways_stay_open`] are laws.
 #![tactic(auto)]
 
@@ -18,6 +19,7 @@ mod contest;
 mod laws;
 mod lines;
 mod orders;
+mod over;
 
 pub use contest::Contest;
 pub use laws::{contests_keep_apart, kept_ways_stay_open, the_greater_host_holds_on};

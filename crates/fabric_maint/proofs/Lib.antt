@@ -5,7 +5,8 @@ mod Leading
 mod Agreeing
 pub mod Starting
 pub mod Meeting
-mod Making
+pub mod Making
+pub mod Hosts
 mod Owned
 mod Told
 mod Asking

@@ -4,16 +4,18 @@ use Rattle.std.proofs.KnownBytes.{Appends-nil}
 use Rattle.maint_registers.specs.Devices.{Device}
 use Rattle.link_wires.specs.declared.edits.Edit.{Edit}
 use Rattle.fabric_script.specs.declared.ports.PortRef.{PortRef}
+use Rattle.fabric_script.specs.declared.lines.Numbered.{Numbered}
 use Rattle.fabric_script.specs.Scripts.{Passes}
 use Rattle.fabric_map.specs.Fitting.{Fits}
 use Rattle.fabric_map.specs.Plain.{topology_of, registers_of}
 use Rattle.fabric_trace.specs.Runs.{start}
 use Rattle.fabric_ports.specs.Standing.{Stands}
+use Rattle.fabric_ports.specs.declared.fabric.Fabric.{Fabric}
 use Rattle.host_enumerate.specs.Checking.{IsNewFabric}
 use Rattle.host_enumerate.specs.Devised.{IsHost, devices_of, links_of}
 use Rattle.host_enumerate.proofs.NewFabrics.{devised_fabric}
 use Rattle.fabric_maint.specs.Asked.{Begins}
-use Rattle.fabric_maint.specs.Going.{names_of, topology_in, registers_in, StandsWhole, Followed}
+use Rattle.fabric_maint.specs.Going.{names_of, registers_in, StandsFor, StandsWhole, Followed}
 use Rattle.fabric_maint.specs.declared.maint.FabricMaint.{FabricMaint}
 use Rattle.fabric_maint.proofs.Leading.{leads_none}
 use Rattle.fabric_maint.proofs.Starting.{start_devices, start_links, rests_new}
@@ -34,6 +36,37 @@ follows_itself edits written faults maint = record {
   };
 }
 
+-- a new fabric of a script
+module _ (names : List (List ℕ)) (lines : List Numbered) (node : ℕ) (fabric : Fabric)
+    (passes : Passes names lines) (host : IsHost (devices_of lines) (links_of lines) node)
+    (stands : Stands (start lines) [] fabric)
+    (named : length fabric.devices.items ≡ length names) where
+  new_here : IsNewFabric (devices_of lines) (links_of lines) node
+  new_here = devised_fabric names lines node passes host
+
+  pub devices_here : fabric.devices.items ≡ devices_of lines
+  devices_here = sym stands.shows.registers ∙ start_devices lines
+
+  count : length (devices_of lines) ≡ length names
+  count = sym (ap length devices_here) ∙ named
+
+  pub new_stands : StandsFor names lines node fabric
+  new_stands = record {
+    passes = passes;
+    host = host;
+    named = omega (arith, count);
+    few = let most = new_here.topology.most in omega (arith, count, most);
+    s = start lines;
+    rests = rests_new names lines node fabric passes host stands;
+    topology = ap (λ (devices : List Device). topology_of devices (start lines).network.links node)
+        (start_devices lines)
+        ∙ ap (λ (links : List (PortRef × PortRef)). topology_of (devices_of lines) links node)
+        (start_links lines);
+    fits = subst (λ (devices : List Device). Fits
+        (topology_of (devices_of lines) (links_of lines) node) (registers_of devices))
+        (sym (start_devices lines)) new_here.fits;
+  }
+
 module _ {N K : Type 0} (maint : FabricMaint N K)
     (passes : Passes (names_of maint) maint.script.now.lines.items)
     (host : IsHost (devices_of maint.script.now.lines.items)
@@ -44,30 +77,13 @@ module _ {N K : Type 0} (maint : FabricMaint N K)
       (links_of maint.script.now.lines.items) maint.host
   new_is = devised_fabric (names_of maint) maint.script.now.lines.items maint.host passes host
 
-  devices_are : maint.fabric.now.devices.items ≡ devices_of maint.script.now.lines.items
-  devices_are = sym stands.shows.registers ∙ start_devices maint.script.now.lines.items
-
   pub registers_are : registers_in maint ≡ registers_of (devices_of maint.script.now.lines.items)
-  registers_are = ap registers_of devices_are
-
-  count : length (devices_of maint.script.now.lines.items) ≡ length (names_of maint)
-  count = sym (ap length devices_are) ∙ named
+  registers_are =
+      ap registers_of
+      (devices_here (names_of maint) maint.script.now.lines.items maint.host maint.fabric.now passes
+      host stands named)
 
   pub new_whole : StandsWhole maint
-  new_whole = record {
-    passes = passes;
-    host = host;
-    named = omega (arith, count);
-    few = let most = new_is.topology.most in omega (arith, count, most);
-    s = start maint.script.now.lines.items;
-    rests = rests_new (names_of maint) maint.script.now.lines.items maint.host maint.fabric.now passes
-        host stands;
-    topology = ap (λ (devices : List Device). topology_of devices
-        (start maint.script.now.lines.items).network.links maint.host)
-        (start_devices maint.script.now.lines.items)
-        ∙ ap (λ (links : List (PortRef × PortRef)). topology_of
-        (devices_of maint.script.now.lines.items) links maint.host)
-        (start_links maint.script.now.lines.items);
-    fits = subst (λ (devices : List Device). Fits (topology_in maint) (registers_of devices))
-        (sym (start_devices maint.script.now.lines.items)) new_is.fits;
-  }
+  new_whole =
+      new_stands (names_of maint) maint.script.now.lines.items maint.host maint.fabric.now passes
+      host stands named

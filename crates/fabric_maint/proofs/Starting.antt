@@ -86,8 +86,20 @@ quiet_begun net (link ∷ links) = (
   record {
     wire_a = refl;
     wire_b = refl;
-    a_to_b = record { ack = 0; sender_ok = refl; receiver_ok = refl; place = refl };
-    b_to_a = record { ack = 0; sender_ok = refl; receiver_ok = refl; place = refl };
+    a_to_b = record {
+      ack = 0;
+      report = None;
+      sender_ok = refl;
+      receiver_ok = refl;
+      place = refl;
+    };
+    b_to_a = record {
+      ack = 0;
+      report = None;
+      sender_ok = refl;
+      receiver_ok = refl;
+      place = refl;
+    };
   },
   quiet_begun net links,
 )

@@ -6,6 +6,7 @@ use Rattle.maint_packets.specs.declared.request.Request.{Request}
 use Rattle.link_model.specs.declared.event.Event.{Event}
 use Rattle.link_wires.specs.declared.edits.Edit.{Edit}
 use Rattle.fabric_script.specs.declared.ports.PortRef.{PortRef}
+use Rattle.fabric_script.specs.declared.lines.Numbered.{Numbered}
 use Rattle.fabric_script.specs.Scripts.{Passes}
 use Rattle.fabric_map.specs.Topology.{Topology}
 use Rattle.fabric_map.specs.Routes.{Registers}
@@ -49,16 +50,22 @@ pub record RestsAt (host : ℕ) (s : Seen) (fabric : Fabric) : Type 0 where
 
 -- The fabric rests, and its devices and links are those of a script that passes, of which the host
 -- is an endpoint.
-pub record StandsWhole {N K : Type 0} (maint : FabricMaint N K) : Type 0 where
-  pub passes : Passes (names_of maint) maint.script.now.lines.items
-  pub host : IsHost (devices_of maint.script.now.lines.items)
-      (links_of maint.script.now.lines.items) maint.host
-  pub named : (topology_in maint).nodes ≤ length (names_of maint)
-  pub few : length (names_of maint) ≤ 256
+pub record StandsFor (names : List (List ℕ)) (lines : List Numbered) (node : ℕ) (fabric : Fabric)
+    : Type 0 where
+  pub passes : Passes names lines
+  pub host : IsHost (devices_of lines) (links_of lines) node
+  pub named : length (devices_of lines) ≤ length names
+  pub few : length names ≤ 256
   pub s : Seen
-  pub rests : RestsAt maint.host s maint.fabric.now
-  pub topology : topology_of s.network.registers s.network.links maint.host ≡ topology_in maint
-  pub fits : Fits (topology_in maint) (registers_of s.network.registers)
+  pub rests : RestsAt node s fabric
+  pub topology : topology_of s.network.registers s.network.links node
+      ≡ topology_of (devices_of lines) (links_of lines) node
+  pub fits : Fits (topology_of (devices_of lines) (links_of lines) node)
+      (registers_of s.network.registers)
+
+abbrev pub StandsWhole : {N K : Type 0} → FabricMaint N K → Type 0
+StandsWhole maint =
+    StandsFor (names_of maint) maint.script.now.lines.items maint.host maint.fabric.now
 
 -- ---- from one value to a later one
 

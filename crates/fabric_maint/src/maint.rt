@@ -6,7 +6,7 @@ ghost use Rattle.fabric_trace.specs.Runs.{start};
 ghost use Rattle.fabric_ports.specs.Standing.{Stands};
 ghost use Rattle.host_enumerate.specs.Devised.{IsHost, devices_of, links_of};
 ghost use Rattle.host_enumerate.specs.Underway.{AreUntagged};
-ghost use Rattle.fabric_maint.specs.Going.{topology_in, registers_in, RestsAt, StandsWhole, HasMet, Followed, Abandoned};
+ghost use Rattle.fabric_maint.specs.Going.{topology_in, registers_in, RestsAt, StandsFor, StandsWhole, HasMet, Followed, Abandoned};
 
 use crate::ends::{count_after, end_for};
 use crate::requests::{answer_in, request_for};
@@ -90,8 +90,47 @@ impl<'a, N: Noise, K: Sink> FabricMaint<'a, N, K> {
         }
     }
 
+    /// A fabric of a script that rests, as one that was asked, and a host of it. It can be asked.
+    /// The first request has the transaction number 0.
+    pub fn resting(
+        fabric: &'a mut Fabric,
+        script: &'a Script,
+        host: u8,
+        noise: &'a mut N,
+        sink: &'a mut K,
+    ) -> FabricMaint<'a, N, K>
+        requires stands { StandsFor script.now.names.items script.now.lines.items host fabric.old }
+        ensures topology { ⟦<FabricMaint<'a, N, K> as Maint>⟧.topology result
+            ≡ topology_of (devices_of script.now.lines.items) (links_of script.now.lines.items)
+            host }
+        ensures registers { ⟦<FabricMaint<'a, N, K> as Maint>⟧.registers result
+            ≡ registers_of fabric.old.devices.items }
+        ensures whole { ⟦<FabricMaint<'a, N, K> as Maint>⟧.IsWhole result }
+        ensures follows { ⟦<FabricMaint<'a, N, K> as Maint>⟧.Follows result result }
+        ensures script { result.script.now ≡ script.now }
+        ensures host_is { result.host ≡ host }
+        ensures fabric { result.fabric.ghost_name ≡ fabric.entry.ghost_name }
+        ensures fabric_is { result.fabric.now ≡ fabric.old }
+        ensures noise { result.noise.ghost_name ≡ noise.entry.ghost_name }
+        ensures noise_is { result.noise.now ≡ noise.old }
+        ensures sink { result.sink.ghost_name ≡ sink.entry.ghost_name }
+        ensures sink_is { result.sink.now ≡ sink.old }
+        ensures first { result.tid ≡ 0 }
+        ensures none { result.undetected ≡ 0 }
+    {
+        FabricMaint {
+            fabric,
+            script,
+            host,
+            noise,
+            sink,
+            tid: 0,
+            undetected: 0,
+        }
+    }
+
     /// The ID of the host.
-    fn host_id(&self) -> u8
+    pub fn host_id(&self) -> u8
         requires { StandsWhole self.now }
         ensures { result ≡ (registers_in self.now self.now.host).base_id }
     {

@@ -1,3 +1,3 @@
 pub mod Machines
-mod Plains
 pub mod Stepping
+mod Lows

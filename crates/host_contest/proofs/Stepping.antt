@@ -1,29 +1,28 @@
 -- One access of a walker over a fabric, and its turns.
-use Rattle.std.proofs.Common.{◌≡◌, ℕ, ◌<◌, ◌≤◌, true, false, length, Option, Some, None, arith, refl, sym, ap, subst, ◌∙◌, length-append}
+use Rattle.std.proofs.Common.{◌≡◌, ◌<◌, ◌≤◌, Bool, true, false, length, Some, None, arith, refl, sym, ap, subst, ◌∙◌, length-append, if◌then◌else◌}
 use Rattle.std.proofs.lemmas.List.{length-map}
-use Rattle.std.proofs.lemmas.Option.{same_Some}
 use Rattle.fabric_script.specs.declared.ports.PortRef.{PortRef}
 use Rattle.fabric_map.specs.declared.map.Device.{Device}
-use Rattle.fabric_map.specs.Topology.{IsTopology, entered}
+use Rattle.fabric_map.specs.Topology.{Topology, entered}
 use Rattle.fabric_map.specs.Routes.{Registers}
-use Rattle.fabric_map.specs.Plain.{registers_of}
 use Rattle.fabric_map.specs.Numbered.{paths_of}
 use Rattle.host_enumerate.specs.declared.maint.Answer.{Answer}
-use Rattle.host_enumerate.specs.Accesses.{answered}
+use Rattle.host_enumerate.specs.Accesses.{answered, after_access}
 use Rattle.contest_machine.specs.declared.stages.Asked.{Asked}
 use Rattle.contest_machine.specs.Machine.{Walker, State, kept, fresh, wants, told, reached, reaches, stepped}
 use Rattle.contest_machine.specs.Contest.{IsMine}
-use Rattle.contest_machine.specs.Turns.{is_locking, locked_on, turned}
+use Rattle.contest_machine.specs.declared.stages.Turn.{Turn}
+use Rattle.contest_machine.specs.Turns.{is_locking, locked_on, turned, came_of}
 use Rattle.contest_machine.specs.Within.{IsWithin}
 use Rattle.contest_machine.proofs.Apart.{step_leaves, begun_mine}
 use Rattle.contest_machine.proofs.Bounding.{stepped_within}
 use Rattle.contest_machine.proofs.Few.{once_few}
 use Rattle.host_contest.specs.declared.machine.Machine.{Machine}
-use Rattle.host_contest.specs.declared.plain.PlainFabric.{PlainFabric}
 use Rattle.host_contest.specs.Machines.{machine_of}
 use Rattle.host_contest.proofs.Machines.{choose, refuse}
-use Rattle.host_contest.specs.Plain.{view_of, answer_at, registers_at}
+use Rattle.host_contest.specs.Reaching.{IsAtHost, AreLow}
 use Rattle.host_contest.specs.Steps.{state_in, CanStep}
+use Rattle.host_contest.proofs.Lows.{low-stepped, stays_at_host}
 
 abbrev state_of : Walker → Registers → State
 state_of w registers = record { walker = w; registers = registers }
@@ -33,68 +32,42 @@ state_of w registers = record { walker = w; registers = registers }
 pub idle : (w : Walker) (r : Registers) → None ≡ wants w → state_of w r ≡ stepped w r
 idle w r is = ap (λ o. reaches w r o) is
 
-pub unreached : (w : Walker) (r : Registers) (ask : Asked) → Some ask ≡ wants w
-    → None ≡ answer_at r (entered w.view ask.path) ask.access
-    → state_of w (registers_at r (entered w.view ask.path) ask.access) ≡ stepped w r
-unreached w r ask is none =
-    go (entered w.view ask.path) none ∙ ap (λ o. reaches w r o) is
-  where
-    go : (o : Option PortRef) → None ≡ answer_at r o ask.access
-        → state_of w (registers_at r o ask.access) ≡ reached w r ask o
-    go None none = refl
-    go (Some at) none = absurd (cc)
-
+-- the device that is reached answers
 abbrev of_value : Walker → Answer → Walker
 of_value w answer = told w answer.value
 
-pub answered_so : (w after : Walker) (r : Registers) (ask : Asked) (answer : Answer)
-    → Some ask ≡ wants w → Some answer ≡ answer_at r (entered w.view ask.path) ask.access
-    → after ≡ told w answer.value
-    → state_of after (registers_at r (entered w.view ask.path) ask.access) ≡ stepped w r
-answered_so w after r ask answer is some heard =
-    go (entered w.view ask.path) some ∙ ap (λ o. reaches w r o) is
-  where
-    go : (o : Option PortRef) → Some answer ≡ answer_at r o ask.access
-        → state_of after (registers_at r o ask.access) ≡ reached w r ask o
-    go None some = absurd (cc)
-    go (Some at) some =
-        ap (λ v. state_of v (registers_at r (Some at) ask.access))
-        (heard ∙ ap (of_value w)
-        (same_Some answer (answered (r at.node) at.port ask.access).answer some))
+pub answered_so : (w after : Walker) (r new : Registers) (ask : Asked) (at : PortRef)
+    (answer : Answer) → Some ask ≡ wants w → entered w.view ask.path ≡ Some at
+    → answer ≡ (answered (r at.node) at.port ask.access).answer
+    → new ≡ after_access r at ask.access → after ≡ told w answer.value
+    → state_of after new ≡ stepped w r
+answered_so w after r new ask at answer is leads some left heard =
+    ap (λ v. state_of v new) (heard ∙ ap (of_value w) some)
+    ∙ (ap (λ n. state_of (told w (answered (r at.node) at.port ask.access).answer.value) n) left
+    ∙ (ap (λ o. reached w r ask o) (sym leads) ∙ ap (λ o. reaches w r o) is))
 
--- ---- over a fabric
-
-module _ (old new : PlainFabric) (host : ℕ) (same : view_of new host ≡ view_of old host) where
-  pub same_state : (machine : Machine) (r : Registers) → registers_of new.devices.items ≡ r
-      → state_in new host machine ≡ state_of (machine_of (view_of old host) machine) r
-  same_state machine r is =
-      ap (λ view. state_of (machine_of view machine) (registers_of new.devices.items)) same
-      ∙ ap (λ registers. state_of (machine_of (view_of old host) machine) registers) is
-
-  module _ (before after : Machine) (can : CanStep old host before) where
-    abbrev w : Walker
-    w = machine_of (view_of old host) before
-
-    abbrev r : Registers
-    r = registers_of old.devices.items
-
-    pub can_after : state_in new host after ≡ stepped w r → CanStep new host after
-    can_after is =
-        let leaves = step_leaves w r can.id can.mine in
-        let same_id : after.id ≡ before.id = ap (λ (s : State). s.walker.id) is ∙ leaves.0.id in
-        record {
-          topology = subst IsTopology (sym same) can.topology;
-          id = subst (λ n. n < 0xff) (sym same_id) can.id;
-          mine = subst (λ (s : State). IsMine s.walker s.registers) (sym is) leaves.1;
-          within = subst (λ (s : State). IsWithin s.walker) (sym is)
-              (stepped_within w r can.within);
-        }
+module _ (view : Topology) (r new : Registers) (before after : Machine)
+    (can : CanStep view r before) where
+  pub can_after : state_in view new after ≡ stepped (machine_of view before) r
+      → CanStep view new after
+  can_after is =
+      let w = machine_of view before in
+      let leaves = step_leaves w r can.id can.mine in
+      let same_id : after.id ≡ before.id = ap (λ (s : State). s.walker.id) is ∙ leaves.0.id in
+      record {
+        topology = can.topology;
+        id = subst (λ n. n < 0xff) (sym same_id) can.id;
+        mine = subst (λ (s : State). IsMine s.walker s.registers) (sym is) leaves.1;
+        within = subst (λ (s : State). IsWithin s.walker) (sym is)
+            (stepped_within w r can.within);
+        low = subst (λ (s : State). AreLow s.walker.todo) (sym is) (low-stepped w r can.low);
+      }
 
 -- no more devices are kept than there are
-pub few : (fabric : PlainFabric) (host : ℕ) (machine : Machine) → CanStep fabric host machine
+pub few : (view : Topology) (r : Registers) (machine : Machine) → CanStep view r machine
     → length machine.map.devices.items ≤ 64
-few fabric host machine can =
-    let w = machine_of (view_of fabric host) machine in
+few view r machine can =
+    let w = machine_of view machine in
     let most = once_few w.view can.topology (kept w) can.within.leading can.mine.once in
     let all = can.topology.most in
     let long = length-append (paths_of w.devices) (fresh w.stage w.path) in
@@ -122,18 +95,18 @@ turned_first w r is =
     (locked_on (locked_on (stepped (record w { begun = true }) r))) is
 
 -- a walker that begins its first turn
-pub can_begin : (fabric : PlainFabric) (host : ℕ) (machine : Machine)
-    → CanStep fabric host machine → CanStep fabric host (record machine { begun = true })
-can_begin fabric host machine can = record {
+pub can_begin : (view : Topology) (r : Registers) (machine : Machine)
+    → CanStep view r machine → CanStep view r (record machine { begun = true })
+can_begin view r machine can = record {
   topology = can.topology;
   id = can.id;
-  mine = begun_mine (machine_of (view_of fabric host) machine)
-      (registers_of fabric.devices.items) can.mine;
+  mine = begun_mine (machine_of view machine) r can.mine;
   within = record {
     proper = can.within.proper;
     leading = can.within.leading;
     bounded = can.within.bounded;
   };
+  low = can.low;
 }
 
 -- three states, each of the one before
@@ -141,3 +114,61 @@ pub chain : {A : Type 0} (f : A → A) (begin first second third end : A) → fi
     → second ≡ f first → third ≡ f second → f (f begin) ≡ end → third ≡ end
 chain f begin first second third end one two three last =
     three ∙ (ap f (two ∙ ap f one) ∙ last)
+
+-- ---- the first turn
+
+pub begun_at_host : (w : Walker) → IsAtHost w → IsAtHost (record w { begun = true })
+begun_at_host w at = record { path = at.path; clear = at.clear; stage = at.stage }
+
+-- the devices and links that are seen stay
+module _ (view after : Topology) (r new : Registers) where
+  pub host_after : (w : Walker) (machine : Machine) → after ≡ view
+      → state_in view new machine ≡ stepped w r → IsAtHost w
+      → is_locking machine.stage ≡ true → IsAtHost (machine_of after machine)
+  host_after w machine same is at locks =
+      subst (λ v. IsAtHost (machine_of v machine)) (sym same)
+      (subst (λ (s : State). IsAtHost s.walker) (sym is)
+      (stays_at_host w r at (ap (λ (s : State). is_locking s.walker.stage) (sym is) ∙ locks)))
+
+  pub locked_at_host : (one two : Machine) → after ≡ view
+      → state_in view new two ≡ locked_on (state_in view r one)
+      → (is_locking one.stage ≡ true → IsAtHost (machine_of view one))
+      → is_locking two.stage ≡ true → IsAtHost (machine_of after two)
+  locked_at_host one two same is before locks =
+      subst (λ v. IsAtHost (machine_of v two)) (sym same)
+      (subst (λ (s : State). IsAtHost s.walker) (sym is)
+      (go (is_locking one.stage) refl
+      (ap (λ (s : State). is_locking s.walker.stage) (sym is) ∙ locks)))
+    where
+      go : (b : Bool) → is_locking one.stage ≡ b
+          → is_locking (if b then stepped (machine_of view one) r
+          else state_in view r one).walker.stage ≡ true
+          → IsAtHost (if b then stepped (machine_of view one) r
+          else state_in view r one).walker
+      go true on goes = stays_at_host (machine_of view one) r (before on) goes
+      go false off goes = before goes
+
+-- a state that another view names
+pub same_views : (view mid : Topology) (r new : Registers) (one two : Machine) → mid ≡ view
+    → state_in mid new two ≡ locked_on (state_in mid r one)
+    → state_in view new two ≡ locked_on (state_in view r one)
+same_views view mid r new one two same is =
+    subst (λ v. state_in v new two ≡ locked_on (state_in v r one)) same is
+
+-- ---- a walker that lists its entries
+
+abbrev pub with_walker : Registers → Walker → State
+with_walker r w = record { walker = w; registers = r }
+
+abbrev pub came_from : Walker → Walker → Turn
+came_from w after = came_of w after
+
+pub can_same : (view : Topology) (r : Registers) (one two : Machine)
+    → machine_of view two ≡ machine_of view one → CanStep view r one → CanStep view r two
+can_same view r one two is can = record {
+  topology = can.topology;
+  id = subst (λ n. n < 0xff) (ap (λ (w : Walker). w.id) (sym is)) can.id;
+  mine = subst (λ w. IsMine w r) (sym is) can.mine;
+  within = subst IsWithin (sym is) can.within;
+  low = subst AreLow (ap (λ (w : Walker). w.todo) (sym is)) can.low;
+}

@@ -1,4 +1,4 @@
 pub mod Machines
-pub mod Plain
+pub mod Reaching
 pub mod Steps
 pub mod Walkers

@@ -1,26 +1,25 @@
--- When a walker can make an access of a fabric, and the state that both are in.
-use Rattle.std.specs.Prelude.{ℕ, ◌<◌}
-use Rattle.fabric_map.specs.Topology.{IsTopology}
-use Rattle.fabric_map.specs.Plain.{registers_of}
+-- When a walker can make an access, and the state that it and the devices are in.
+use Rattle.std.specs.Prelude.{◌<◌}
+use Rattle.fabric_map.specs.Topology.{Topology, IsTopology}
+use Rattle.fabric_map.specs.Routes.{Registers}
 use Rattle.contest_machine.specs.Machine.{State}
 use Rattle.contest_machine.specs.Contest.{IsMine}
 use Rattle.contest_machine.specs.Within.{IsWithin}
 use Rattle.host_contest.specs.declared.machine.Machine.{Machine}
-use Rattle.host_contest.specs.declared.plain.PlainFabric.{PlainFabric}
 use Rattle.host_contest.specs.Machines.{machine_of}
-use Rattle.host_contest.specs.Plain.{view_of}
+use Rattle.host_contest.specs.Reaching.{AreLow}
 
-abbrev pub state_in : PlainFabric → ℕ → Machine → State
-state_in fabric host machine = record {
-  walker = machine_of (view_of fabric host) machine;
-  registers = registers_of fabric.devices.items;
+abbrev pub state_in : Topology → Registers → Machine → State
+state_in view registers machine = record {
+  walker = machine_of view machine;
+  registers = registers;
 }
 
--- The links join ports of devices, what the walker keeps bears its ID, and its list and its paths
--- are
--- no longer than they can be.
-pub record CanStep (fabric : PlainFabric) (host : ℕ) (machine : Machine) : Type 0 where
-  pub topology : IsTopology (view_of fabric host)
+-- The links join ports of devices, what the walker keeps bears its ID, its list and its paths are
+-- no longer than they can be, and what it writes has an offset that a request can name.
+pub record CanStep (view : Topology) (registers : Registers) (machine : Machine) : Type 0 where
+  pub topology : IsTopology view
   pub id : machine.id < 0xff
-  pub mine : IsMine (machine_of (view_of fabric host) machine) (registers_of fabric.devices.items)
-  pub within : IsWithin (machine_of (view_of fabric host) machine)
+  pub mine : IsMine (machine_of view machine) registers
+  pub within : IsWithin (machine_of view machine)
+  pub low : AreLow machine.todo

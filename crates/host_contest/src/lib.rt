@@ -4,26 +4,24 @@
 //!
 //! Promised: each turn of a walker is exactly that of the machine of `contest_machine`, so its laws
 //! hold of every list of turns: no device is kept by both, and the host with the greater ID holds
-//! on if no lock was set at first.
+//! on if no lock was set at first. Whoever carries the accesses, as packets do, it is the same.
 //!
-//! Left out: packets and links. An access is done at the device to which its path leads, whatever
-//! the route tables say.
+//! Left out: that each access reaches a device and comes back. It is a condition, which
+//! `contest_asking` shows to hold.
 //!
-//! - [`Walker`] is one of the hosts. It makes turns, answers what came of each, and has the map
-//!   once it is done.
-//! - [`PlainFabric`] has the registers and links of a script, which the hosts read and write.
-//! - `machine` is what a walker knows and asks, `hearing` and `taking` what it does with an answer,
-//!   `steps` its turns, and `writes` what it has still to write.
+//! - [`Walker`] is one of the hosts. It makes turns over a `Maint`, answers what came of each, and
+//!   has the map once it is done.
+//! - `machine` is what a walker knows and asks, `reaching` makes an access, `hearing` and `taking`
+//!   are what it does with an answer, `steps` its turns, and `writes` what it has still to write.
 #![tactic(auto)]
 
 mod hearing;
 mod machine;
-mod plain;
+mod reaching;
 mod steps;
 mod taking;
 mod values;
 mod walker;
 mod writes;
 
-pub use plain::PlainFabric;
 pub use walker::Walker;

@@ -1,12 +1,14 @@
 //! `Machine`: what a walker knows between two accesses, what it asks next, and what it does with the
 //! answer.
-ghost use Rattle.std.specs.Prelude.{◌≡◌, ◌≢◌, ◌≤◌, ◌<◌, ◌+◌, [], length, OnOk, OnSome, IfSome, IfNone};
+ghost use Rattle.std.specs.Prelude.{◌≡◌, ◌≢◌, ◌≤◌, ◌<◌, ◌+◌, ◌^◌, [], length, OnOk, OnSome, IfSome, IfNone};
 ghost use Rattle.fabric_map.specs.Topology.{Topology};
 ghost use Rattle.host_enumerate.specs.declared.maint.Access.TheVariants.{Write};
 ghost use Rattle.contest_machine.specs.declared.stages.Stage.TheVariants.{Ask, Claim, Check, Test, Features, Information, Status, Free};
 ghost use Rattle.contest_machine.specs.Machine.{last_path, taken, asked, status_of, wants_at, wants, settled, told};
 ghost use Rattle.contest_machine.specs.Within.{IsBoundedAt};
+ghost use Rattle.host_enumerate.specs.Accesses.{offset_of};
 ghost use Rattle.host_contest.specs.Machines.{machine_of, new_walker};
+ghost use Rattle.host_contest.specs.Reaching.{AreLow};
 
 use contest_machine::{Asked, Pending, Stage, Tried};
 use fabric_map::{Device, Map, Path};
@@ -40,7 +42,8 @@ pub(crate) struct Machine {
 impl Machine {
     /// Whoever has this ID and has asked nothing yet.
     pub(crate) fn new(alloc: Global, id: u8) -> Machine
-        ensures { (view : Topology) → machine_of view result ≡ new_walker view id }
+        ensures machine { (view : Topology) → machine_of view result ≡ new_walker view id }
+        ensures low { AreLow result.todo }
     {
         Machine {
             id,
@@ -74,7 +77,9 @@ impl Machine {
 
     /// What is asked next, unless the walker has ended.
     pub(crate) fn wants(&self) -> Option<Asked>
-        ensures { (view : Topology) → result ≡ wants (machine_of view self.now) }
+        ensures wanted { (view : Topology) → result ≡ wants (machine_of view self.now) }
+        ensures low { AreLow self.now.todo
+            → IfSome result (λ asked. offset_of asked.access < 2 ^ 24) }
     {
         match self.todo.front() {
             Some(write) => Some(Asked {
@@ -87,7 +92,9 @@ impl Machine {
 
     /// What is asked next, if nothing is left to be written.
     fn wants_at(&self) -> Option<Asked>
-        ensures { (view : Topology) → result ≡ wants_at (machine_of view self.now) self.now.stage }
+        ensures wanted { (view : Topology)
+            → result ≡ wants_at (machine_of view self.now) self.now.stage }
+        ensures low { IfSome result (λ asked. offset_of asked.access < 2 ^ 24) }
     {
         match self.stage {
             Stage::Ask | Stage::Check => Some(self.at_path(Access::Read(HOST_LOCK))),
@@ -113,7 +120,8 @@ impl Machine {
 
     /// The status of the port that is tried.
     fn status(&self) -> Option<Asked>
-        ensures { result ≡ status_of self.now.tried }
+        ensures wanted { result ≡ status_of self.now.tried }
+        ensures low { IfSome result (λ asked. offset_of asked.access < 2 ^ 24) }
     {
         let top = self.tried.front()?;
         Some(Asked {

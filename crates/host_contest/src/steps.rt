@@ -1,67 +1,109 @@
-//! The turns of a machine over a fabric.
-ghost use Rattle.std.specs.Prelude.{◌≡◌, ◌<◌, ◌≤◌, ℕ, [], length, OnOk};
+//! The turns of a machine, over whoever carries its accesses.
+ghost use Rattle.std.specs.Prelude.{◌≡◌, ◌<◌, ◌≤◌, ℕ, [], length, true, OnOk, OnErr, IfErr};
 ghost use Rattle.fabric_map.specs.Topology.{Topology};
-ghost use Rattle.fabric_map.specs.Plain.{registers_of};
+ghost use Rattle.host_enumerate.specs.Causes.{IsCaused};
 ghost use Rattle.contest_machine.specs.Machine.{stepped};
 ghost use Rattle.contest_machine.specs.Turns.{is_locking, locked_on, turned, came_of};
 ghost use Rattle.host_contest.specs.Machines.{machine_of, is_clear};
-ghost use Rattle.host_contest.specs.Plain.{view_of};
+ghost use Rattle.host_contest.specs.Reaching.{CanReach, CanReachOn, IsAtHost};
 ghost use Rattle.host_contest.specs.Steps.{state_in, CanStep};
 
 use crate::machine::Machine;
-use crate::plain::PlainFabric;
+use crate::reaching::reach;
 use contest_machine::{Stage, Turn};
-use std::alloc::AllocError;
+use host_enumerate::{Maint, MaintEnd};
+use std::alloc::Global;
 
 impl Machine {
     /// One turn: one access, or in the first turn all that lock the host.
-    pub(crate) fn turn(&mut self, fabric: &mut PlainFabric, host: u8) -> Result<(), AllocError>
-        requires can { CanStep fabric.old host self.old }
-        ensures turned { OnOk result (state_in fabric.new host self.new
-            ≡ turned (machine_of (view_of fabric.old host) self.old)
-            (registers_of fabric.old.devices.items)) }
-        ensures can { OnOk result (CanStep fabric.new host self.new) }
-        ensures topology { (other : ℕ) → view_of fabric.new other ≡ view_of fabric.old other }
+    pub(crate) fn turn<M: Maint>(&mut self, alloc: Global, maint: &mut M) -> Result<(), MaintEnd>
+        requires whole { M.IsWhole maint.old }
+        requires can { CanStep (M.topology maint.old) (M.registers maint.old) self.old }
+        requires reach { CanReachOn (machine_of (M.topology maint.old) self.old)
+            (M.registers maint.old) }
+        ensures turned { OnOk result (state_in (M.topology maint.old) (M.registers maint.new)
+            self.new ≡ turned (machine_of (M.topology maint.old) self.old)
+            (M.registers maint.old)) }
+        ensures can { OnOk result (CanStep (M.topology maint.old) (M.registers maint.new)
+            self.new) }
+        ensures topology { M.topology maint.new ≡ M.topology maint.old }
+        ensures whole { OnOk result (M.IsWhole maint.new) }
+        ensures follows { OnOk result ((origin : _) → M.Follows origin maint.old
+            → M.Follows origin maint.new) }
+        ensures leaves { OnErr result ((origin : _) → M.Follows origin maint.old
+            → M.Leaves origin maint.new) }
+        ensures cause { IfErr result (IsCaused (M.undetected maint.old, M.undetected maint.new)
+            (M.faults maint.old, M.faults maint.new) (M.IsMet maint.new)) }
+        ensures undetected { OnOk result (M.undetected maint.new ≡ M.undetected maint.old) }
+        ensures faults { OnOk result (M.faults maint.new ≡ M.faults maint.old) }
     {
         if self.begun {
-            return self.step(fabric, host);
+            return self.step(alloc, maint);
         }
         self.begun = true;
-        self.step(fabric, host)?;
-        self.lock_on(fabric, host)?;
-        self.lock_on(fabric, host)
+        self.step(alloc, maint)?;
+        self.lock_on(alloc, maint)?;
+        self.lock_on(alloc, maint)
     }
 
     /// One access more, if it is still of the lock that was just read.
-    fn lock_on(&mut self, fabric: &mut PlainFabric, host: u8) -> Result<(), AllocError>
-        requires can { CanStep fabric.old host self.old }
-        ensures stepped { OnOk result (state_in fabric.new host self.new
-            ≡ locked_on (state_in fabric.old host self.old)) }
-        ensures can { OnOk result (CanStep fabric.new host self.new) }
-        ensures topology { (other : ℕ) → view_of fabric.new other ≡ view_of fabric.old other }
+    fn lock_on<M: Maint>(&mut self, alloc: Global, maint: &mut M) -> Result<(), MaintEnd>
+        requires whole { M.IsWhole maint.old }
+        requires can { CanStep (M.topology maint.old) (M.registers maint.old) self.old }
+        requires host { is_locking self.old.stage ≡ true
+            → IsAtHost (machine_of (M.topology maint.old) self.old) }
+        ensures stepped { OnOk result (state_in (M.topology maint.old) (M.registers maint.new)
+            self.new ≡ locked_on (state_in (M.topology maint.old) (M.registers maint.old)
+            self.old)) }
+        ensures can { OnOk result (CanStep (M.topology maint.old) (M.registers maint.new)
+            self.new) }
+        ensures topology { M.topology maint.new ≡ M.topology maint.old }
+        ensures whole { OnOk result (M.IsWhole maint.new) }
+        ensures follows { OnOk result ((origin : _) → M.Follows origin maint.old
+            → M.Follows origin maint.new) }
+        ensures leaves { OnErr result ((origin : _) → M.Follows origin maint.old
+            → M.Leaves origin maint.new) }
+        ensures cause { IfErr result (IsCaused (M.undetected maint.old, M.undetected maint.new)
+            (M.faults maint.old, M.faults maint.new) (M.IsMet maint.new)) }
+        ensures undetected { OnOk result (M.undetected maint.new ≡ M.undetected maint.old) }
+        ensures faults { OnOk result (M.faults maint.new ≡ M.faults maint.old) }
     {
         if is_locking(self.stage) {
-            self.step(fabric, host)
+            self.step(alloc, maint)
         } else {
             Ok(())
         }
     }
 
     /// One access, which the device on the path answers.
-    fn step(&mut self, fabric: &mut PlainFabric, host: u8) -> Result<(), AllocError>
-        requires can { CanStep fabric.old host self.old }
-        ensures stepped { OnOk result (state_in fabric.new host self.new
-            ≡ stepped (machine_of (view_of fabric.old host) self.old)
-            (registers_of fabric.old.devices.items)) }
-        ensures can { OnOk result (CanStep fabric.new host self.new) }
-        ensures topology { (other : ℕ) → view_of fabric.new other ≡ view_of fabric.old other }
+    fn step<M: Maint>(&mut self, alloc: Global, maint: &mut M) -> Result<(), MaintEnd>
+        requires whole { M.IsWhole maint.old }
+        requires can { CanStep (M.topology maint.old) (M.registers maint.old) self.old }
+        requires reach { CanReach (machine_of (M.topology maint.old) self.old)
+            (M.registers maint.old) }
+        ensures stepped { OnOk result (state_in (M.topology maint.old) (M.registers maint.new)
+            self.new ≡ stepped (machine_of (M.topology maint.old) self.old)
+            (M.registers maint.old)) }
+        ensures can { OnOk result (CanStep (M.topology maint.old) (M.registers maint.new)
+            self.new) }
+        ensures topology { M.topology maint.new ≡ M.topology maint.old }
+        ensures whole { OnOk result (M.IsWhole maint.new) }
+        ensures follows { OnOk result ((origin : _) → M.Follows origin maint.old
+            → M.Follows origin maint.new) }
+        ensures leaves { OnErr result ((origin : _) → M.Follows origin maint.old
+            → M.Leaves origin maint.new) }
+        ensures cause { IfErr result (IsCaused (M.undetected maint.old, M.undetected maint.new)
+            (M.faults maint.old, M.faults maint.new) (M.IsMet maint.new)) }
+        ensures undetected { OnOk result (M.undetected maint.new ≡ M.undetected maint.old) }
+        ensures faults { OnOk result (M.faults maint.new ≡ M.faults maint.old) }
     {
         let Some(asked) = self.wants() else {
             return Ok(());
         };
-        match fabric.access(host, &asked.path, asked.access) {
-            Some(answer) => self.told(answer.value),
-            None => Ok(()),
+        let answer = reach(alloc, maint, &asked.path, asked.access)?;
+        match self.told(answer.value) {
+            Ok(()) => Ok(()),
+            Err(_) => Err(MaintEnd::NoMemory),
         }
     }
 

@@ -1,18 +1,19 @@
 //! `Walker`: one of two hosts that number a fabric during the same time.
-ghost use Rattle.std.specs.Prelude.{◌≡◌, ◌+◌, ◌<◌, ◌↔◌, ℕ, length, IsTrue, IsSome, IfSome, OnOk, IfOk};
-ghost use Rattle.fabric_map.specs.Plain.{registers_of};
+ghost use Rattle.std.specs.Prelude.{◌≡◌, ◌↔◌, IsTrue, IsSome, IfSome, OnOk, OnErr, IfOk, IfErr};
+ghost use Rattle.fabric_map.specs.Topology.{Topology};
 ghost use Rattle.fabric_map.specs.declared.map.Map.{Map};
+ghost use Rattle.host_enumerate.specs.Causes.{IsCaused};
 ghost use Rattle.contest_machine.specs.declared.stages.Turn.TheVariants.{Going};
 ghost use Rattle.contest_machine.specs.Turns.{turned, came_of};
 ghost use Rattle.host_contest.specs.Machines.{new_walker, is_done, has_ended};
-ghost use Rattle.host_contest.specs.Plain.{view_of};
+ghost use Rattle.host_contest.specs.Reaching.{CanReachOn, AreLow};
 ghost use Rattle.host_contest.specs.Steps.{state_in, CanStep};
 ghost use Rattle.host_contest.specs.Walkers.{machine_in, HasEntries, going_after};
 
 use crate::machine::Machine;
-use crate::plain::PlainFabric;
 use contest_machine::{Stage, Turn};
 use fabric_map::{Map, entries_of};
+use host_enumerate::{Maint, MaintEnd};
 use rio_chars::NoMemory;
 use std::alloc::Global;
 
@@ -20,8 +21,6 @@ use std::alloc::Global;
 #[derive(Drop)]
 pub struct Walker {
     pub(crate) machine: Machine,
-    /// The node of the host.
-    pub(crate) host: u8,
     /// How many turns answered `Going`.
     pub(crate) going: u32,
     /// What came of its last turn.
@@ -29,19 +28,16 @@ pub struct Walker {
 }
 
 impl Walker {
-    /// A walker of this endpoint of a fabric. Its ID is that of the endpoint.
-    pub fn new(alloc: Global, fabric: &PlainFabric, host: u8) -> Walker
-        requires { host < length fabric.now.devices.items }
-        ensures machine { machine_in fabric.now result ≡ new_walker (view_of fabric.now host)
-            (registers_of fabric.now.devices.items host).base_id }
-        ensures host { result.host ≡ host }
+    /// A walker of a host with this ID, which has asked nothing yet.
+    pub fn new(alloc: Global, id: u8) -> Walker
+        ensures machine { (view : Topology) → machine_in view result ≡ new_walker view id }
+        ensures low { AreLow result.machine.todo }
         ensures none { result.going ≡ 0 }
         ensures last { result.last ≡ Going }
         ensures entries { HasEntries result }
     {
         Walker {
-            machine: Machine::new(alloc, fabric.id_of(host)),
-            host,
+            machine: Machine::new(alloc, id),
             going: 0,
             last: Turn::Going,
         }
@@ -49,34 +45,60 @@ impl Walker {
 
     /// One turn: one access, or in the first turn all that lock the host. It answers `Waiting` if
     /// it read the lock of a host with a lesser ID, `Done` and `Lost` once it has ended, and else
-    /// `Going`. After `NoMemory` neither fabric nor walker is of use.
-    pub fn turn(&mut self, alloc: Global, fabric: &mut PlainFabric) -> Result<Turn, NoMemory>
-        requires can { CanStep fabric.old self.old.host self.old.machine }
-        ensures turned { OnOk result (state_in fabric.new self.old.host self.new.machine
-            ≡ turned (machine_in fabric.old self.old) (registers_of fabric.old.devices.items)) }
-        ensures answer { IfOk result (λ turn. turn
-            ≡ came_of (machine_in fabric.old self.old) (machine_in fabric.new self.new)) }
-        ensures can { OnOk result (CanStep fabric.new self.old.host self.new.machine) }
-        ensures host { self.new.host ≡ self.old.host }
-        ensures topology { (other : ℕ) → view_of fabric.new other ≡ view_of fabric.old other }
+    /// `Going`. After an end neither fabric nor walker is of use.
+    pub fn turn<M: Maint>(&mut self, alloc: Global, maint: &mut M) -> Result<Turn, MaintEnd>
+        requires whole { M.IsWhole maint.old }
+        requires can { CanStep (M.topology maint.old) (M.registers maint.old) self.old.machine }
+        requires reach { CanReachOn (machine_in (M.topology maint.old) self.old)
+            (M.registers maint.old) }
+        ensures turned { OnOk result (state_in (M.topology maint.old) (M.registers maint.new)
+            self.new.machine ≡ turned (machine_in (M.topology maint.old) self.old)
+            (M.registers maint.old)) }
+        ensures answer { IfOk result (λ turn. turn ≡ came_of
+            (machine_in (M.topology maint.old) self.old)
+            (machine_in (M.topology maint.old) self.new)) }
+        ensures can { OnOk result (CanStep (M.topology maint.old) (M.registers maint.new)
+            self.new.machine) }
+        ensures topology { M.topology maint.new ≡ M.topology maint.old }
+        ensures whole { OnOk result (M.IsWhole maint.new) }
+        ensures follows { OnOk result ((origin : _) → M.Follows origin maint.old
+            → M.Follows origin maint.new) }
+        ensures leaves { OnErr result ((origin : _) → M.Follows origin maint.old
+            → M.Leaves origin maint.new) }
+        ensures cause { IfErr result (IsCaused (M.undetected maint.old, M.undetected maint.new)
+            (M.faults maint.old, M.faults maint.new) (M.IsMet maint.new)) }
+        ensures undetected { OnOk result (M.undetected maint.new ≡ M.undetected maint.old) }
+        ensures faults { OnOk result (M.faults maint.new ≡ M.faults maint.old) }
         ensures going { IfOk result (λ turn. self.new.going ≡ going_after self.old.going turn) }
         ensures last { IfOk result (λ turn. self.new.last ≡ turn) }
         ensures entries { OnOk result (HasEntries self.new) }
     {
         let was_clear = self.machine.todo.is_empty();
-        self.machine.turn(fabric, self.host)?;
+        self.machine.turn(alloc, maint)?;
         let turn = self.machine.came_of(was_clear);
         self.note(turn);
+        match self.list_entries(alloc) {
+            Ok(()) => Ok(turn),
+            Err(_) => Err(MaintEnd::NoMemory),
+        }
+    }
+
+    /// Lists the entries of the map, once the walker is done.
+    fn list_entries(&mut self, alloc: Global) -> Result<(), NoMemory>
+        ensures machine { (view : Topology) → machine_in view self.new ≡ machine_in view self.old }
+        ensures going { self.new.going ≡ self.old.going }
+        ensures last { self.new.last ≡ self.old.last }
+        ensures entries { OnOk result (HasEntries self.new) }
+    {
         if self.is_done() {
             self.machine.map.entries = entries_of(alloc, self.machine.map.devices.as_slice())?;
         }
-        Ok(turn)
+        Ok(())
     }
 
     /// Notes what came of a turn, and counts those that answered `Going`, up to the greatest count.
     fn note(&mut self, turn: Turn)
         ensures machine { self.new.machine ≡ self.old.machine }
-        ensures host { self.new.host ≡ self.old.host }
         ensures going { self.new.going ≡ going_after self.old.going turn }
         ensures last { self.new.last ≡ turn }
     {

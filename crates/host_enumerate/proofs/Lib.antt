@@ -8,13 +8,13 @@ pub mod Stepping
 mod Lengthening
 pub mod TakingSwitch
 pub mod TakingEndpoint
-mod Askable
+pub mod Askable
 pub mod Keeping
-mod Asked
+pub mod Asked
 pub mod Finishing
-mod Opening
+pub mod Opening
 mod Entries
-mod Routing
+pub mod Routing
 mod Giving
 pub mod Clearing
 mod SettingUp

@@ -1,19 +1,75 @@
-use Rattle.fabric_contest.proofs.Begun.{new_can, new_both_is}
+use Rattle.std.proofs.Common.{◌≡◌, [], length, sym, ap, subst, ◌∙◌}
+use Rattle.fabric_map.specs.Plain.{registers_of}
+use Rattle.fabric_trace.specs.Runs.{start}
+use Rattle.fabric_ports.specs.Standing.{Stands}
+use Rattle.fabric_ports.specs.declared.fabric.Fabric.{Fabric}
+use Rattle.fabric_maint.specs.Going.{StandsFor}
+use Rattle.fabric_maint.proofs.Making.{new_stands}
+use Rattle.fabric_contest.specs.declared.contest.Contest.{Contest}
+use Rattle.fabric_contest.proofs.Begun.{new_both_is, new_can}
 use Rattle.fabric_contest.proofs.contest.Contest.new.Goals as goal
+
+pub id_of-first_id-requires : goal.id_of-first_id-requires
+id_of-first_id-requires c = record {
+  stands = new_stands c.args.script.now.names.items c.args.script.now.lines.items c.args.first
+      c.in_ok-fabric.fabric c.requires.passes c.requires.first c.in_ok-fabric.ensures.stands
+      c.in_ok-fabric.ensures.named;
+}
+
+pub id_of-second_id-requires : goal.id_of-second_id-requires
+id_of-second_id-requires c = record {
+  stands = subst (λ (f : Fabric). StandsFor c.args.script.now.names.items
+      c.args.script.now.lines.items c.args.second f) (sym c.id_of-first_id.ensures.same)
+      (new_stands c.args.script.now.names.items c.args.script.now.lines.items c.args.second
+      c.in_ok-fabric.fabric c.requires.passes c.requires.second c.in_ok-fabric.ensures.stands
+      c.in_ok-fabric.ensures.named);
+}
 
 pub returns-clause-both : goal.returns-clause-both
 returns-clause-both c =
-    new_both_is c.args.script.now.names.items c.args.script.now.lines.items c.requires.passes
-    c.in_ok-fabric.fabric c.in_ok-fabric.ensures.devices c.in_ok-fabric.ensures.links c.args.first
-    c.args.second c.requires.first c.requires.second c.requires.differ c.new-first.result
-    c.new-second.result c.new-first.ensures.host c.new-second.ensures.host
-    c.new-first.ensures.machine c.new-second.ensures.machine
+    let contest : Contest = record {
+      fabric = c.id_of-second_id.new.fabric;
+      script = c.args.script;
+      first_node = c.args.first;
+      second_node = c.args.second;
+      first = c.new-2.result;
+      second = c.new-3.result;
+    } in
+    let one = c.id_of-first_id.ensures.same in
+    let same = c.id_of-second_id.ensures.same ∙ one in
+    new_both_is contest c.requires.passes
+    (subst (λ (f : Fabric). Stands (start c.args.script.now.lines.items) [] f) (sym same)
+    c.in_ok-fabric.ensures.stands)
+    (subst (λ (f : Fabric). length f.devices.items ≡ length c.args.script.now.names.items)
+    (sym same) c.in_ok-fabric.ensures.named) c.requires.first c.requires.second c.requires.differ
+    c.id_of-first_id.result c.id_of-second_id.result
+    (c.id_of-first_id.ensures.id
+    ∙ ap (λ (f : Fabric). (registers_of f.devices.items c.args.first).base_id) (sym same))
+    (c.id_of-second_id.ensures.id
+    ∙ ap (λ (f : Fabric). (registers_of f.devices.items c.args.second).base_id)
+    (one ∙ sym same)) c.new-2.ensures.machine c.new-3.ensures.machine
 
 pub returns-clause-can : goal.returns-clause-can
 returns-clause-can c =
-    new_can c.args.script.now.names.items c.args.script.now.lines.items c.requires.passes
-    c.in_ok-fabric.fabric c.in_ok-fabric.ensures.devices c.in_ok-fabric.ensures.links c.args.first
-    c.args.second c.requires.first c.requires.second c.requires.differ c.new-first.result
-    c.new-second.result c.new-first.ensures.host c.new-second.ensures.host
-    c.new-first.ensures.machine c.new-second.ensures.machine c.new-first.ensures.entries
-    c.new-second.ensures.entries
+    let contest : Contest = record {
+      fabric = c.id_of-second_id.new.fabric;
+      script = c.args.script;
+      first_node = c.args.first;
+      second_node = c.args.second;
+      first = c.new-2.result;
+      second = c.new-3.result;
+    } in
+    let one = c.id_of-first_id.ensures.same in
+    let same = c.id_of-second_id.ensures.same ∙ one in
+    new_can contest c.requires.passes
+    (subst (λ (f : Fabric). Stands (start c.args.script.now.lines.items) [] f) (sym same)
+    c.in_ok-fabric.ensures.stands)
+    (subst (λ (f : Fabric). length f.devices.items ≡ length c.args.script.now.names.items)
+    (sym same) c.in_ok-fabric.ensures.named) c.requires.first c.requires.second c.requires.differ
+    c.id_of-first_id.result c.id_of-second_id.result
+    (c.id_of-first_id.ensures.id
+    ∙ ap (λ (f : Fabric). (registers_of f.devices.items c.args.first).base_id) (sym same))
+    (c.id_of-second_id.ensures.id
+    ∙ ap (λ (f : Fabric). (registers_of f.devices.items c.args.second).base_id)
+    (one ∙ sym same)) c.new-2.ensures.machine c.new-3.ensures.machine c.new-2.ensures.low
+    c.new-3.ensures.low c.new-2.ensures.entries c.new-3.ensures.entries

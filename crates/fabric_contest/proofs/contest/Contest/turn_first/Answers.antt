@@ -1,37 +1,17 @@
-use Rattle.std.proofs.Common.{ap}
-use Rattle.contest_machine.specs.declared.stages.Turn.{Turn}
-use Rattle.fabric_contest.proofs.Playing.{first_turns, last_turn, still_apart, other_can, self_can}
+use Rattle.fabric_contest.proofs.Carrying.{first_step, first_reaches}
+use Rattle.fabric_contest.proofs.MadeTurns.{on_all_ok}
+use Rattle.fabric_contest.proofs.Playing.{first_can}
 use Rattle.fabric_contest.proofs.contest.Contest.turn_first.Goals as goal
 
-pub returns-clause-both : goal.returns-clause-both
-returns-clause-both c =
-    first_turns c.args.self.now.fabric c.turn.new.fabric c.args.self.now.first c.turn.new.self
-    c.args.self.now.second c.turn.ensures.topology c.turn.ensures.host c.in_ok-turn.ensures.turned
+pub turn_over-requires-clause-can : goal.turn_over-requires-clause-can
+turn_over-requires-clause-can c = first_step c.args.self.now c.requires.can
+
+pub turn_over-requires-clause-reach : goal.turn_over-requires-clause-reach
+turn_over-requires-clause-reach c = first_reaches c.args.self.now c.requires.can
 
 pub returns-clause-can : goal.returns-clause-can
 returns-clause-can c =
-    let old = c.args.self.now in
-    let can = c.requires.can in
-    let can_first = self_can old.fabric c.turn.new.fabric old.first c.turn.new.self old.second
-    c.turn.ensures.topology c.turn.ensures.host c.in_ok-turn.ensures.turned
-    c.in_ok-turn.ensures.can in
-    let can_second = other_can old.fabric c.turn.new.fabric old.first c.turn.new.self old.second
-    c.turn.ensures.topology c.turn.ensures.host c.in_ok-turn.ensures.turned can.before can.second
-    can.apart in
-    let apart = still_apart old.fabric c.turn.new.fabric old.first c.turn.new.self old.second
-    c.turn.ensures.topology c.turn.ensures.host c.in_ok-turn.ensures.turned can.before can.apart in
-    record {
-      first = can_first;
-      second = can_second;
-      before = can.before;
-      apart = apart;
-      entries_first = c.in_ok-turn.ensures.entries;
-      entries_second = can.entries_second;
-    }
-
-pub returns-clause-lasts : goal.returns-clause-lasts
-returns-clause-lasts c =
-    ap (λ (turn : Turn). (turn, c.args.self.now.second.last))
-    (last_turn c.args.self.now.fabric c.turn.new.fabric c.args.self.now.first c.turn.new.self
-    c.args.self.now.second c.turn.ensures.topology c.turn.ensures.host c.in_ok-turn.ensures.turned
-    c.in_ok-turn.field-0 c.in_ok-turn.ensures.last c.in_ok-turn.ensures.answer)
+    on_all_ok c.turn_over.result (λ stands turned can entries.
+    first_can c.args.self.now c.requires.can c.turn_over.new.fabric c.turn_over.new.walker can.low
+    entries turned stands) c.turn_over.ensures.stands c.turn_over.ensures.turned
+    c.turn_over.ensures.can c.turn_over.ensures.entries

@@ -1,23 +1,30 @@
 use Rattle.std.proofs.Common.{◌∙◌, sym, ap}
-use Rattle.contest_machine.specs.Turns.{came_of}
-use Rattle.host_contest.specs.declared.machine.Machine.{Machine}
 use Rattle.host_contest.specs.Machines.{machine_of}
-use Rattle.host_contest.specs.Plain.{view_of}
+use Rattle.host_contest.specs.Walkers.{machine_in}
 use Rattle.host_contest.proofs.Machines.{clear_is}
+use Rattle.host_contest.proofs.Stepping.{with_walker, can_same, came_from}
 use Rattle.host_contest.proofs.walker.Walker.turn.Goals as goal
 
-pub returns-in_ok-self-clause-answer : goal.returns-in_ok-self-clause-answer
-returns-in_ok-self-clause-answer c =
-    let view = view_of c.args.fabric.now c.args.self.now.host in
-    c.came_of-turn.ensures view c.args.self.now.machine
-    (c.is_empty-was_clear.ensures ∙ clear_is c.args.self.now.machine.todo)
-    ∙ ap (λ (m : Machine). came_of (machine_of view c.args.self.now.machine) (machine_of view m))
-    (sym c.note.ensures.machine)
+pub returns-in-Ok-clause-turned : goal.returns-in-Ok-clause-turned
+returns-in-Ok-clause-turned g c =
+    let view = g.M.Maint.topology c.args.maint.now in
+    let new = g.M.Maint.registers c.turn.new.maint in
+    ap (with_walker new)
+    (c.list_entries.ensures.machine view ∙ ap (machine_of view) c.note.ensures.machine)
+    ∙ c.in_ok-turn.ensures.turned
 
-pub returns-else-is_done-clause-answer : goal.returns-else-is_done-clause-answer
-returns-else-is_done-clause-answer c =
-    let view = view_of c.args.fabric.now c.args.self.now.host in
+pub returns-in-Ok-clause-answer : goal.returns-in-Ok-clause-answer
+returns-in-Ok-clause-answer g c =
+    let view = g.M.Maint.topology c.args.maint.now in
     c.came_of-turn.ensures view c.args.self.now.machine
     (c.is_empty-was_clear.ensures ∙ clear_is c.args.self.now.machine.todo)
-    ∙ ap (λ (m : Machine). came_of (machine_of view c.args.self.now.machine) (machine_of view m))
-    (sym c.note.ensures.machine)
+    ∙ ap (came_from (machine_in view c.args.self.now))
+    (sym (c.list_entries.ensures.machine view ∙ ap (machine_of view) c.note.ensures.machine))
+
+pub returns-in-Ok-clause-can : goal.returns-in-Ok-clause-can
+returns-in-Ok-clause-can g c =
+    let view = g.M.Maint.topology c.args.maint.now in
+    can_same view (g.M.Maint.registers c.turn.new.maint) c.turn.new.self
+    c.list_entries.new.self.machine
+    (c.list_entries.ensures.machine view ∙ ap (machine_of view) c.note.ensures.machine)
+    c.in_ok-turn.ensures.can
