@@ -33,8 +33,6 @@ pub mod offsets;
 mod plain;
 mod setting;
 mod taking;
-#[cfg(test)]
-mod tests;
 mod walk;
 
 pub use devising::{NoHost, devise, judge_host};

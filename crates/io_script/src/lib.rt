@@ -24,8 +24,6 @@ mod lines;
 mod reading;
 mod reasons;
 mod scripts;
-#[cfg(test)]
-mod tests;
 mod words;
 mod writing;
 

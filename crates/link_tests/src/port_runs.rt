@@ -3,7 +3,9 @@
 ghost use Rattle.std.specs.Prelude.{◌<◌};
 
 use arrayvec::ArrayVec;
-use link_model::{end_of_packet, link_request, packet_accepted, packet_retry, start_of_packet};
+use link_model::{
+    UNTOLD, end_of_packet, link_request, packet_accepted, packet_retry, start_of_packet,
+};
 use link_port::{OutKind, Port, PortFace, Taken};
 use rio_chars::{Char, NoMemory};
 use rio_framer::{packet_chars, symbol_chars};
@@ -17,12 +19,21 @@ use std::test::*;
 /// more.
 fn scenario(alloc: Global) -> Result<Vec<Char>, NoMemory> {
     let mut chars = Vec::new(alloc);
-    append(&mut chars, symbol_chars(&packet_accepted(0)).as_slice())?;
+    append(
+        &mut chars,
+        symbol_chars(&packet_accepted(0, UNTOLD)).as_slice(),
+    )?;
     append(&mut chars, packet(0).as_slice())?;
     append(&mut chars, packet(5).as_slice())?;
-    append(&mut chars, symbol_chars(&link_request(1)).as_slice())?;
+    append(
+        &mut chars,
+        symbol_chars(&link_request(1, UNTOLD)).as_slice(),
+    )?;
     append(&mut chars, packet(1).as_slice())?;
-    append(&mut chars, symbol_chars(&packet_retry(1)).as_slice())?;
+    append(
+        &mut chars,
+        symbol_chars(&packet_retry(1, UNTOLD)).as_slice(),
+    )?;
     append(
         &mut chars,
         &[
@@ -32,7 +43,10 @@ fn scenario(alloc: Global) -> Result<Vec<Char>, NoMemory> {
             Char::Data(9),
         ],
     )?;
-    append(&mut chars, symbol_chars(&link_request(1)).as_slice())?;
+    append(
+        &mut chars,
+        symbol_chars(&link_request(1, UNTOLD)).as_slice(),
+    )?;
     Ok(chars)
 }
 
@@ -83,10 +97,10 @@ fn packet(ack: u8) -> ArrayVec<Char, 284>
     requires { ack < 32 }
 {
     packet_chars(
-        &start_of_packet(1),
+        &start_of_packet(1, UNTOLD),
         ack,
         &Packet::default(),
-        &end_of_packet(1),
+        &end_of_packet(1, UNTOLD),
     )
 }
 

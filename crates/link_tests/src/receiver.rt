@@ -30,20 +30,36 @@ fn an_input_that_is_ok_answers_each_event(rt: HostRuntime) -> Result<(), Fail> {
 
     // Of four buffers three are kept for the higher priorities, so that the second packet of
     // priority 0 has no room.
-    let port = InOk::new().packet(0, &low, &mut store);
+    let port = InOk::new().packet(0, &low, &mut store, false);
     let port = accepted(port, [0x00, 0xff, 0x16], 1).ok_or("accepted 0")?;
-    let port = retried(port.packet(1, &low, &mut store), [0x21, 0xff, 0x19], 1);
+    let port = retried(
+        port.packet(1, &low, &mut store, false),
+        [0x21, 0xff, 0x19],
+        1,
+    );
     let port = port.ok_or("retry 1")?.restart();
-    let port = accepted(port.packet(1, &high, &mut store), [0x01, 0xff, 0x12], 2);
+    let port = accepted(
+        port.packet(1, &high, &mut store, false),
+        [0x01, 0xff, 0x12],
+        2,
+    );
     let port = port.ok_or("accepted 1")?;
-    let port = retried(port.packet(2, &low, &mut store), [0x22, 0xff, 0x15], 2);
+    let port = retried(
+        port.packet(2, &low, &mut store, false),
+        [0x22, 0xff, 0x15],
+        2,
+    );
     let port = port.ok_or("retry 2")?.restart();
-    let port = accepted(port.packet(2, &high, &mut store), [0x02, 0xff, 0x1e], 3);
+    let port = accepted(
+        port.packet(2, &high, &mut store, false),
+        [0x02, 0xff, 0x1e],
+        3,
+    );
     assert!(rt; port.is_some() && store.free() == 1);
 
     // Another ackID, also one before the expected one, and also where there is no room.
     for (ack, packet) in [(1, &low), (31, &low), (1, &high)] {
-        let port = InOk::new().packet(ack, packet, &mut store);
+        let port = InOk::new().packet(ack, packet, &mut store, false);
         assert!(rt; refused(port, [0x40, 0x0f, 0x14], 0), "at {ack}");
     }
     assert_eq!(rt; store.free(), 1);
@@ -56,6 +72,17 @@ fn an_input_that_is_ok_answers_each_event(rt: HostRuntime) -> Result<(), Fail> {
     Ok(())
 }
 
+/// A port that tells its free buffers: of four, three are free after the first packet.
+#[test]
+fn an_input_tells_the_buffers_that_are_free_behind_the_packet(rt: HostRuntime) -> Result<(), Fail> {
+    let (_, low) = check(&LOW).ok().ok_or("low")?;
+    let mut store = InStore::new(rt.alloc(), 4)?;
+    let port = InOk::new().packet(0, &low, &mut store, true);
+    assert!(rt; accepted(port, [0x00, 0x1f, 0x0f], 1).is_some());
+    assert_eq!(rt; store.free(), 3);
+    Ok(())
+}
+
 /// The ackIDs are counted modulo 32: the 32nd packet has ackID 31, and the next one has 0 again.
 #[test]
 fn the_ack_after_31_is_0(rt: HostRuntime) -> Result<(), Fail> {
@@ -63,14 +90,22 @@ fn the_ack_after_31_is_0(rt: HostRuntime) -> Result<(), Fail> {
     let mut store = InStore::new(rt.alloc(), 4)?;
     let mut port = InOk::new();
     for ack in 0..31 {
-        port = taken(port.packet(ack, &low, &mut store)).ok_or("taken")?;
+        port = taken(port.packet(ack, &low, &mut store, false)).ok_or("taken")?;
         assert_eq!(rt; port.expected(), ack + 1);
         store.pop(0);
     }
-    let port = accepted(port.packet(31, &low, &mut store), [0x1f, 0xff, 0x00], 0);
+    let port = accepted(
+        port.packet(31, &low, &mut store, false),
+        [0x1f, 0xff, 0x00],
+        0,
+    );
     let port = port.ok_or("accepted 31")?;
     store.pop(0);
-    let port = accepted(port.packet(0, &low, &mut store), [0x00, 0xff, 0x16], 1);
+    let port = accepted(
+        port.packet(0, &low, &mut store, false),
+        [0x00, 0xff, 0x16],
+        1,
+    );
     assert!(rt; port.is_some());
     Ok(())
 }
@@ -112,7 +147,7 @@ fn retry_stopped(alloc: Global) -> Result<InRetryStopped, Fail> {
     if store.has_room(low.prio()) {
         store.put(low.copy());
     }
-    let port = InOk::new().packet(0, &low, &mut store);
+    let port = InOk::new().packet(0, &low, &mut store, false);
     Ok(retried(port, [0x20, 0xff, 0x1d], 0).ok_or("retry 0")?)
 }
 

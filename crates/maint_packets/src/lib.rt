@@ -25,8 +25,6 @@ mod layout;
 mod next_hop;
 mod request;
 mod response;
-#[cfg(test)]
-mod tests;
 
 pub use answers::{answer, response_prio};
 pub use laws::{answers_keep_devices, answers_keep_forms};

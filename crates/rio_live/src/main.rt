@@ -17,8 +17,6 @@ mod answers;
 mod live;
 mod program;
 mod serving;
-#[cfg(test)]
-mod tests;
 
 pub use program::run;
 use rio_chars::{StdSink, StdSource};

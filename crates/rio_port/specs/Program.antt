@@ -39,7 +39,7 @@ abbrev pub Did : List (List ℕ) → Status → Option (List ℕ) → Option (Li
     → Option (List ℕ) → Option (List ℕ) → ℕ → ℕ → Type 0
 Did arguments status left left_after read_faults read_faults_after written written_after
     write_faults write_faults_after =
-    ((buffers : ℕ) × AskBuffers arguments buffers × ServesFrom (new_port buffers) status left
+    ((buffers : ℕ) × AskBuffers arguments buffers × ServesFrom (new_port false buffers) status left
     left_after read_faults read_faults_after written written_after write_faults write_faults_after)
     ⊎ (((buffers : ℕ) → ¬ AskBuffers arguments buffers) × (status ≡ Words)
     × Keeps left left_after × Keeps written written_after

@@ -17,8 +17,6 @@ mod answers;
 mod program;
 mod requests;
 mod serving;
-#[cfg(test)]
-mod tests;
 mod texts;
 mod words;
 

@@ -13,11 +13,12 @@ use live_lines::{Input, Status};
 use rio_chars::{Outbox, Sink, Source, TextBuffer};
 use std::alloc::{AllocError, Global};
 
-/// Reads lines, and answers each before the next is asked for, with a port of 4 to 30 buffers.
+/// Reads lines, and answers each before the next is asked for, with a port of 4 to 30 buffers that
+/// does not tell them.
 pub fn serve<S: Source, K: Sink>(alloc: Global, buffers: u8, source: &mut S, sink: &mut K) -> Status
     requires least { 4 ≤ buffers }
     requires most { buffers ≤ 30 }
-    ensures { ServesFrom (new_port buffers) result (S.left source.old) (S.left source.new)
+    ensures { ServesFrom (new_port false buffers) result (S.left source.old) (S.left source.new)
         (S.faults source.old) (S.faults source.new) (K.written sink.old) (K.written sink.new)
         (K.faults sink.old) (K.faults sink.new) }
 {

@@ -1,4 +1,4 @@
-use Rattle.std.proofs.Common.{[], ◌-◌, ◌^◌, refl}
+use Rattle.std.proofs.Common.{false, [], ◌-◌, ◌^◌, refl}
 use Rattle.link_port.specs.Ports.{new_port}
 use Rattle.live_lines.proofs.ServingLaws.{served_none}
 use Rattle.rio_port.specs.Answers.{saying}
@@ -7,7 +7,7 @@ use Rattle.rio_port.proofs.serving.serve.Goals as goal
 pub returns-in_default : goal.returns-in_default
 returns-in_default g c = record {
   lines = [];
-  answer = saying (new_port c.args.buffers) [];
+  answer = saying (new_port false c.args.buffers) [];
   answers = refl;
   serves = served_none (2 ^ 64 - 1) _ _ _ _;
 }
@@ -15,7 +15,7 @@ returns-in_default g c = record {
 pub returns-in_default-new : goal.returns-in_default-new
 returns-in_default-new g c = record {
   lines = [];
-  answer = saying (new_port c.args.buffers) [];
+  answer = saying (new_port false c.args.buffers) [];
   answers = refl;
   serves = served_none (2 ^ 64 - 1) _ _ _ _;
 }
@@ -23,7 +23,7 @@ returns-in_default-new g c = record {
 pub returns-in_default-new-2 : goal.returns-in_default-new-2
 returns-in_default-new-2 g c = record {
   lines = [];
-  answer = saying (new_port c.args.buffers) [];
+  answer = saying (new_port false c.args.buffers) [];
   answers = refl;
   serves = served_none (2 ^ 64 - 1) _ _ _ _;
 }

@@ -1,7 +1,7 @@
 //! Packets of a read over two switches, with IDs of 8 and of 16 bits, whose bytes and CRCs were
 //! made outside this project (the CRCs by Python's `binascii.crc_hqx`), and every form and length
 //! of request and response.
-use crate::{
+use maint_packets::{
     Next, Op, Request, Response, answer, move_on, next_of, read_request, read_response,
     write_request, write_response,
 };
