@@ -4,7 +4,7 @@ import binascii
 SENDERS = {0: "packet-accepted", 1: "packet-retry", 2: "packet-not-accepted", 4: "status", 6: "link-response"}
 RECEIVERS = {0: "start-of-packet", 1: "stomp", 2: "end-of-packet", 3: "restart-from-retry", 4: "link-request",
              5: "multicast-event", 7: "NOP"}
-SETS_UP = ("endpoint", "switch", "link", "buffers", "route", "default", "lock", "large")
+SETS_UP = ("endpoint", "switch", "link", "buffers", "route", "default", "lock", "large", "credits")
 
 
 def set_up_of(script):
