@@ -1,9 +1,6 @@
 -- Bytes that are written unless a write has failed, call by call.
-use Rattle.std.proofs.Common.{◌≡◌, ◌≤◌, ℕ, Option, List, ◌++◌, Bool, true, false, ap, sym, ◌∙◌, append_assoc, arith}
-use Rattle.std.specs.Io.KnownBytes.{Appends}
+use Rattle.std.proofs.Common.{◌≤◌, ℕ, Option, List, ◌++◌, Bool, true, false, ◌∙◌, arith}
 use Rattle.std.proofs.KnownBytes.{Appends-trans, Keeps-trans}
-use Rattle.rio_chars.specs.Fronts.{AppendsFront}
-use Rattle.rio_chars.specs.Faults.{Rose}
 use Rattle.rio_chars.specs.Unless.{WritesUnless}
 use Rattle.rio_chars.proofs.FrontLaws.{AppendsFront-kept, AppendsFront-longer, AppendsFront-behind}
 use Rattle.rio_chars.proofs.FaultLaws.{Rose-before, Rose-after}

@@ -1,13 +1,13 @@
 //! Output that waits in a buffer until it is written.
-ghost use Rattle.std.specs.Prelude.{◌≡◌, ◌≤◌, false, [], length, take};
+ghost use Rattle.std.specs.Prelude.{◌≡◌, ◌≤◌, ◌+◌, false, [], length, take};
 ghost use Rattle.std.specs.Fmt.{decimal};
-ghost use Rattle.rio_chars.specs.CharText.{spaced_chars, AreData};
+ghost use Rattle.rio_chars.specs.CharText.{spaced_chars};
 ghost use Rattle.rio_chars.specs.HexText.{hex_of};
 ghost use Rattle.rio_chars.specs.Unless.{WritesUnless};
 ghost use Rattle.rio_chars.specs.Written.{Writes};
 
 use crate::digits::write_decimal;
-use crate::runs::{data_run, spaced_char};
+use crate::runs::{RUN, spaced_char};
 use crate::text_buffer::ROOM;
 use crate::{Char, Sink, TextBuffer, write_all};
 
@@ -91,10 +91,9 @@ impl<'a, K: Sink> Outbox<'a, K> {
     {
         let mut left = chars;
         while let [first, rest @ ..] = left {
-            let run = data_run(left);
-            if run > 0 {
-                self.write_data(&left[..run]);
-                left = &left[run..];
+            let count = self.write_data(left);
+            if count > 0 {
+                left = &left[count..];
             } else {
                 self.write_short(&spaced_char(*first), 4);
                 left = rest;
@@ -131,16 +130,36 @@ impl<'a, K: Sink> Outbox<'a, K> {
         self.buffer.append_hex(bytes);
     }
 
-    /// Tells the texts of data characters that have room in an empty buffer.
-    fn write_data(&mut self, chars: &[Char])
-        requires most { length chars.now ≤ 512 }
-        requires are_data { AreData chars.now }
-        ensures { Writes K.written K.faults self.old self.new (spaced_chars chars.now) }
+    /// Tells the texts of the data characters at the front, each behind a space, and answers how
+    /// many they are. More come with the next call.
+    fn write_data(&mut self, chars: &[Char]) -> usize
+        ensures within { result ≤ length chars.now }
+        ensures text { Writes K.written K.faults self.old self.new
+            (spaced_chars (take result chars.now)) }
     {
-        if 4 * chars.len() > self.buffer.room() {
+        self.make_room();
+        self.append_data(chars)
+    }
+
+    /// Lets the texts of the data characters at the front wait, each behind a space, and answers
+    /// how many they are.
+    fn append_data(&mut self, chars: &[Char]) -> usize
+        requires room { length self.old.buffer.now + 2048 ≤ 65536 }
+        ensures within { result ≤ length chars.now }
+        ensures text { Writes K.written K.faults self.old self.new
+            (spaced_chars (take result chars.now)) }
+    {
+        self.buffer.append_data(chars)
+    }
+
+    /// Makes room for the texts of as many data characters as are told at once.
+    fn make_room(&mut self)
+        ensures written { Writes K.written K.faults self.old self.new [] }
+        ensures room { length self.new.buffer.now + 2048 ≤ 65536 }
+    {
+        if self.buffer.room() < 4 * RUN {
             self.flush();
         }
-        self.buffer.append_data(chars);
     }
 
     /// Tells bytes that have no room behind those that wait.

@@ -1,11 +1,11 @@
 //! A buffer of text.
 ghost use Rattle.std.specs.Prelude.{◌≡◌, ◌≤◌, ◌+◌, ◌*◌, ◌++◌, [], length, take, IfOk};
-ghost use Rattle.rio_chars.specs.CharText.{spaced_chars, AreData};
+ghost use Rattle.rio_chars.specs.CharText.{spaced_chars};
 ghost use Rattle.rio_chars.specs.HexText.{hex_of};
 
 use crate::digits::write_hex;
 use crate::memory::zeros;
-use crate::runs::{RUN, write_data};
+use crate::runs::{RUN, write_words};
 use crate::{Char, NoMemory};
 use std::alloc::Global;
 use std::marker::Model;
@@ -87,17 +87,19 @@ impl TextBuffer {
         self.len += count;
     }
 
-    /// Lets the texts of data characters wait that have room, each behind a space.
-    pub(crate) fn append_data(&mut self, chars: &[Char])
-        requires room { length self.old + 4 * length chars.now ≤ 65536 }
-        requires most { length chars.now ≤ 512 }
-        requires are_data { AreData chars.now }
-        ensures { self.new ≡ self.old ++ spaced_chars chars.now }
+    /// Lets the texts of the data characters at the front wait, at most 512, each behind a space.
+    /// Answers how many they are.
+    pub(crate) fn append_data(&mut self, chars: &[Char]) -> usize
+        requires room { length self.old + 2048 ≤ 65536 }
+        ensures within { result ≤ length chars.now }
+        ensures text { self.new ≡ self.old ++ spaced_chars (take result chars.now) }
     {
-        let end = self.len + 4 * chars.len();
-        let room = &mut self.bytes[self.len..end];
-        write_data(room, &mut self.words, chars);
+        let count = write_words(self.words.as_mut_slice(), chars);
+        let end = self.len + 4 * count;
+        let texts = self.words[..count].as_flattened();
+        self.bytes[self.len..end].copy_from_slice(texts);
         self.len = end;
+        count
     }
 
     /// Lets the digits of bytes wait that have room.

@@ -1,4 +1,4 @@
-use Rattle.std.proofs.Common.{◌≡◌, ◌≤◌, ◌-◌, ℕ, Option, [], ◌∷◌, ◌++◌, List, length, get_or, take, drop, refl, sym, ap, subst, ◌∙◌, append_assoc, take-append-drop}
+use Rattle.std.proofs.Common.{◌≡◌, ◌≤◌, ◌-◌, ℕ, Option, [], ◌∷◌, ◌++◌, List, length, get_or, take, drop, refl, sym, ap, subst, ◌∙◌, append_assoc, append-nil, take-append-drop, arith}
 use Rattle.std.proofs.lemmas.List.{take_rest}
 use Rattle.rio_chars.specs.CharText.{char_text_of, spaced_chars}
 use Rattle.rio_chars.specs.Written.{Writes}
@@ -30,13 +30,13 @@ one_told {K} {written} {faults} {a} {b} {c} {text} done chars left d e some told
 pub loop-left-init : goal.loop-left-init
 loop-left-init g c = ([], refl, Writes-nil _ _ c.args.self.now)
 
-pub loop-left-preserved-then-run-gt0 : goal.loop-left-preserved-then-run-gt0
-loop-left-preserved-then-run-gt0 g c =
+pub loop-left-preserved-then-count-gt0 : goal.loop-left-preserved-then-count-gt0
+loop-left-preserved-then-count-gt0 g c =
     let h = c.loop-left.invariant in
     let left = c.loop-left.left.now in
-    let run = c.data_run-run.result in
+    let run = c.write_data-count.result in
     let Whole : List Char → Type 0 =
-    λ done. Writes g.K.Sink.written g.K.Sink.faults c.args.self.now c.write_data.new.self
+    λ done. Writes g.K.Sink.written g.K.Sink.faults c.args.self.now c.write_data-count.new.self
     (spaced_chars done) in (
       h.0 ++ take run left,
       h.1
@@ -44,11 +44,20 @@ loop-left-preserved-then-run-gt0 g c =
           ∙ sym (append_assoc h.0 (take run left) (drop run left))
           ∙ ap (λ l. h.0 ++ take run left ++ l) (sym (take_rest left run)),
       rw (spaced_chars-append h.0 (take run left))
-          (Writes-then (spaced_chars h.0) (spaced_chars (take run left)) h.2 c.write_data.ensures),
+          (Writes-then (spaced_chars h.0) (spaced_chars (take run left)) h.2 c.write_data-count.ensures.text),
     )
 
 pub loop-left-preserved : goal.loop-left-preserved
 loop-left-preserved g c =
     let h = c.loop-left.invariant in
-    one_told h.0 c.args.chars.now c.loop-left.left.now _ h.1 c.in-len1-up.len_at_least h.2
+    let none : c.write_data-count.result ≡ 0 = omega (arith, c.if-count-gt0.false) in
+    let nothing =
+    subst (λ n. Writes g.K.Sink.written g.K.Sink.faults c.loop-left.self
+    c.write_data-count.new.self (spaced_chars (take n c.loop-left.left.now))) none
+    c.write_data-count.ensures.text in
+    let told =
+    subst (Writes g.K.Sink.written g.K.Sink.faults c.args.self.now c.write_data-count.new.self)
+    (append-nil (spaced_chars h.0))
+    (Writes-then (spaced_chars h.0) [] h.2 nothing) in
+    one_told h.0 c.args.chars.now c.loop-left.left.now _ h.1 c.in-len1-up.len_at_least told
     c.spaced_char.ensures c.write_short.ensures
