@@ -13,9 +13,9 @@ use Rattle.link_model.specs.Symbols.{status_with}
 use Rattle.link_model.proofs.ReadingSpeltLaws.{run-symbol, place_after-symbol, run-packet, place_after-packet}
 use Rattle.link_port.specs.States.{prios_of}
 use Rattle.link_port.specs.Ports.{PortState, IsPort}
-use Rattle.link_port.specs.declared.bursts.Standing.{Standing}
+use Rattle.link_port.specs.declared.sending.Standing.{Standing}
 use Rattle.link_port.specs.Bursts.{IsStanding}
-use Rattle.link_port.specs.Turns.{IsRead, standing, no_burst, symbol_burst, packet_burst, burst_of, turn_sends, waiting_in}
+use Rattle.link_port.specs.Turns.{IsRead, standing, no_burst, symbol_burst, packet_burst, burst_of, turn_sends, tell_sends, waiting_in}
 
 -- a status symbol of a port is in range
 status_range : (at : Standing) (s1 cmd : ℕ) → IsStanding at → s1 < 8 → cmd < 8
@@ -158,3 +158,12 @@ turn_read port is =
     (IsOutStore-lists_without (prios_of port.output) port.queued is.covered is.sends)
     (turn_range port.tells port.output (highest waiting)
     (λ prio found. (highest_below-some 4 prio waiting found).0))
+
+told_read : (tells : Bool) (at : Standing) → IsStanding at
+    → IsRead (if tells then symbol_burst (status at.expected at.buffers) else no_burst)
+told_read true at is = status_read at is
+told_read false at is = none_read
+
+-- what it sends as it tells its free buffers
+pub tell_read : (port : PortState) → IsPort port → IsRead (tell_sends port)
+tell_read port is = told_read port.tells (standing port) (standing_range port is)

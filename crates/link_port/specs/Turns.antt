@@ -6,7 +6,7 @@ use Rattle.link_model.specs.declared.event.Event.{Event}
 use Rattle.link_model.specs.declared.event.Event.TheVariants.{Ctl, Pkt}
 use Rattle.link_model.specs.Output.{Turned, starts}
 use Rattle.link_receiver.specs.Status.{buffer_status}
-use Rattle.link_port.specs.declared.bursts.Standing.{Standing}
+use Rattle.link_port.specs.declared.sending.Standing.{Standing}
 use Rattle.link_port.specs.States.{prios_of, expected_of}
 use Rattle.link_port.specs.Ports.{PortState}
 

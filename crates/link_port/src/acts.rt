@@ -4,6 +4,7 @@ ghost use Rattle.rio_framer.specs.Giving.{listed, IsPaired};
 ghost use Rattle.link_port.specs.Steps.{acts, acts_all, acts_symbol, acts_packet, acts_bad, is_acted, first_acted, after_hearing, acknowledged, obeyed};
 ghost use Rattle.link_port.specs.Acts.{acts_first, acts_second, held_of, held_by, is_first_acted};
 ghost use Rattle.link_port.specs.Ports.{IsPort};
+ghost use Rattle.link_port.specs.States.{expects};
 ghost use Rattle.link_model.specs.declared.event.Event.TheVariants.{Pkt};
 ghost use Rattle.link_buffers.specs.Priorities.{packets_of};
 
@@ -71,6 +72,15 @@ impl Port {
             Event::Pkt(ack, _) => self.input.expects(*ack),
             Event::Bad(_) => false,
         }
+    }
+
+    /// Returns whether a packet with this ackID is taken or has no room.
+    pub fn expects(&self, ack: u8) -> bool
+        ensures value { result ≡ expects self.now.input ack }
+        ensures port { IsPort self.now }
+    {
+        self.bounds();
+        self.input.expects(ack)
     }
 
     /// The events of one character.

@@ -1,12 +1,13 @@
-//! What a port sends in a turn.
+//! `Burst`: what a port sends, as characters and as events.
 ghost use Rattle.std.specs.Prelude.{◌≡◌, ◌<◌, Some};
-ghost use Rattle.link_port.specs.Bursts.{burst_by, HasRange, IsStanding};
-ghost use Rattle.link_port.specs.Turns.{no_burst, symbol_burst, packet_burst};
+ghost use Rattle.rio_symbols.specs.declared.stype1.TheConstants.{START_OF_PACKET, END_OF_PACKET};
+ghost use Rattle.link_port.specs.Bursts.{burst_between, sending_burst, IsSending};
+ghost use Rattle.link_port.specs.Turns.{no_burst, symbol_burst};
 
-use crate::output_half::Sends;
+use crate::port::Port;
+use crate::sending::Sending;
 use arrayvec::ArrayVec;
-use link_buffers::OutStore;
-use link_model::{Event, end_of_packet, link_request, restart_from_retry, start_of_packet, status};
+use link_model::Event;
 use rio_chars::Char;
 use rio_framer::{packet_chars, symbol_chars};
 use rio_packets::Packet;
@@ -21,37 +22,32 @@ pub struct Burst {
     pub sent: ArrayVec<Event, 3>,
 }
 
-/// What each symbol of a turn tells of the port that sends it.
-#[derive(Clone, Copy)]
-pub(crate) struct Standing {
-    /// The ackID that it expects.
-    pub(crate) expected: u8,
-    /// Its buffer status.
-    pub(crate) buffers: u8,
-}
-
-/// What is sent by a port that stands so.
-pub(crate) fn make_burst(sends: Sends, at: Standing, queued: &OutStore) -> Burst
-    requires standing { IsStanding at }
-    requires range { HasRange sends }
-    ensures chars { result.chars.items ≡ (burst_by sends at queued.now).chars }
-    ensures sent { result.sent.items ≡ (burst_by sends at queued.now).sent }
-{
-    let Standing { expected, buffers } = at;
-    match sends {
-        Sends::Packet(started) => match queued.at(started.prio, started.place) {
-            Some(packet) => packet_burst(at, started.ack, packet),
-            None => no_burst(),
-        },
-        Sends::Restart => symbol_burst(restart_from_retry(expected, buffers)),
-        Sends::Request => symbol_burst(link_request(expected, buffers)),
-        Sends::Status => symbol_burst(status(expected, buffers)),
-        Sends::Nothing => no_burst(),
+impl Port {
+    /// The characters and events of what is sent.
+    pub(crate) fn burst(&self, sending: Sending) -> Burst
+        requires range { IsSending sending }
+        ensures chars { result.chars.items ≡ (sending_burst sending self.now.queued).chars }
+        ensures sent { result.sent.items ≡ (sending_burst sending self.now.queued).sent }
+    {
+        match sending {
+            Sending::Nothing => no_burst(),
+            Sending::Symbol(symbol) => symbol_burst(symbol),
+            Sending::Packet {
+                start,
+                ack,
+                prio,
+                place,
+                end,
+            } => match self.queued_at(prio, place) {
+                Some(packet) => packet_burst(start, ack, packet, end),
+                None => no_burst(),
+            },
+        }
     }
 }
 
 /// Nothing.
-pub(crate) fn no_burst() -> Burst
+fn no_burst() -> Burst
     ensures chars { result.chars.items ≡ no_burst.chars }
     ensures sent { result.sent.items ≡ no_burst.sent }
 {
@@ -62,7 +58,7 @@ pub(crate) fn no_burst() -> Burst
 }
 
 /// One symbol.
-pub(crate) fn symbol_burst(symbol: Symbol) -> Burst
+fn symbol_burst(symbol: Symbol) -> Burst
     ensures chars { result.chars.items ≡ (symbol_burst symbol).chars }
     ensures sent { result.sent.items ≡ (symbol_burst symbol).sent }
 {
@@ -78,15 +74,14 @@ pub(crate) fn symbol_burst(symbol: Symbol) -> Burst
     Burst { chars, sent }
 }
 
-/// A packet between its two symbols, from a port that stands so.
-fn packet_burst(at: Standing, ack: u8, packet: &Packet) -> Burst
-    requires standing { IsStanding at }
+/// A packet between its two symbols.
+fn packet_burst(start: Symbol, ack: u8, packet: &Packet, end: Symbol) -> Burst
     requires ack { ack < 32 }
-    ensures chars { result.chars.items ≡ (packet_burst at ack (Some packet.now)).chars }
-    ensures sent { result.sent.items ≡ (packet_burst at ack (Some packet.now)).sent }
+    requires start { start.s1 ≡ START_OF_PACKET }
+    requires end { end.s1 ≡ END_OF_PACKET }
+    ensures chars { result.chars.items ≡ (burst_between start ack (Some packet.now) end).chars }
+    ensures sent { result.sent.items ≡ (burst_between start ack (Some packet.now) end).sent }
 {
-    let start = start_of_packet(at.expected, at.buffers);
-    let end = end_of_packet(at.expected, at.buffers);
     let mut sent = ArrayVec::new();
     sent.push(Event::Ctl(start));
     sent.push(Event::Pkt(ack, packet.copy()));

@@ -13,6 +13,7 @@
 //!   [`InKind`]; `take_run` for runs of characters, or `read` and then `act` and the like, where
 //!   something is to come between, told by [`Completed`] and [`Done`]
 //! - [`Taken`] and [`Burst`]: what a character did, and what a turn sends
+//! - [`Sending`]: what a turn sends, in a few bytes, by `start_turn`; `queued_at` lends its packet
 //! - [`PortFace`]: the eight lists of packets that the layer above sees
 //! - [`PlainPort`] and [`pass`]: a port with no protocol, whose packets pass at once
 //! - [`one_character_has_one_reply`], [`answers_are_read_from_any_place`] and
@@ -29,7 +30,9 @@ mod laws;
 mod output_half;
 mod plain;
 mod port;
+mod sending;
 mod taken;
+mod turns;
 
 pub use acts::Done;
 pub use bursts::Burst;
@@ -41,4 +44,5 @@ pub use laws::{
 };
 pub use plain::{PlainPort, pass};
 pub use port::Port;
+pub use sending::Sending;
 pub use taken::Taken;

@@ -1,26 +1,24 @@
 //! `Port`: the end of a link.
 ghost use Rattle.std.specs.Prelude.{◌≡◌, ◌<◌, ◌≤◌, ◌↔◌, [], true, false, length, slice_get, IsTrue, IfOk};
-ghost use Rattle.link_model.specs.Prelude.{prio_of, at_rest as rests, start, place_after, said, window};
+ghost use Rattle.link_model.specs.Prelude.{prio_of, at_rest as rests, window};
 ghost use Rattle.link_buffers.specs.Queues.{list_at, appended, popped, packet_count};
 ghost use Rattle.link_port.specs.States.{prios_of, has_asked};
 ghost use Rattle.link_port.specs.Halves.{out_kind_of, in_kind_of};
 ghost use Rattle.link_port.specs.Ports.{AreAlike, IsPort, new_port};
 ghost use Rattle.link_port.specs.Steps.{read, takes, first_acted};
 ghost use Rattle.link_port.specs.Runs.{front_of, after_front, takes_run, completed_events, slot_after};
-ghost use Rattle.link_port.specs.Turns.{turns_to, turn_sends, tell_sends, standing, is_ready, timed_out, waiting_in};
-ghost use Rattle.link_port.specs.Bursts.{IsStanding};
+ghost use Rattle.link_port.specs.Turns.{is_ready, timed_out, waiting_in};
 ghost use Rattle.rio_framer.specs.Giving.{listed, IsPaired};
 
-use crate::bursts::{Burst, Standing, make_burst};
 use crate::completed::{Completed, complete};
 use crate::face::PortFace;
 use crate::input_half::Input;
 use crate::kinds::{InKind, OutKind};
-use crate::output_half::{Output, Sends};
+use crate::output_half::Output;
 use crate::taken::Taken;
 use arrayvec::ArrayVec;
 use link_buffers::{InStore, OutStore};
-use link_receiver::{InOk, buffer_status};
+use link_receiver::InOk;
 use link_sender::{OutFailed, OutOk};
 use rio_chars::{Char, NoMemory};
 use rio_framer::{Events, Framer};
@@ -170,56 +168,6 @@ impl Port {
         let completed = complete(&self.framer, told, packet);
         self.bounds();
         (count, completed)
-    }
-
-    /// Sends at most one packet or one symbol: a packet where the sender may start one,
-    /// restart-from-retry after a retry, and a link-request after an error, once until a response
-    /// or a time-out. A port that tells its free buffers sends status, where the sender may start
-    /// packets and starts none. Read by themselves the characters say what is sent, and leave nothing in
-    /// progress.
-    pub fn turn(&mut self) -> Burst
-        ensures state { self.new ≡ turns_to self.old }
-        ensures chars { result.chars.items ≡ (turn_sends self.old).chars }
-        ensures sent { result.sent.items ≡ (turn_sends self.old).sent }
-        ensures read { said start result.chars.items ≡ result.sent.items }
-        ensures rests { place_after start result.chars.items ≡ start }
-        ensures port { IsPort self.new }
-    {
-        self.bounds();
-        // The half is moved out and led on; the placeholder is never read.
-        let output = mem::replace(&mut self.output, Output::Failed(OutFailed));
-        let (output, sends) = output.turn(&self.queued, self.tells);
-        self.output = output;
-        self.bounds();
-        make_burst(sends, self.standing(), &self.queued)
-    }
-
-    /// Sends status with NOP, from a port that tells its free buffers, in every state. Any other
-    /// port sends nothing. No state changes.
-    pub fn tell(&self) -> Burst
-        ensures chars { result.chars.items ≡ (tell_sends self.now).chars }
-        ensures sent { result.sent.items ≡ (tell_sends self.now).sent }
-        ensures read { said start result.chars.items ≡ result.sent.items }
-        ensures rests { place_after start result.chars.items ≡ start }
-        ensures port { IsPort self.now }
-    {
-        self.bounds();
-        if self.tells {
-            make_burst(Sends::Status, self.standing(), &self.queued)
-        } else {
-            make_burst(Sends::Nothing, self.standing(), &self.queued)
-        }
-    }
-
-    /// What each symbol of a turn tells of the port.
-    fn standing(&self) -> Standing
-        ensures value { result ≡ standing self.now }
-        ensures range { IsStanding result }
-    {
-        Standing {
-            expected: self.input.expected(),
-            buffers: buffer_status(self.tells, &self.received),
-        }
     }
 
     /// Returns whether the port tells its free buffers.

@@ -1,25 +1,24 @@
 use Rattle.std.proofs.Common.{sym, ap, ◌∙◌}
 use Rattle.link_model.specs.Prelude.{start, place_after, said}
-use Rattle.link_port.proofs.SentReads.{none_read, status_read}
+use Rattle.link_port.specs.Turns.{Burst}
+use Rattle.link_port.proofs.SentReads.{tell_read}
 use Rattle.link_port.proofs.port.Port.tell.Goals as goal
 
-pub returns-then-self-clause-read : goal.returns-then-self-clause-read
-returns-then-self-clause-read c =
-    ap (said start) c.make_burst.ensures.chars
-    ∙ (status_read c.standing.result c.standing.ensures.range).says
-    ∙ sym c.make_burst.ensures.sent
+pub returns-clause-chars : goal.returns-clause-chars
+returns-clause-chars c =
+    c.burst.ensures.chars ∙ ap (λ (s : Burst). s.chars) c.told.ensures.sends
 
-pub returns-then-self-clause-rests : goal.returns-then-self-clause-rests
-returns-then-self-clause-rests c =
-    ap (place_after start) c.make_burst.ensures.chars
-    ∙ (status_read c.standing.result c.standing.ensures.range).rests
+pub returns-clause-sent : goal.returns-clause-sent
+returns-clause-sent c =
+    c.burst.ensures.sent ∙ ap (λ (s : Burst). s.sent) c.told.ensures.sends
 
-pub returns-else-self-clause-read : goal.returns-else-self-clause-read
-returns-else-self-clause-read c =
-    ap (said start) c.make_burst-else-self.ensures.chars
-    ∙ none_read.says
-    ∙ sym c.make_burst-else-self.ensures.sent
+pub returns-clause-read : goal.returns-clause-read
+returns-clause-read c =
+    ap (said start) (returns-clause-chars c)
+    ∙ (tell_read c.args.self.now c.bounds.ensures).says
+    ∙ sym (returns-clause-sent c)
 
-pub returns-else-self-clause-rests : goal.returns-else-self-clause-rests
-returns-else-self-clause-rests c =
-    ap (place_after start) c.make_burst-else-self.ensures.chars ∙ none_read.rests
+pub returns-clause-rests : goal.returns-clause-rests
+returns-clause-rests c =
+    ap (place_after start) (returns-clause-chars c)
+    ∙ (tell_read c.args.self.now c.bounds.ensures).rests
