@@ -1,8 +1,10 @@
 pub mod KeptLaws
+pub mod HeadLaws
 pub mod DeliveryLaws
 pub mod ActedLaws
 pub mod FrontLaws
 pub mod PumpLaws
+pub mod SendLaws
 pub mod Leading
 pub mod QuietTurns
 pub mod QueueLaws

@@ -1,9 +1,9 @@
 -- One turn after another.
-use Rattle.std.proofs.Common.{◌≡◌, ℕ, zero, suc, ◌-◌, ◌++◌, ◌<◌, List, [], ◌∷◌, refl, ap, ◌∙◌, arith, append_assoc}
+use Rattle.std.proofs.Common.{◌≡◌, ℕ, zero, suc, ◌-◌, ◌++◌, ◌<◌, List, refl, ap, ◌∙◌, arith, append_assoc}
 use Rattle.std.proofs.lemmas.List.{append-nil}
-use Rattle.link_model.specs.Prelude.{Char, Fields, symbol_chars_of}
-use Rattle.link_port.specs.Prelude.{Ctl, PortState, Burst, no_burst, turns_to, turn_sends}
-use Rattle.link_wires.specs.Wires.{WireState, with_sent, both_bursts, turned, bursts, answers}
+use Rattle.link_model.specs.Prelude.{Char}
+use Rattle.link_port.specs.Prelude.{Event, PortState, Burst, no_burst, turns_to, turn_sends}
+use Rattle.link_wires.specs.Wires.{WireState, with_sent, both_bursts, turned, bursts}
 
 less_one : (n : ℕ) → suc n - 1 ≡ n
 less_one n = omega arith
@@ -25,50 +25,37 @@ pub turned_none : (port : PortState) → turned 0 port ≡ port
 unfolding turned
 turned_none port = refl
 
-pub bursts_none : (port : PortState) → (bursts 0 port).chars ≡ []
+pub bursts_none : (port : PortState) → bursts 0 port ≡ no_burst
 unfolding bursts
 bursts_none port = refl
 
--- what is sent after something else
-pub sent_both : (wire : WireState) (first next : Burst)
-    → with_sent (with_sent wire first) next ≡ with_sent wire (both_bursts first next)
-sent_both wire first next =
-    λ i. record {
-      chars = append_assoc wire.chars first.chars next.chars i;
-      kept = append_assoc wire.kept first.sent next.sent i;
-    }
-
-pub sent_none : (wire : WireState) (port : PortState) → with_sent wire (bursts 0 port) ≡ wire
-unfolding bursts
-sent_none wire port = λ i. record { chars = append-nil wire.chars i; kept = append-nil wire.kept i }
-
-pub sent_nothing : (wire : WireState) (burst : Burst) → burst ≡ no_burst
-    → with_sent wire burst ≡ wire
-sent_nothing wire burst none = ap (with_sent wire) none ∙ (λ i. record {
-  chars = append-nil wire.chars i;
-  kept = append-nil wire.kept i;
-})
-
 -- a turn, and then the turns that are left
-pub turn_then : (wire : WireState) (n : ℕ) (port : PortState) → 0 < n
-    → with_sent (with_sent wire (turn_sends port)) (bursts (n - 1) (turns_to port))
-    ≡ with_sent wire (bursts n port)
-turn_then wire n port h =
-    sent_both wire (turn_sends port) (bursts (n - 1) (turns_to port))
-    ∙ ap (with_sent wire) (bursts_next n port h)
+pub sent_then : (kept : List Event) (n : ℕ) (port : PortState) → 0 < n
+    → (kept ++ (turn_sends port).sent) ++ (bursts (n - 1) (turns_to port)).sent
+    ≡ kept ++ (bursts n port).sent
+sent_then kept n port h =
+    append_assoc kept (turn_sends port).sent (bursts (n - 1) (turns_to port)).sent
+    ∙ ap (λ (s : Burst). kept ++ s.sent) (bursts_next n port h)
 
 pub chars_then : (chars : List Char) (n : ℕ) (port : PortState) → 0 < n
-    → chars ++ (turn_sends port).chars ++ (bursts (n - 1) (turns_to port)).chars
+    → (chars ++ (turn_sends port).chars) ++ (bursts (n - 1) (turns_to port)).chars
     ≡ chars ++ (bursts n port).chars
 chars_then chars n port h =
     append_assoc chars (turn_sends port).chars (bursts (n - 1) (turns_to port)).chars
     ∙ ap (λ (s : Burst). chars ++ s.chars) (bursts_next n port h)
 
--- a symbol that answers, and then those behind it
-pub answers_more : (symbol : Fields) (rest : List Fields)
-    → both_bursts (record { chars = symbol_chars_of symbol; sent = Ctl symbol ∷ [] }) (answers rest)
-    ≡ answers (symbol ∷ rest)
-answers_more symbol rest = refl
+-- the turns that are left send nothing
+pub sent_end : (kept : List Event) (burst : Burst) → burst ≡ no_burst → kept ++ burst.sent ≡ kept
+sent_end kept burst none = ap (λ (s : Burst). kept ++ s.sent) none ∙ append-nil kept
 
-pub answered_none : (wire : WireState) → with_sent wire (answers []) ≡ wire
-answered_none wire = λ i. record { chars = append-nil wire.chars i; kept = append-nil wire.kept i }
+pub chars_end : (chars : List Char) (burst : Burst) → burst ≡ no_burst
+    → chars ++ burst.chars ≡ chars
+chars_end chars burst none = ap (λ (s : Burst). chars ++ s.chars) none ∙ append-nil chars
+
+pub sent_nothing : (wire : WireState) (burst : Burst) → burst ≡ no_burst
+    → with_sent wire burst ≡ wire
+sent_nothing wire burst none =
+    λ i. record {
+      chars = chars_end wire.chars burst none i;
+      kept = sent_end wire.kept burst none i;
+    }

@@ -1,16 +1,11 @@
 -- A turn that sends nothing leaves the port as it is, and so do all after it.
-use Rattle.std.proofs.Common.{◌≡◌, ◌==◌, ℕ, zero, suc, ◌<◌, Bool, true, false, if◌then◌else◌, Option, Some, None, List, [], ◌∷◌, length, slice_get, refl, ap, ◌∙◌, arith}
-use Rattle.std.proofs.lemmas.Bool.{eqb-true}
+use Rattle.std.proofs.Common.{◌≡◌, ℕ, zero, suc, ◌<◌, Bool, true, false, if◌then◌else◌, Option, Some, None, List, [], ◌∷◌, length, slice_get, refl, ap, ◌∙◌, arith}
 use Rattle.link_buffers.specs.Prelude.{list_at, highest}
 use Rattle.link_buffers.proofs.PriorityLaws.{highest_below-some}
-use Rattle.link_port.specs.Prelude.{Event, PortState, Burst, no_burst, packet_burst, burst_of, standing, waiting_in, turns_to, turn_sends}
+use Rattle.link_port.specs.Prelude.{PortState, Burst, no_burst, packet_burst, burst_of, standing, waiting_in, turns_to, turn_sends}
 use Rattle.link_model.specs.Outstanding.{Outstanding}
 use Rattle.link_model.specs.Output.{Output, Ok, RetryStopped, ErrorStopped, Failed, turns, started, credited, startable}
 use Rattle.link_wires.specs.Wires.{both_bursts, turned, bursts}
-
-pub none_are : (sent : List Event) → (length sent == 0) ≡ true → sent ≡ []
-none_are [] is = refl
-none_are (e ∷ sent) is = absurd (omega (arith, eqb-true (suc (length sent)) 0 is))
 
 -- a packet that is there is sent, from a port that stands as this one
 packet_sent : (at : PortState) (ack : ℕ) (packets : List (List ℕ)) → 0 < length packets

@@ -1,4 +1,5 @@
 pub mod Kept
+pub mod Heads
 pub mod Deliveries
 pub mod Acting
 pub mod Wires

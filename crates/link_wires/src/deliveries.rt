@@ -1,109 +1,80 @@
 //! What a port does with characters of a wire.
-ghost use Rattle.std.specs.Prelude.{◌≡◌, ◌≤◌, ℕ, suc, List, [], ◌∷◌, Some, None, length, take, drop, IfOk, IfNone, OnOk, IsTrue, IsFalse};
-ghost use Rattle.link_port.specs.Prelude.{Event, Ctl, completed_events};
+ghost use Rattle.std.specs.Prelude.{◌≡◌, ◌≤◌, ℕ, suc, List, [], ◌∷◌, Some, None, length, take, drop, IfOk, OnOk, IsTrue, IsFalse};
+ghost use Rattle.link_port.specs.Prelude.{Event, Ctl, Pkt, Bad, completed_events};
 ghost use Rattle.link_model.specs.Reading.{placed};
 ghost use Rattle.link_wires.specs.Deliveries.{delivered, told_of, undetected, come, comes, flows, flow_of, kept_after, Shows, IsLeft};
-ghost use Rattle.link_wires.specs.Kept.{behind};
 
-use crate::came::Came;
-use crate::moves::Move;
+use crate::came::Delivery;
+use crate::kept::Kept;
+use crate::unsent::Unsent;
 use crate::wire::Wire;
-use arrayvec::ArrayVec;
-use link_model::Event;
 use link_port::{Completed, Port};
 use rio_chars::{Char, NoMemory};
-use rio_packets::Packet;
+use rio_packets::{Cause, Packet};
 use rio_symbols::Symbol;
 use std::alloc::Global;
-use std::collections::VecDeque;
-
-/// The packets that the last event freed. A list with room for so many is dear to make, so the wire
-/// has it once for all.
-type Freed = ArrayVec<Packet, 31>;
-
-/// What came of characters that a port took.
-#[derive(Drop)]
-pub struct Delivery {
-    /// The characters: all that were to be taken, or those up to the one that completed an event
-    /// which was not sent.
-    pub got: Vec<Char>,
-    /// What the port did with packets, in order.
-    pub moves: Vec<Move>,
-    /// The symbols that answer, in order.
-    pub replies: Vec<Symbol>,
-    /// The first event that was acted on and was not sent. Nothing that it did is told.
-    pub undetected: Option<Event>,
-}
 
 impl Wire {
     /// Has the port at the end of the wire take characters from the front. Each event that is acted
     /// on must equal one that was sent and that no acted event has met: the first that equals it is
-    /// taken away, and all before it. Where none does, the delivery ends with the character that
-    /// completed the event. `NoMemory` is the only other answer; after it, and after an event that
-    /// was not sent, the wire and the port are of no use.
+    /// taken away, and all before it. If none does, the delivery ends with the character that
+    /// completed the event, which is returned; nothing that it did is told. What came of the
+    /// characters is put into `came`, and what was there goes. `NoMemory` is the only other answer;
+    /// after it, and after an event that was not sent, the wire and the port are of no use.
     pub fn deliver(
         &mut self,
         alloc: Global,
         count: usize,
         port: &mut Port,
-    ) -> Result<Delivery, NoMemory>
+        came: &mut Delivery,
+    ) -> Result<Option<Unsent>, NoMemory>
         requires { count ≤ length self.old.chars }
-        ensures got { IfOk result (λ came. came.got.items
+        ensures got { OnOk result (came.new.got.items
             ≡ take (told_of (delivered port.old self.old.kept (take count self.old.chars))).count
             (take count self.old.chars)) }
-        ensures moves { IfOk result (λ came. came.moves.items
+        ensures moves { OnOk result (came.new.moves.items
             ≡ (told_of (delivered port.old self.old.kept (take count self.old.chars))).moves) }
-        ensures replies { IfOk result (λ came. came.replies.items
+        ensures replies { OnOk result (came.new.replies.items
             ≡ (told_of (delivered port.old self.old.kept (take count self.old.chars))).replies) }
-        ensures undetected { IfOk result (λ came. came.undetected
+        ensures undetected { IfOk result (λ unsent. unsent
             ≡ undetected (delivered port.old self.old.kept (take count self.old.chars))) }
         ensures left { OnOk result (IsLeft (delivered port.old self.old.kept
             (take count self.old.chars)) count self.old port.new self.new) }
     {
-        let mut got = self.take_front(alloc, count)?;
-        let mut came = Came {
-            moves: Vec::new(alloc),
-            replies: Vec::new(alloc),
-        };
-        let (taken, undetected) = lead(
+        came.moves.clear();
+        came.replies.clear();
+        let (read, unsent) = lead(
+            alloc,
             port,
             &mut self.kept,
-            got.as_slice(),
-            &mut self.packet,
-            &mut self.freed,
-            &mut came,
+            &self.chars.as_slice()[..count],
+            came,
         )?;
-        got.truncate(taken);
-        Ok(Delivery {
-            got,
-            moves: came.moves,
-            replies: came.replies,
-            undetected,
-        })
+        self.take_front(count, read, &mut came.got)?;
+        Ok(unsent)
     }
 }
 
 /// Leads characters through a port, up to an event that was not sent. Returns how many it took, and
 /// that event.
 fn lead(
+    alloc: Global,
     port: &mut Port,
-    kept: &mut VecDeque<Event>,
+    kept: &mut Kept,
     chars: &[Char],
-    packet: &mut Packet,
-    freed: &mut Freed,
-    came: &mut Came,
-) -> Result<(usize, Option<Event>), NoMemory>
+    came: &mut Delivery,
+) -> Result<(usize, Option<Unsent>), NoMemory>
     ensures shows { IfOk result (λ end. Shows (flows chars.now
-        (flow_of port.old kept.old.items came.old.moves.items came.old.replies.items [] 0)) end.1
-        end.0 port.new kept.new.items came.new.moves.items came.new.replies.items) }
+        (flow_of port.old kept.old came.old.moves.items came.old.replies.items [] 0)) end.1
+        end.0 port.new kept.new came.new.moves.items came.new.replies.items) }
     ensures within { IfOk result (λ end. end.0 ≤ length chars.now) }
 {
     let mut taken = 0;
     while taken < chars.len() {
-        let (count, completed) = port.read(rest(chars, taken), packet);
+        let (count, completed) = port.read(rest(chars, taken), &mut came.packet);
         taken += count;
-        if let Some(event) = act_all(port, kept, completed, packet, freed, came)? {
-            return Ok((taken, Some(event)));
+        if let Some(unsent) = act_all(alloc, port, kept, completed, came)? {
+            return Ok((taken, Some(unsent)));
         }
     }
     Ok((taken, None))
@@ -120,127 +91,182 @@ fn rest(chars: &[Char], taken: usize) -> &[Char]
 /// Leads the events of a run of characters through a port, up to one that was not sent, which it
 /// returns.
 fn act_all(
+    alloc: Global,
     port: &mut Port,
-    kept: &mut VecDeque<Event>,
+    kept: &mut Kept,
     completed: Completed,
-    packet: &Packet,
-    freed: &mut Freed,
-    came: &mut Came,
-) -> Result<Option<Event>, NoMemory>
+    came: &mut Delivery,
+) -> Result<Option<Unsent>, NoMemory>
     ensures shows { IfOk result (λ found. (acted : List Event) (at : ℕ)
-        → Shows (come (placed at (completed_events completed packet.now))
-        (flow_of port.old kept.old.items came.old.moves.items came.old.replies.items acted
-        (suc at))) found (suc at) port.new kept.new.items came.new.moves.items
+        → Shows (come (placed at (completed_events completed came.old.packet))
+        (flow_of port.old kept.old came.old.moves.items came.old.replies.items acted
+        (suc at))) found (suc at) port.new kept.new came.new.moves.items
         came.new.replies.items) }
     ensures place { OnOk result (port.new.place ≡ port.old.place) }
 {
     match completed {
         Completed::Nothing => Ok(None),
-        Completed::Symbol(symbol) => act_one(port, kept, Event::Ctl(symbol), freed, came),
-        Completed::Bad(cause) => act_one(port, kept, Event::Bad(cause), freed, came),
+        Completed::Symbol(symbol) => lone_symbol(alloc, port, kept, symbol, came),
+        Completed::Bad(cause) => lone_bad(port, kept, cause, came),
         Completed::Packet(ack, symbol) => {
-            act_two(
-                port,
-                kept,
-                Event::Pkt(ack, packet.copy()),
-                symbol,
-                freed,
-                came,
-            )
+            packet_and_symbol(alloc, port, kept, ack, symbol, came)
         }
         Completed::NoPacket(cause, symbol) => {
-            act_two(port, kept, Event::Bad(cause), symbol, freed, came)
+            bad_and_symbol(alloc, port, kept, cause, symbol, came)
         }
     }
 }
 
-/// Leads the only event of a run through a port.
-fn act_one(
+/// Leads a symbol through a port that is all that a run says.
+fn lone_symbol(
+    alloc: Global,
     port: &mut Port,
-    kept: &mut VecDeque<Event>,
-    event: Event,
-    freed: &mut Freed,
-    came: &mut Came,
-) -> Result<Option<Event>, NoMemory>
+    kept: &mut Kept,
+    symbol: Symbol,
+    came: &mut Delivery,
+) -> Result<Option<Unsent>, NoMemory>
     ensures shows { IfOk result (λ found. (acted : List Event) (at : ℕ)
-        → Shows (come (placed at (event ∷ [])) (flow_of port.old kept.old.items came.old.moves.items
-        came.old.replies.items acted (suc at))) found (suc at) port.new kept.new.items
+        → Shows (come (placed at (Ctl symbol ∷ [])) (flow_of port.old kept.old came.old.moves.items
+        came.old.replies.items acted (suc at))) found (suc at) port.new kept.new
         came.new.moves.items came.new.replies.items) }
     ensures place { OnOk result (port.new.place ≡ port.old.place) }
 {
-    let found = act(port, kept, event, freed, came)?;
+    let found = act_symbol(alloc, port, kept, symbol, came)?;
     Ok(found)
 }
 
-/// Leads the event of a packet through a port, and then the symbol that ended it.
-fn act_two(
+/// Leads what is neither a packet nor a symbol through a port, and is all that a run says.
+fn lone_bad(
     port: &mut Port,
-    kept: &mut VecDeque<Event>,
-    event: Event,
-    symbol: Symbol,
-    freed: &mut Freed,
-    came: &mut Came,
-) -> Result<Option<Event>, NoMemory>
+    kept: &Kept,
+    cause: Cause,
+    came: &mut Delivery,
+) -> Result<Option<Unsent>, NoMemory>
     ensures shows { IfOk result (λ found. (acted : List Event) (at : ℕ)
-        → Shows (come (placed at (event ∷ Ctl symbol ∷ []))
-        (flow_of port.old kept.old.items came.old.moves.items came.old.replies.items acted
-        (suc at))) found (suc at) port.new kept.new.items came.new.moves.items
-        came.new.replies.items) }
+        → Shows (come (placed at (Bad cause ∷ [])) (flow_of port.old kept.now came.old.moves.items
+        came.old.replies.items acted (suc at))) found (suc at) port.new kept.now
+        came.new.moves.items came.new.replies.items) }
     ensures place { OnOk result (port.new.place ≡ port.old.place) }
 {
-    if let Some(event) = act(port, kept, event, freed, came)? {
-        return Ok(Some(event));
-    }
-    let found = act(port, kept, Event::Ctl(symbol), freed, came)?;
-    Ok(found)
-}
-
-/// Leads an event through a port, unless it is acted on and was not sent: then it is returned.
-fn act(
-    port: &mut Port,
-    kept: &mut VecDeque<Event>,
-    event: Event,
-    freed: &mut Freed,
-    came: &mut Came,
-) -> Result<Option<Event>, NoMemory>
-    ensures shows { IfOk result (λ found. (acted : List Event) (at : ℕ)
-        → Shows (comes (flow_of port.old kept.old.items came.old.moves.items came.old.replies.items
-        acted (suc at)) (at, event)) found (suc at) port.new kept.new.items came.new.moves.items
-        came.new.replies.items) }
-    ensures place { OnOk result (port.new.place ≡ port.old.place) }
-{
-    if !meet(port, kept, &event) {
-        return Ok(Some(event));
-    }
-    freed.clear();
-    let done = port.act(&event, freed);
-    came.note(event, done, freed.as_slice())?;
+    act_bad(port, cause, came)?;
     Ok(None)
 }
 
-/// Looks for an event that is acted on among those that were sent, and takes it away and all before
-/// it. Returns whether it is there, or is not acted on.
-fn meet(port: &Port, kept: &mut VecDeque<Event>, event: &Event) -> bool
-    ensures met { IsTrue result → kept_after port.now event.now kept.old.items
-        ≡ Some kept.new.items }
-    ensures missed { IsFalse result → kept_after port.now event.now kept.old.items ≡ None }
+/// Leads a packet through a port, and then the symbol that ended it.
+fn packet_and_symbol(
+    alloc: Global,
+    port: &mut Port,
+    kept: &mut Kept,
+    ack: u8,
+    symbol: Symbol,
+    came: &mut Delivery,
+) -> Result<Option<Unsent>, NoMemory>
+    ensures shows { IfOk result (λ found. (acted : List Event) (at : ℕ)
+        → Shows (come (placed at (Pkt ack came.old.packet ∷ Ctl symbol ∷ []))
+        (flow_of port.old kept.old came.old.moves.items came.old.replies.items acted
+        (suc at))) found (suc at) port.new kept.new came.new.moves.items
+        came.new.replies.items) }
+    ensures place { OnOk result (port.new.place ≡ port.old.place) }
 {
-    if !port.is_acted(event) {
-        return true;
+    if let Some(unsent) = act_packet(alloc, port, kept, ack, came)? {
+        return Ok(Some(unsent));
     }
-    find(kept, event)
+    let found = act_symbol(alloc, port, kept, symbol, came)?;
+    Ok(found)
 }
 
-/// Looks for the first event that equals another, and takes it away and all before it. Where there
-/// is none, all are taken away.
-fn find(kept: &mut VecDeque<Event>, event: &Event) -> bool
-    ensures found { IsTrue result → behind event.now kept.old.items ≡ Some kept.new.items }
-    ensures missing { IsFalse result → behind event.now kept.old.items ≡ None }
+/// Leads what is no packet through a port, and then the symbol that ended it.
+fn bad_and_symbol(
+    alloc: Global,
+    port: &mut Port,
+    kept: &mut Kept,
+    cause: Cause,
+    symbol: Symbol,
+    came: &mut Delivery,
+) -> Result<Option<Unsent>, NoMemory>
+    ensures shows { IfOk result (λ found. (acted : List Event) (at : ℕ)
+        → Shows (come (placed at (Bad cause ∷ Ctl symbol ∷ []))
+        (flow_of port.old kept.old came.old.moves.items came.old.replies.items acted
+        (suc at))) found (suc at) port.new kept.new came.new.moves.items
+        came.new.replies.items) }
+    ensures place { OnOk result (port.new.place ≡ port.old.place) }
 {
-    while let Some(sent) = kept.pop_front() {
-        if sent == *event {
-            return true;
-        }
+    act_bad(port, cause, came)?;
+    let found = act_symbol(alloc, port, kept, symbol, came)?;
+    Ok(found)
+}
+
+/// Leads a symbol through a port, unless it was not sent: then it is returned.
+fn act_symbol(
+    alloc: Global,
+    port: &mut Port,
+    kept: &mut Kept,
+    symbol: Symbol,
+    came: &mut Delivery,
+) -> Result<Option<Unsent>, NoMemory>
+    ensures shows { IfOk result (λ found. (acted : List Event) (at : ℕ)
+        → Shows (comes (flow_of port.old kept.old came.old.moves.items came.old.replies.items
+        acted (suc at)) (at, Ctl symbol)) found (suc at) port.new kept.new came.new.moves.items
+        came.new.replies.items) }
+    ensures place { OnOk result (port.new.place ≡ port.old.place) }
+{
+    if !kept.find_symbol(symbol) {
+        let unsent = Unsent::symbol(alloc, symbol)?;
+        return Ok(Some(unsent));
     }
-    false
+    came.freed.clear();
+    let reply = port.act_symbol(symbol, &mut came.freed);
+    came.free()?;
+    came.reply(reply)?;
+    Ok(None)
+}
+
+/// Leads a packet through a port, unless it is acted on and was not sent: then it is returned.
+fn act_packet(
+    alloc: Global,
+    port: &mut Port,
+    kept: &mut Kept,
+    ack: u8,
+    came: &mut Delivery,
+) -> Result<Option<Unsent>, NoMemory>
+    ensures shows { IfOk result (λ found. (acted : List Event) (at : ℕ)
+        → Shows (comes (flow_of port.old kept.old came.old.moves.items came.old.replies.items
+        acted (suc at)) (at, Pkt ack came.old.packet)) found (suc at) port.new kept.new
+        came.new.moves.items came.new.replies.items) }
+    ensures place { OnOk result (port.new.place ≡ port.old.place) }
+{
+    if !meet(port, kept, ack, &came.packet) {
+        let unsent = Unsent::packet(alloc, ack, &came.packet)?;
+        return Ok(Some(unsent));
+    }
+    let done = port.act_packet(ack, &came.packet);
+    came.hold(done.held)?;
+    came.reply(done.reply)?;
+    Ok(None)
+}
+
+/// Leads what is neither a packet nor a symbol through a port, which never acts on it.
+fn act_bad(port: &mut Port, cause: Cause, came: &mut Delivery) -> Result<(), NoMemory>
+    ensures shows { OnOk result ((kept acted : List Event) (at : ℕ)
+        → Shows (comes (flow_of port.old kept came.old.moves.items came.old.replies.items acted
+        (suc at)) (at, Bad cause)) None (suc at) port.new kept came.new.moves.items
+        came.new.replies.items) }
+    ensures place { OnOk result (port.new.place ≡ port.old.place) }
+{
+    let reply = port.act_bad(cause);
+    came.reply(reply)?;
+    Ok(())
+}
+
+/// Looks for a packet that is acted on among what was sent, and takes it away and all before it.
+/// Returns whether it is there, or is not acted on.
+fn meet(port: &Port, kept: &mut Kept, ack: u8, packet: &Packet) -> bool
+    ensures met { IsTrue result
+        → kept_after port.now (Pkt ack packet.now) kept.old ≡ Some kept.new }
+    ensures missed { IsFalse result → kept_after port.now (Pkt ack packet.now) kept.old ≡ None }
+{
+    if !port.expects(ack) {
+        return true;
+    }
+    kept.find_packet(ack, packet)
 }

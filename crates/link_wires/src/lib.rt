@@ -12,27 +12,33 @@
 //!
 //! - [`Wire`]: one way, with `pump`, `tell`, `reply`, `deliver`, `edit` and `silence`
 //! - [`Delivery`] and [`Move`]: what came of characters that a port took
+//! - [`Unsent`]: an event that a port acted on and that was not sent
 //! - [`Edit`] and [`Edited`]: a change of the characters, and what came of it
 //! - [`acted_events_are_sent_ones`], [`deliveries_go_by_pieces`] and
 //!   [`a_delivery_acts_on_what_was_sent`]: laws; the calls do nothing
 //!
 //! `specs` has the definitions: `Kept`, which events are found; `Deliveries`, what a port does with
-//! characters; and `Wires`, what the calls of a wire do.
+//! characters; and `Wires`, what the calls of a wire do. `Heads` says which events are kept as
+//! heads and bytes.
 #![tactic(auto)]
 
 mod came;
 mod deliveries;
 mod edits;
+mod kept;
 mod laws;
 mod moves;
 mod pumps;
 mod queue;
+mod sends;
+mod unsent;
 mod wire;
 
-pub use deliveries::Delivery;
+pub use came::Delivery;
 pub use edits::{Edit, Edited};
 pub use laws::{
     a_delivery_acts_on_what_was_sent, acted_events_are_sent_ones, deliveries_go_by_pieces,
 };
 pub use moves::Move;
+pub use unsent::Unsent;
 pub use wire::Wire;

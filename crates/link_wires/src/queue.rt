@@ -1,82 +1,91 @@
-//! The characters of a wire, first in first out.
+//! `Queue`: what stands on a wire, first in first out.
 ghost use Rattle.std.specs.Prelude.{◌≡◌, ◌≤◌, ◌<◌, ◌+◌, ◌++◌, ◌∷◌, [], length, take, drop, slice_set, OnOk, OnErr};
 
 use rio_chars::{Char, NoMemory};
 use std::alloc::Global;
 use std::marker::Model;
 
-/// Characters, first in first out. Those before `head` were taken, or are room; they go once they
-/// are more than the half, so that taking costs what is taken, and putting costs what is put. A
-/// change costs what lies on the shorter side of it.
+/// Items, first in first out. Those before `head` were taken, or are room; they go once they are
+/// more than the half, so that taking costs what is taken, and putting costs what is put.
 #[derive(Drop)]
-pub(crate) struct CharQueue {
-    chars: Vec<Char>,
+pub(crate) struct Queue<T> {
+    items: Vec<T>,
     head: usize,
 }
 
-impl Model for CharQueue {
+impl<T> Model for Queue<T> {
     ghost use Rattle.std.specs.Prelude.{List, length, drop, ◌≤◌};
-    ghost use Rattle.rio_chars.specs.declared.chars.Char.{Char};
 
-    ghost Value = { List Char };
+    ghost Value = { List T };
 
-    ghost view = { λ queue. drop queue.head queue.chars.items };
+    ghost view = { λ queue. drop queue.head queue.items.items };
 
-    ghost invariant = { λ queue. queue.head ≤ length queue.chars.items };
+    ghost invariant = { λ queue. queue.head ≤ length queue.items.items };
 }
 
-impl CharQueue {
-    /// No characters. It takes no memory yet.
-    pub(crate) fn new(alloc: Global) -> CharQueue
+impl<T: Copy> Queue<T> {
+    /// No items. It takes no memory yet.
+    pub(crate) fn new(alloc: Global) -> Queue<T>
         ensures { result ≡ [] }
     {
-        CharQueue {
-            chars: Vec::new(alloc),
+        Queue {
+            items: Vec::new(alloc),
             head: 0,
         }
     }
 
-    /// The number of characters.
+    /// The number of items.
     pub(crate) fn len(&self) -> usize
         ensures { result ≡ length self.now }
     {
-        self.chars.len() - self.head
+        self.items.len() - self.head
     }
 
-    /// The characters, in order.
-    pub(crate) fn as_slice(&self) -> &[Char]
+    /// The items, in order.
+    pub(crate) fn as_slice(&self) -> &[T]
         ensures { result.now ≡ self.now }
     {
-        &self.chars.as_slice()[self.head..]
+        &self.items.as_slice()[self.head..]
     }
 
-    /// Puts characters at the end.
-    pub(crate) fn put(&mut self, more: &[Char]) -> Result<(), NoMemory>
-        ensures { OnOk result (self.new ≡ self.old ++ more.now) }
+    /// Takes all items away.
+    pub(crate) fn clear(&mut self)
+        ensures { self.new ≡ [] }
     {
-        match self.chars.extend_from_slice(more) {
+        self.items.clear();
+        self.head = 0;
+    }
+
+    /// Puts items at the end. If memory is not given, nothing changes.
+    pub(crate) fn put(&mut self, more: &[T]) -> Result<(), NoMemory>
+        ensures put { OnOk result (self.new ≡ self.old ++ more.now) }
+        ensures unchanged { OnErr result (self.new ≡ self.old) }
+    {
+        match self.items.extend_from_slice(more) {
             Ok(()) => Ok(()),
             Err(_) => Err(NoMemory),
         }
     }
 
-    /// Takes characters away from the front.
+    /// Takes items away from the front.
     pub(crate) fn skip(&mut self, count: usize)
         requires { count ≤ length self.old }
         ensures { self.new ≡ drop count self.old }
     {
         self.head += count;
-        if self.head > self.chars.len() / 2 {
-            compact(&mut self.chars, &mut self.head);
+        if self.head > self.items.len() / 2 {
+            compact(&mut self.items, &mut self.head);
         }
     }
+}
 
+impl Queue<Char> {
     /// The character at a place becomes another.
     pub(crate) fn set(&mut self, place: usize, ch: Char)
         requires { place < length self.old }
         ensures { self.new ≡ slice_set self.old place ch }
     {
-        self.chars[self.head + place] = ch;
+        self.items[self.head + place] = ch;
     }
 
     /// Characters from a place on go away, up to another place. The shorter side is moved.
@@ -86,10 +95,10 @@ impl CharQueue {
         ensures { self.new ≡ take place self.old ++ drop end self.old }
     {
         if place < self.len() - end {
-            bring_forwards(&mut self.chars, self.head, place, end);
+            bring_forwards(&mut self.items, self.head, place, end);
             self.skip(end - place);
         } else {
-            self.chars.drain(self.head + place..self.head + end);
+            self.items.drain(self.head + place..self.head + end);
         }
     }
 
@@ -101,28 +110,28 @@ impl CharQueue {
         ensures unchanged { OnErr result (self.new ≡ self.old) }
     {
         if place < self.len() / 2 {
-            make_room(&mut self.chars, &mut self.head)?;
-            insert_near_front(&mut self.chars, &mut self.head, place, ch);
+            make_room(&mut self.items, &mut self.head)?;
+            insert_near_front(&mut self.items, &mut self.head, place, ch);
             return Ok(());
         }
-        match self.chars.insert(self.head + place, ch) {
+        match self.items.insert(self.head + place, ch) {
             Ok(()) => Ok(()),
             Err(_) => Err(NoMemory),
         }
     }
 }
 
-/// The characters that were taken go, which are at least as many as the others.
-fn compact(chars: &mut Vec<Char>, head: &mut usize)
-    requires within { head.old ≤ length chars.old.items }
-    requires half { length chars.old.items ≤ head.old + head.old }
-    ensures chars { chars.new.items ≡ drop head.old chars.old.items }
+/// The items that were taken go, which are at least as many as the others.
+fn compact<T: Copy>(items: &mut Vec<T>, head: &mut usize)
+    requires within { head.old ≤ length items.old.items }
+    requires half { length items.old.items ≤ head.old + head.old }
+    ensures items { items.new.items ≡ drop head.old items.old.items }
     ensures head { head.new ≡ 0 }
 {
-    let left = chars.len() - *head;
-    let (front, back) = chars.as_mut_slice().split_at_mut(*head);
+    let left = items.len() - *head;
+    let (front, back) = items.as_mut_slice().split_at_mut(*head);
     front[..left].copy_from_slice(back);
-    chars.truncate(left);
+    items.truncate(left);
     *head = 0;
 }
 

@@ -1,27 +1,19 @@
 //! `Wire`: one way of a link.
-ghost use Rattle.std.specs.Prelude.{◌≡◌, ◌≤◌, length, take, drop, IfOk, OnOk};
+ghost use Rattle.std.specs.Prelude.{◌≡◌, ◌≤◌, length, take, drop, OnOk};
 ghost use Rattle.link_wires.specs.Wires.{empty_wire, silenced};
 
-use crate::queue::CharQueue;
-use arrayvec::ArrayVec;
-use link_model::Event;
+use crate::kept::Kept;
+use crate::queue::Queue;
 use rio_chars::{Char, NoMemory};
-use rio_packets::Packet;
 use std::alloc::Global;
-use std::collections::VecDeque;
 use std::marker::Model;
 
 /// One way of a link: the characters on it, and the events that were sent on it and that no acted
-/// event has met. Packets and lists of them are dear to make, so a wire has one of each, which its
-/// deliveries use; what they hold between deliveries means nothing.
+/// event has met.
 #[derive(Drop)]
 pub struct Wire {
-    pub(crate) chars: CharQueue,
-    pub(crate) kept: VecDeque<Event>,
-    /// Where a packet is put that comes in.
-    pub(crate) packet: Packet,
-    /// Where packets are put that an event frees.
-    pub(crate) freed: ArrayVec<Packet, 31>,
+    pub(crate) chars: Queue<Char>,
+    pub(crate) kept: Kept,
 }
 
 impl Model for Wire {
@@ -29,7 +21,7 @@ impl Model for Wire {
 
     ghost Value = { WireState };
 
-    ghost view = { λ wire. record { chars = wire.chars; kept = wire.kept.items } };
+    ghost view = { λ wire. record { chars = wire.chars; kept = wire.kept } };
 }
 
 impl Wire {
@@ -38,10 +30,8 @@ impl Wire {
         ensures { result ≡ empty_wire }
     {
         Wire {
-            chars: CharQueue::new(alloc),
-            kept: VecDeque::new(alloc),
-            packet: Packet::default(),
-            freed: ArrayVec::new(),
+            chars: Queue::new(alloc),
+            kept: Kept::new(alloc),
         }
     }
 
@@ -59,20 +49,23 @@ impl Wire {
         self.kept.clear();
     }
 
-    /// Takes characters from the front.
-    pub(crate) fn take_front(&mut self, alloc: Global, count: usize) -> Result<Vec<Char>, NoMemory>
-        requires { count ≤ length self.old.chars }
-        ensures taken { IfOk result (λ front. front.items ≡ take count self.old.chars) }
-        ensures left { OnOk result (self.new ≡ record self.old {
-          chars = drop count
-              self.old.chars;
-        }) }
+    /// Takes characters away from the front. Those that were read of them are what was got.
+    pub(crate) fn take_front(
+        &mut self,
+        count: usize,
+        read: usize,
+        got: &mut Vec<Char>,
+    ) -> Result<(), NoMemory>
+        requires within { count ≤ length self.old.chars }
+        requires read { read ≤ count }
+        ensures got { OnOk result (got.new.items ≡ take read (take count self.old.chars)) }
+        ensures left { OnOk result (self.new
+            ≡ record self.old { chars = drop count self.old.chars }) }
     {
-        let mut front = Vec::new(alloc);
-        let Ok(()) = front.extend_from_slice(&self.chars.as_slice()[..count]) else {
-            return Err(NoMemory);
-        };
+        got.clear();
+        let front = &self.chars.as_slice()[..count];
+        got.extend_from_slice(&front[..read])?;
         self.chars.skip(count);
-        Ok(front)
+        Ok(())
     }
 }

@@ -12,7 +12,7 @@ returns-in-Some-clause-shows c =
     let count = c.read-count.result.0 in
     let port = c.loop-taken.port in
     let start =
-    flows chars (flow_of c.args.port.now c.args.kept.now.items c.args.came.now.moves.items
+    flows chars (flow_of c.args.port.now c.args.kept.now c.args.came.now.moves.items
     c.args.came.now.replies.items [] 0) in
     let here = c.read-count.ensures in
     let size : length c.rest.result.now ≡ length chars - taken =
@@ -20,13 +20,13 @@ returns-in-Some-clause-shows c =
     let left : 0 < length c.rest.result.now = omega (arith, size) in
     let shows =
     run_shows port c.read-count.new.self c.act_all.new.port c.rest.result.now (drop taken chars)
-    (completed_events c.read-count.result.1 c.read-count.new.packet) c.in_ok-event.field-0
-    (Some c.in-Some.event)
-    c.loop-taken.kept.items c.act_all.new.kept.items c.loop-taken.came.moves.items
+    (completed_events c.read-count.result.1 c.read-count.new.packet) c.in_ok-unsent.field-0
+    (Some c.in-Some.unsent)
+    c.loop-taken.kept c.act_all.new.kept c.loop-taken.came.moves.items
     c.act_all.new.came.moves.items c.loop-taken.came.replies.items c.act_all.new.came.replies.items
-    here.state here.events c.rest.ensures c.in-Some.is c.in_ok-event.ensures.shows in
-    lead_missed start chars taken count c.in-Some.event port c.act_all.new.port
-    c.loop-taken.kept.items c.act_all.new.kept.items c.loop-taken.came.moves.items
+    here.state here.events c.rest.ensures c.in-Some.is c.in_ok-unsent.ensures.shows in
+    lead_missed start chars taken count c.in-Some.unsent port c.act_all.new.port
+    c.loop-taken.kept c.act_all.new.kept c.loop-taken.came.moves.items
     c.act_all.new.came.moves.items
     c.loop-taken.came.replies.items c.act_all.new.came.replies.items c.loop-taken.invariant.so_far.0
     c.loop-taken.invariant.so_far.1 (here.some left)
@@ -39,7 +39,7 @@ loop-taken-preserved c =
     let count = c.read-count.result.0 in
     let port = c.loop-taken.port in
     let start =
-    flows chars (flow_of c.args.port.now c.args.kept.now.items c.args.came.now.moves.items
+    flows chars (flow_of c.args.port.now c.args.kept.now c.args.came.now.moves.items
     c.args.came.now.replies.items [] 0) in
     let here = c.read-count.ensures in
     let size : length c.rest.result.now ≡ length chars - taken =
@@ -48,20 +48,20 @@ loop-taken-preserved c =
     let within : count ≤ length c.rest.result.now = here.within in
     let shows =
     run_shows port c.read-count.new.self c.act_all.new.port c.rest.result.now (drop taken chars)
-    (completed_events c.read-count.result.1 c.read-count.new.packet) c.in_ok-event.field-0 None
-    c.loop-taken.kept.items c.act_all.new.kept.items c.loop-taken.came.moves.items
+    (completed_events c.read-count.result.1 c.read-count.new.packet) c.in_ok-unsent.field-0 None
+    c.loop-taken.kept c.act_all.new.kept c.loop-taken.came.moves.items
     c.act_all.new.came.moves.items c.loop-taken.came.replies.items c.act_all.new.came.replies.items
-    here.state here.events c.rest.ensures c.in_default.is c.in_ok-event.ensures.shows in
+    here.state here.events c.rest.ensures c.in_default.is c.in_ok-unsent.ensures.shows in
     record {
       within = omega (arith, size, within);
       so_far =
-          lead_on start chars taken count port c.act_all.new.port c.loop-taken.kept.items
-          c.act_all.new.kept.items c.loop-taken.came.moves.items c.act_all.new.came.moves.items
+          lead_on start chars taken count port c.act_all.new.port c.loop-taken.kept
+          c.act_all.new.kept c.loop-taken.came.moves.items c.act_all.new.came.moves.items
           c.loop-taken.came.replies.items c.act_all.new.came.replies.items
           c.loop-taken.invariant.so_far.0 c.loop-taken.invariant.so_far.1 (here.some left)
           (here.count ∙ ap (λ (l : List Char). (telling_front port.place l).count) c.rest.ensures)
           shows
-          (c.in_ok-event.ensures.place
+          (c.in_ok-unsent.ensures.place
           ∙ ap (λ (p : PortState). p.place) here.state
           ∙ ap (λ (l : List Char). (telling_front port.place l).step.place) c.rest.ensures);
     }
@@ -69,8 +69,8 @@ loop-taken-preserved c =
 pub returns-clause-shows : goal.returns-clause-shows
 returns-clause-shows c =
     let all : length c.args.chars.now ≤ c.loop-taken.taken = omega arith in
-    lead_ended (flows c.args.chars.now (flow_of c.args.port.now c.args.kept.now.items
+    lead_ended (flows c.args.chars.now (flow_of c.args.port.now c.args.kept.now
     c.args.came.now.moves.items c.args.came.now.replies.items [] 0)) c.args.chars.now
     c.loop-taken.taken c.loop-taken.port
-    c.loop-taken.kept.items c.loop-taken.came.moves.items c.loop-taken.came.replies.items
+    c.loop-taken.kept c.loop-taken.came.moves.items c.loop-taken.came.replies.items
     c.loop-taken.invariant.so_far.0 c.loop-taken.invariant.so_far.1 all

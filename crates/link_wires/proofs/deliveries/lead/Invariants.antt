@@ -9,8 +9,8 @@ invariant-loop-taken l = record {
   within : l.taken ≤ length l.chars;
   so_far : (acted : List Event)
       × (flows (drop l.taken l.chars)
-      (flow_of l.port l.kept.items l.came.moves.items l.came.replies.items acted l.taken)
-      ≡ flows l.chars (flow_of l.initial.port l.initial.kept.items l.initial.came.moves.items
+      (flow_of l.port l.kept l.came.moves.items l.came.replies.items acted l.taken)
+      ≡ flows l.chars (flow_of l.initial.port l.initial.kept l.initial.came.moves.items
       l.initial.came.replies.items [] 0));
 }
 
