@@ -1,8 +1,8 @@
 -- Parts of the schedule that calls do, one after another.
 use Rattle.std.proofs.Common.{◌≡◌, Bool, true, false, MatchBool, List, [], ◌∷◌, ◌++◌, refl, sym, ap, ◌∙◌, subst, append_assoc, append-nil, Result, Ok, Err}
 use Rattle.link_model.specs.declared.event.Event.{Event}
-use Rattle.link_watch.specs.Stops.{CutAtFirst}
-use Rattle.link_machine.specs.Prelude.{Note, Side, A, B, LinkState}
+use Rattle.link_watch.proofs.StopLaws.{stopped_at_once, stopped_then, stopped_before}
+use Rattle.link_machine.specs.Prelude.{Note, Side, A, B, LinkState, Stopped}
 use Rattle.link_law.specs.declared.answers.LinkEnd.{LinkEnd}
 use Rattle.link_law.specs.declared.answers.LinkEnd.TheVariants.{Undetected, Failed, NoMemory}
 use Rattle.link_rest.specs.Schedules.{NextOf, WhereOf}
@@ -75,7 +75,6 @@ stops_next {W} {grew} {cut} watch P Q before mid old w new first next =
     ≡ acts_notes (At before) first.acts ++ acts_notes (At mid) next.acts =
     notes-append first.acts next.acts (At before)
     ∙ ap (λ (r : Reached). acts_notes (At before) first.acts ++ acts_notes r next.acts) there in
-    let s = next.stopped in
     record {
       acts = first.acts ++ next.acts;
       part = (
@@ -85,18 +84,10 @@ stops_next {W} {grew} {cut} watch P Q before mid old w new first next =
         first.part,
         subst (λ (r : Reached). Q r next.acts) (sym there) next.part,
       );
-      stopped = record {
-        front = acts_notes (At before) first.acts ++ s.front;
-        rest = s.rest;
-        whole =
-            notes
-            ∙ ap (λ (l : List Note). acts_notes (At before) first.acts ++ l) s.whole
-            ∙ sym (append_assoc (acts_notes (At before) first.acts) s.front s.rest);
-        mid = s.mid;
-        grown =
-            watch.on old w s.mid (acts_notes (At before) first.acts) s.front first.grown s.grown;
-        cut_at = s.cut_at;
-      };
+      stopped =
+          subst (λ (l : List Note). Stopped grew cut old l new) (sym notes)
+          (stopped_then grew cut watch.on old w new (acts_notes (At before) first.acts)
+          (acts_notes (At mid) next.acts) first.grown next.stopped);
     }
 
 pub ends_next : {W : Type 0} (grew : W → List Note → W → Type 0) (cut : W → Note → W → Type 0)
@@ -112,13 +103,6 @@ ends_next grew cut watch P Q before mid old w new NoMemory first does =
 
 -- ---- the first part ended the call
 
-more_cut : {W : Type 0} (cut : W → Note → W → Type 0) → ((w : W) (note : Note) → cut w note w)
-    → (rest more : List Note) (mid new : W) → CutAtFirst cut mid rest new
-    → CutAtFirst cut mid (rest ++ more) new
-more_cut cut none [] [] mid new h = h
-more_cut cut none [] (note ∷ more) mid new h = subst (λ w. cut mid note w) (sym h) (none mid note)
-more_cut cut none (note ∷ rest) more mid new h = h
-
 -- what may follow a part can always be done, where a sound link is asked for; and nothing of it is
 -- done after an event that was not sent
 pub record Follows (P Q : Part) (before : LinkState) : Type 0 where
@@ -131,22 +115,15 @@ stops_early : {W : Type 0} {grew : W → List Note → W → Type 0} {cut : W �
     → Stops grew cut P before old new → Stops grew cut (NextOf goes P Q) before old new
 stops_early {W} {grew} {cut} watch P Q before old new follows first =
     let more = follows.can first.acts first.part in
-    let s = first.stopped in
     let later = acts_notes (goes (At before) first.acts) more.0 in
     record {
       acts = first.acts ++ more.0;
       part = (first.acts, more.0, refl, first.part, more.1);
-      stopped = record {
-        front = s.front;
-        rest = s.rest ++ later;
-        whole =
-            notes-append first.acts more.0 (At before)
-            ∙ ap (λ (l : List Note). l ++ later) s.whole
-            ∙ append_assoc s.front s.rest later;
-        mid = s.mid;
-        grown = s.grown;
-        cut_at = more_cut cut watch.cut_none s.rest later s.mid new s.cut_at;
-      };
+      stopped =
+          subst (λ (l : List Note). Stopped grew cut old l new)
+          (sym (notes-append first.acts more.0 (At before)))
+          (stopped_before grew cut watch.cut_none old new (acts_notes (At before) first.acts) later
+          first.stopped);
     }
 
 comes_early : {W : Type 0} {grew : W → List Note → W → Type 0}
@@ -277,19 +254,9 @@ pub stops_at_once : {W : Type 0} (grew : W → List Note → W → Type 0) (cut 
 stops_at_once grew cut watch P before old acts part = record {
   acts = acts;
   part = part;
-  stopped = record {
-    front = [];
-    rest = acts_notes (At before) acts;
-    whole = refl;
-    mid = old;
-    grown = watch.none old;
-    cut_at = at_first (acts_notes (At before) acts);
-  };
+  stopped =
+      stopped_at_once grew cut watch.none watch.cut_none old (acts_notes (At before) acts);
 }
-  where
-    at_first : (rest : List Note) → CutAtFirst cut old rest old
-    at_first [] = refl
-    at_first (note ∷ rest) = watch.cut_none old note
 
 -- ---- deliveries of what stands on a wire
 

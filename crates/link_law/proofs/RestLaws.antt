@@ -1,4 +1,5 @@
--- A link that has nothing to do is left as it is: its ports send nothing, and it settles by nothing.
+-- A link that has nothing to do is left as it is: its ports send nothing, and it settles by
+-- nothing.
 use Rattle.std.proofs.Common.{◌≡◌, ◌&&◌, ◌||◌, ◌∙◌, ℕ, nat_lt, length, Bool, true, false, not, if◌then◌else◌, MatchBool, List, [], Option, Some, None, refl, sym, ap, subst}
 use Rattle.link_buffers.specs.Priorities.{highest}
 use Rattle.link_model.specs.Output as out

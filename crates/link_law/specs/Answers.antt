@@ -1,8 +1,7 @@
 -- What each call of a link answers.
 use Rattle.std.specs.Prelude.{Bool, true, false, ℕ, Option, Some, None, Result, Ok, Err, if◌then◌else◌}
 use Rattle.link_model.specs.declared.event.Event.{Event}
-use Rattle.link_machine.specs.Prelude.{other_side, Side, NoteEnd, has_chars, delivery_from, LinkState}
-use Rattle.link_watch.specs.declared.watch.NoteEnd.TheVariants as NoteEnds
+use Rattle.link_machine.specs.Prelude.{other_side, Side, has_chars, delivery_from, LinkState}
 use Rattle.link_wires.specs.Deliveries.{Delivered, Through, Undetected as Unsent}
 use Rattle.link_wires.specs.declared.edits.Edited.{Edited}
 use Rattle.link_wires.specs.declared.edits.Edited.TheVariants.{Done, Short}
@@ -42,9 +41,7 @@ OnGivenUp (Err (Undetected side e)) P = Unit {0}
 OnGivenUp (Err Failed) P = P
 OnGivenUp (Err NoMemory) P = P
 
--- of a delivery, by whether its notes were taken in, and by the event that was not sent
-abbrev pub end_of : Result (Unit {0}) NoteEnd → Side → Option Event → Result Edited LinkEnd
-end_of (Ok done) to None = Ok Done
-end_of (Ok done) to (Some e) = Err (Undetected to e)
-end_of (Err NoteEnds.Failed) to found = Err Failed
-end_of (Err NoteEnds.NoMemory) to found = Err NoMemory
+-- of a delivery whose notes were taken in, by the event that was not sent
+abbrev pub end_of : Side → Option Event → Result Edited LinkEnd
+end_of to None = Ok Done
+end_of to (Some e) = Err (Undetected to e)

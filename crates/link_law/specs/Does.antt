@@ -38,7 +38,8 @@ abbrev pub Did : {W : Type 0} → (W → List Note → W → Type 0) → (W → 
 Did grew cut P before old (Ok done) next new = Comes grew P before old (At next) new
 Did grew cut P before old (Err end) next new = Ends grew cut P before old end new
 
--- `Failed` comes only if the watch's count of failed notes rose, which rises at no other answer, and
+-- `Failed` comes only if the watch's count of failed notes rose, which rises at no other answer,
+-- and
 -- it never falls
 abbrev pub Counted : Result (Unit {0}) LinkEnd → ℕ → ℕ → Type 0
 Counted result old new =

@@ -5,12 +5,12 @@ ghost use Rattle.link_machine.specs.Prelude.{A, B, IsSoundLink, link};
 ghost use Rattle.link_rest.specs.Acts.{At, goes};
 ghost use Rattle.link_rest.specs.Schedules.{NextOf};
 ghost use Rattle.link_rest.specs.Settling.{Empties, Drains, TakesTurn, is_busy};
-ghost use Rattle.link_law.specs.Does.{Did, Counted, Pumps, end_of};
+ghost use Rattle.link_law.specs.Does.{Did, Counted};
 
 use crate::answers::LinkEnd;
 use crate::link::Link;
 use link_port::Port;
-use link_watch::{NoteEnd, Side, Watch};
+use link_watch::{Side, Watch};
 use std::alloc::Global;
 
 impl Link {
@@ -83,25 +83,6 @@ impl Link {
         Ok(())
     }
 
-    /// Has a port take one turn.
-    fn pump_once<W: Watch>(
-        &mut self,
-        alloc: Global,
-        side: Side,
-        a: &mut Port,
-        b: &mut Port,
-        watch: &mut W,
-    ) -> Result<(), LinkEnd>
-        ensures does { Did W.grew W.cut (Pumps side) (link self.old a.old b.old) watch.old
-            result (link self.new a.new b.new) watch.new }
-        ensures counts { Counted result (W.faults watch.old) (W.faults watch.new) }
-    {
-        if let Err(end) = self.pump(alloc, side, 1, a, b, watch) {
-            return Err(given_up(end));
-        }
-        Ok(())
-    }
-
     /// Has a port take one turn, and drains what comes of it.
     pub(crate) fn take_turn<W: Watch>(
         &mut self,
@@ -116,17 +97,7 @@ impl Link {
             result (link self.new a.new b.new) watch.new }
         ensures counts { Counted result (W.faults watch.old) (W.faults watch.new) }
     {
-        self.pump_once(alloc, side, a, b, watch)?;
+        self.pump(alloc, side, 1, a, b, watch)?;
         self.drain(alloc, a, b, watch)
-    }
-}
-
-/// Why a call ended, if a note was not taken in.
-pub(crate) fn given_up(end: NoteEnd) -> LinkEnd
-    ensures { result ≡ end_of end }
-{
-    match end {
-        NoteEnd::Failed => LinkEnd::Failed,
-        NoteEnd::NoMemory => LinkEnd::NoMemory,
     }
 }

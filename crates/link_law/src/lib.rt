@@ -27,6 +27,7 @@ mod link;
 mod port_states;
 mod settling;
 mod telling;
+mod wires;
 
 pub use answers::{Fired, LinkEnd};
 pub use link::Link;

@@ -9,7 +9,6 @@ ghost use Rattle.link_rest.specs.Settling.{Restarts, TimesOut, Requests, Recover
 ghost use Rattle.link_law.specs.Does.{Comes, Ends, Did, Counted};
 
 use crate::answers::LinkEnd;
-use crate::draining::given_up;
 use crate::link::Link;
 use crate::port_states::{failed, far, fires, is_quiet, is_ready, near, stands_back};
 use link_port::Port;
@@ -85,9 +84,7 @@ impl Link {
         if !fires(near(side, a, b)) {
             return Ok(());
         }
-        if let Err(end) = self.time_out(alloc, side, a, b, watch) {
-            return Err(given_up(end));
-        }
+        self.time_out(alloc, side, a, b, watch)?;
         Ok(())
     }
 

@@ -63,14 +63,6 @@ fn told(note: &Note) -> (&'static str, Side) {
     }
 }
 
-/// What the end of a note is for a call of a link.
-fn end_of(end: NoteEnd) -> LinkEnd {
-    match end {
-        NoteEnd::Failed => LinkEnd::Failed,
-        NoteEnd::NoMemory => LinkEnd::NoMemory,
-    }
-}
-
 /// A packet passes a link, and its acceptance comes back.
 fn pass(
     alloc: Global,
@@ -79,7 +71,7 @@ fn pass(
     b: &mut Port,
     watch: &mut Failing,
 ) -> Result<(), LinkEnd> {
-    link.pump(alloc, Side::A, 1, a, b, watch).map_err(end_of)?;
+    link.pump(alloc, Side::A, 1, a, b, watch)?;
     link.deliver(alloc, Side::A, 16, a, b, watch)?;
     link.deliver(alloc, Side::B, 4, a, b, watch)?;
     Ok(())

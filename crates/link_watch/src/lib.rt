@@ -1,15 +1,14 @@
 //! What happens on a link, noted for whoever watches it.
 //!
 //! Promised: a watch that takes in a note grew by exactly that note, one that does not is cut
-//! within it, and `Failed` comes only where the watch's count of failed notes rose, which rises at
-//! no other answer. Notes are taken in in order, and none behind one that was not.
+//! within it, and `Failed` comes only if the watch's count of failed notes rose, which rises at
+//! no other answer. What a note has may be lent to the watch, so that no note is made.
 //!
 //! Left out: which notes a link makes, and when.
 //!
 //! - [`Side`]: the two ends of a link
 //! - [`Note`]: what was sent, got, held, freed or fired
-//! - [`Watch`], with [`NoteEnd`]: what takes in notes, and why it may stop; [`note_all`]: several
-//!   notes, one after another
+//! - [`Watch`], with [`NoteEnd`]: what takes in notes, whole or lent, and why it may stop
 //! - [`NoteList`]: a watch that keeps its notes in memory
 #![tactic(auto)]
 
@@ -23,4 +22,4 @@ mod watch;
 pub use list::NoteList;
 pub use note::Note;
 pub use side::Side;
-pub use watch::{NoteEnd, Watch, note_all};
+pub use watch::{NoteEnd, Watch};

@@ -37,7 +37,7 @@ impl Note {
 }
 
 /// A list of the same characters.
-fn copied(alloc: Global, chars: &[Char]) -> Result<Chars, AllocError>
+pub(crate) fn copied(alloc: Global, chars: &[Char]) -> Result<Chars, AllocError>
     ensures same { IfOk result (λ copy. copy ≡ chars.now) }
 {
     let mut items = Vec::new(alloc);

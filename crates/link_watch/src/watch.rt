@@ -1,11 +1,14 @@
 //! `Watch`: whoever is told what happens on a link.
 ghost use Rattle.std.specs.Prelude.{◌≡◌, ◌≤◌, ◌++◌, ℕ, List, [], ◌∷◌, OnOk, OnErr, IsErrOf};
 ghost use Rattle.rio_chars.specs.Faults.{Rose};
-ghost use Rattle.link_watch.specs.Stops.{Stopped};
 ghost use Rattle.link_watch.specs.declared.note.Note.{Note};
-ghost use Rattle.link_watch.specs.declared.watch.NoteEnd.TheVariants.{NoMemory};
+ghost use Rattle.link_watch.specs.declared.note.Note.TheVariants.{Sent, Got, Hold, Free, Fire};
+ghost use Rattle.link_watch.specs.declared.watch.NoteEnd.TheVariants as Ends;
 
-use crate::note::Note;
+use crate::note::{Note, copied};
+use crate::side::Side;
+use rio_chars::{Char, NoMemory};
+use rio_packets::Packet;
 use std::alloc::{AllocError, Global};
 use thiserror::Error;
 
@@ -21,9 +24,17 @@ pub enum NoteEnd {
 }
 
 impl From<AllocError> for NoteEnd {
-    ghost from_gives = { λ _ end. end ≡ NoMemory };
+    ghost from_gives = { λ _ end. end ≡ Ends.NoMemory };
 
     fn from(_: AllocError) -> Self {
+        NoteEnd::NoMemory
+    }
+}
+
+impl From<NoMemory> for NoteEnd {
+    ghost from_gives = { λ _ end. end ≡ Ends.NoMemory };
+
+    fn from(_: NoMemory) -> Self {
         NoteEnd::NoMemory
     }
 }
@@ -49,6 +60,61 @@ pub trait Watch {
         ensures counts { ¬ IsErrOf result NoteEnd.Failed → faults self.new ≡ faults self.old }
         ensures never_falls { faults self.old ≤ faults self.new };
 
+    /// Takes in that a port sent these characters, as `note` does.
+    fn sent(&mut self, alloc: Global, side: Side, chars: &[Char]) -> Result<(), NoteEnd>
+        ensures taken { OnOk result (grew self.old (Sent side chars.now ∷ []) self.new) }
+        ensures stopped { OnErr result (cut self.old (Sent side chars.now) self.new) }
+        ensures cause { IsErrOf result NoteEnd.Failed → Rose (faults self.old) (faults self.new) }
+        ensures counts { ¬ IsErrOf result NoteEnd.Failed → faults self.new ≡ faults self.old }
+        ensures never_falls { faults self.old ≤ faults self.new }
+    {
+        self.note(alloc, &Note::Sent(side, copied(alloc, chars)?))
+    }
+
+    /// Takes in that a port got these characters, as `note` does.
+    fn got(&mut self, alloc: Global, side: Side, chars: &[Char]) -> Result<(), NoteEnd>
+        ensures taken { OnOk result (grew self.old (Got side chars.now ∷ []) self.new) }
+        ensures stopped { OnErr result (cut self.old (Got side chars.now) self.new) }
+        ensures cause { IsErrOf result NoteEnd.Failed → Rose (faults self.old) (faults self.new) }
+        ensures counts { ¬ IsErrOf result NoteEnd.Failed → faults self.new ≡ faults self.old }
+        ensures never_falls { faults self.old ≤ faults self.new }
+    {
+        self.note(alloc, &Note::Got(side, copied(alloc, chars)?))
+    }
+
+    /// Takes in that a port holds this packet, as `note` does.
+    fn hold(&mut self, alloc: Global, side: Side, packet: &Packet) -> Result<(), NoteEnd>
+        ensures taken { OnOk result (grew self.old (Hold side packet.now ∷ []) self.new) }
+        ensures stopped { OnErr result (cut self.old (Hold side packet.now) self.new) }
+        ensures cause { IsErrOf result NoteEnd.Failed → Rose (faults self.old) (faults self.new) }
+        ensures counts { ¬ IsErrOf result NoteEnd.Failed → faults self.new ≡ faults self.old }
+        ensures never_falls { faults self.old ≤ faults self.new }
+    {
+        self.note(alloc, &Note::Hold(side, packet.copy()))
+    }
+
+    /// Takes in that a port gave up this packet, as `note` does.
+    fn free(&mut self, alloc: Global, side: Side, packet: &Packet) -> Result<(), NoteEnd>
+        ensures taken { OnOk result (grew self.old (Free side packet.now ∷ []) self.new) }
+        ensures stopped { OnErr result (cut self.old (Free side packet.now) self.new) }
+        ensures cause { IsErrOf result NoteEnd.Failed → Rose (faults self.old) (faults self.new) }
+        ensures counts { ¬ IsErrOf result NoteEnd.Failed → faults self.new ≡ faults self.old }
+        ensures never_falls { faults self.old ≤ faults self.new }
+    {
+        self.note(alloc, &Note::Free(side, packet.copy()))
+    }
+
+    /// Takes in that a port's time-out fired, as `note` does.
+    fn fire(&mut self, alloc: Global, side: Side) -> Result<(), NoteEnd>
+        ensures taken { OnOk result (grew self.old (Fire side ∷ []) self.new) }
+        ensures stopped { OnErr result (cut self.old (Fire side) self.new) }
+        ensures cause { IsErrOf result NoteEnd.Failed → Rose (faults self.old) (faults self.new) }
+        ensures counts { ¬ IsErrOf result NoteEnd.Failed → faults self.new ≡ faults self.old }
+        ensures never_falls { faults self.old ≤ faults self.new }
+    {
+        self.note(alloc, &Note::Fire(side))
+    }
+
     /// A watch that takes in nothing is what it was.
     ghost grew_none: { (watch : Self) → grew watch [] watch };
 
@@ -58,20 +124,4 @@ pub trait Watch {
 
     /// A watch may stop before anything of a note.
     ghost cut_none: { (watch : Self) (note : Note) → cut watch note watch };
-}
-
-/// Has a watch take in notes, one after another, up to the first that it does not take in.
-pub fn note_all<W: Watch>(watch: &mut W, alloc: Global, notes: &[Note]) -> Result<(), NoteEnd>
-    ensures all { OnOk result (W.grew watch.old notes.now watch.new) }
-    ensures stopped { OnErr result (Stopped W.grew W.cut watch.old notes.now watch.new) }
-    ensures cause { IsErrOf result NoteEnd.Failed → Rose (W.faults watch.old) (W.faults watch.new) }
-    ensures counts { ¬ IsErrOf result NoteEnd.Failed → W.faults watch.new ≡ W.faults watch.old }
-    ensures never_falls { W.faults watch.old ≤ W.faults watch.new }
-{
-    for note in notes {
-        if let Err(end) = watch.note(alloc, note) {
-            return Err(end);
-        }
-    }
-    Ok(())
 }

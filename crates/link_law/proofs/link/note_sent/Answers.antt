@@ -1,18 +1,24 @@
-use Rattle.std.proofs.Common.{◌≡◌, ◌<◌, List, [], ◌∷◌, length, subst, sym, ap, ◌∙◌, arith}
+use Rattle.std.proofs.Common.{◌<◌, List, length, subst, sym, arith}
 use Rattle.std.proofs.lemmas.Bool.Decides.{nat_tests}
-use Rattle.rio_chars.specs.declared.chars.Char.{Char}
-use Rattle.link_machine.specs.Prelude.{Stopped, Note, Sent, sent_notes}
+use Rattle.link_machine.specs.Prelude.{Stopped, Note, Sent}
 use Rattle.link_watch.proofs.StopLaws.{stopped_in_one}
-use Rattle.link_law.proofs.Noting.{sent_one}
+use Rattle.link_law.proofs.Noting.{sent_one, ok_then, err_then}
 use Rattle.link_law.proofs.link.note_sent.Goals as goal
 
-pub returns-in-Err-clause-stopped : goal.returns-in-Err-clause-stopped
-returns-in-Err-clause-stopped g c =
-    let some : 0 < length c.args.chars.items = grind (arith, nat_tests) in
-    let one : sent_notes c.args.from c.args.chars.items ≡ Sent c.args.from c.new.result ∷ [] =
-    sent_one c.args.from c.args.chars.items some
-    ∙ ap (λ (l : List Char). Sent c.args.from l ∷ []) (sym c.new.ensures) in
-    subst (λ (notes : List Note). Stopped g.W.Watch.grew g.W.Watch.cut c.args.watch.now notes
-    c.note.new.self) (sym one)
+pub returns-clause-noted : goal.returns-clause-noted
+returns-clause-noted g c =
+    let some : 0 < length c.args.chars.now = grind (arith, nat_tests) in
+    ok_then c.sent.result
+    (subst (λ (notes : List Note). g.W.Watch.grew c.args.watch.now notes c.sent.new.self)
+    (sym (sent_one c.args.from c.args.chars.now some)))
+    c.sent.ensures.taken
+
+pub returns-clause-stopped : goal.returns-clause-stopped
+returns-clause-stopped g c =
+    let some : 0 < length c.args.chars.now = grind (arith, nat_tests) in
+    err_then c.sent.result
+    (λ h. subst (λ (notes : List Note). Stopped g.W.Watch.grew g.W.Watch.cut c.args.watch.now notes
+    c.sent.new.self) (sym (sent_one c.args.from c.args.chars.now some))
     (stopped_in_one g.W.Watch.grew g.W.Watch.cut g.met.W.Watch.grew_none c.args.watch.now
-    c.note.new.self (Sent c.args.from c.new.result) c.in-Err.ensures.stopped)
+    c.sent.new.self (Sent c.args.from c.args.chars.now) h))
+    c.sent.ensures.stopped

@@ -1,13 +1,15 @@
-use Rattle.std.proofs.Common.{◌≡◌, true, false, [], None, take, OnOk, Result, sym, ◌∙◌, subst, if◌then◌else◌}
-use Rattle.link_machine.specs.Prelude.{other_side, has_chars, delivery_from, delivered_from, told_notes, delivery_notes, queues_of, Walks, IsSoundLink, LinkState, link, from_end}
+use Rattle.std.proofs.Common.{◌≡◌, true, false, [], List, None, take, OnOk, Result, sym, ap, ◌∙◌, subst, if◌then◌else◌}
 use Rattle.link_watch.proofs.StopLaws.{stopped_at_once}
 use Rattle.link_wires.specs.Deliveries.{told_of, undetected}
 use Rattle.link_wires.specs.declared.edits.Edited.{Edited}
+use Rattle.link_machine.specs.Prelude.{Stopped, Note, other_side, has_chars, delivery_from, delivered_from, told_notes, delivery_notes, queues_of, Walks, IsSoundLink, LinkState, Wires, link, from_end}
 use Rattle.link_machine.specs.Queues.{steps_of}
 use Rattle.link_machine.specs.Queues.Walks.{Ends}
-use Rattle.link_law.specs.declared.answers.LinkEnd.{LinkEnd}
-use Rattle.link_law.proofs.Delivering.{link_is, on_done}
 use Rattle.link_machine.proofs.Machine.{delivery_keeps, delivery_walks}
+use Rattle.link_watch.specs.declared.watch.NoteEnd.TheVariants as Stop
+use Rattle.link_law.specs.declared.answers.LinkEnd.{LinkEnd}
+use Rattle.link_law.proofs.Noting.{given_up, on_given_up}
+use Rattle.link_law.proofs.Delivering.{link_is, notes_are, on_done}
 use Rattle.link_law.proofs.link.Link.deliver.Goals as goal
 
 pub returns-then-not-has-clause-steps : goal.returns-then-not-has-clause-steps
@@ -16,50 +18,100 @@ returns-then-not-has-clause-steps g c =
     let from = c.args.from in
     let count = c.args.count in
     let none : has_chars from count s ≡ false =
-    sym (c.has.ensures c.args.a.now c.args.b.now) ∙ c.if-not-has.true in
+    sym
+    (c.has.ensures c.args.a.now c.args.b.now
+    ∙ ap (λ (wires : Wires). has_chars from count (link wires c.args.a.now c.args.b.now))
+    c.self.view_is)
+    ∙ c.if-not-has.true in
     λ l. subst (λ b. Walks (queues_of s) (steps_of (if b
     then told_notes (other_side from) (take count (from_end from s).wire_a.chars)
     (told_of (delivery_from from count s)) else [])) (queues_of s)) (sym none) Ends
 
-pub returns-in_default-clause-stopped : goal.returns-in_default-clause-stopped
-returns-in_default-clause-stopped g c =
-    stopped_at_once g.W.Watch.grew g.W.Watch.cut g.met.W.Watch.grew_none g.met.W.Watch.cut_none
+-- ---- no memory for the delivery
+
+pub returns-in_err-unsent-clause-answer : goal.returns-in_err-unsent-clause-answer
+returns-in_err-unsent-clause-answer g c =
+    given_up _ c.from_residual.result Stop.NoMemory c.from_residual.ensures.1
+
+pub returns-in_err-unsent-clause-noted : goal.returns-in_err-unsent-clause-noted
+returns-in_err-unsent-clause-noted g c =
+    given_up _ c.from_residual.result Stop.NoMemory c.from_residual.ensures.1
+
+pub returns-in_err-unsent-clause-stopped : goal.returns-in_err-unsent-clause-stopped
+returns-in_err-unsent-clause-stopped g c =
+    on_given_up c.from_residual.result
+    (stopped_at_once g.W.Watch.grew g.W.Watch.cut g.met.W.Watch.grew_none g.met.W.Watch.cut_none
     c.args.watch.now
-    (delivery_notes c.args.from c.args.count (link c.args.self.now c.args.a.now c.args.b.now))
+    (delivery_notes c.args.from c.args.count (link c.args.self.now c.args.a.now c.args.b.now)))
+
+-- ---- a note that was not taken in
+
+pub returns-in_err-note_delivery-clause-answer : goal.returns-in_err-note_delivery-clause-answer
+returns-in_err-note_delivery-clause-answer g c =
+    let told = c.from_residual-in_err-note_delivery in
+    given_up _ told.result c.in_err-note_delivery.field-0.0 told.ensures.1
+
+pub returns-in_err-note_delivery-clause-noted : goal.returns-in_err-note_delivery-clause-noted
+returns-in_err-note_delivery-clause-noted g c =
+    let told = c.from_residual-in_err-note_delivery in
+    given_up _ told.result c.in_err-note_delivery.field-0.0 told.ensures.1
+
+pub returns-in_err-note_delivery-clause-stopped : goal.returns-in_err-note_delivery-clause-stopped
+returns-in_err-note_delivery-clause-stopped g c =
+    let here = link c.self.inside.wires c.args.a.now c.args.b.now in
+    let from = c.args.from in
+    let count = c.args.count in
+    let has : has_chars from count here ≡ true =
+    sym (c.has.ensures c.args.a.now c.args.b.now) ∙ c.if-not-has.false in
+    on_given_up c.from_residual-in_err-note_delivery.result
+    (subst (λ (notes : List Note). Stopped g.W.Watch.grew g.W.Watch.cut c.args.watch.now notes
+    c.note_delivery.new.watch)
+    (notes_are from c.other-to.result count here c.carry.new.came.got.items
+    c.carry.new.came.moves.items c.as_slice.result.now c.carry.new.answers.items
+    c.in_ok-unsent.unsent c.other-to.ensures has c.in_ok-unsent.ensures.told
+    c.as_slice.ensures.value
+    ∙ ap (λ (wires : Wires). delivery_notes from count (link wires c.args.a.now c.args.b.now))
+    c.self.view_is)
+    c.in_err-note_delivery.ensures.stopped)
+
+-- ---- all notes were taken in
 
 pub returns-clause-sound : goal.returns-clause-sound
 returns-clause-sound g c =
-    let s = link c.args.self.now c.args.a.now c.args.b.now in
+    let here = link c.self.inside.wires c.args.a.now c.args.b.now in
     let next = link c.carry.new.self c.carry.new.a c.carry.new.b in
     let from = c.args.from in
     let count = c.args.count in
-    let has : has_chars from count s ≡ true =
+    let has : has_chars from count here ≡ true =
     sym (c.has.ensures c.args.a.now c.args.b.now) ∙ c.if-not-has.false in
-    subst (λ (r : Result Edited LinkEnd). OnOk r (IsSoundLink s → IsSoundLink next))
+    subst (λ (wires : Wires). OnOk c.ended.result
+    (IsSoundLink (link wires c.args.a.now c.args.b.now) → IsSoundLink next)) c.self.view_is
+    (subst (λ (r : Result Edited LinkEnd). OnOk r (IsSoundLink here → IsSoundLink next))
     (sym c.ended.ensures)
-    (on_done c.note-noted.result.0 c.other-2.result c.note-noted.result.1 (λ none l.
-    let is : next ≡ delivered_from from count s =
-    c.in-Ok.ensures.link (sym c.note-noted.ensures.undetected ∙ none)
-    ∙ link_is from count s has in
-    subst (λ (t : LinkState). IsSoundLink t) (sym is) (delivery_keeps from count s l)))
+    (on_done c.other-to.result c.in_ok-unsent.unsent (λ none l.
+    let is : next ≡ delivered_from from count here =
+    c.in_ok-unsent.ensures.link none ∙ link_is from count here has in
+    subst (λ (t : LinkState). IsSoundLink t) (sym is) (delivery_keeps from count here l))))
 
 pub returns-clause-steps : goal.returns-clause-steps
 returns-clause-steps g c =
-    let s = link c.args.self.now c.args.a.now c.args.b.now in
+    let here = link c.self.inside.wires c.args.a.now c.args.b.now in
     let next = link c.carry.new.self c.carry.new.a c.carry.new.b in
     let from = c.args.from in
     let count = c.args.count in
-    let has : has_chars from count s ≡ true =
+    let has : has_chars from count here ≡ true =
     sym (c.has.ensures c.args.a.now c.args.b.now) ∙ c.if-not-has.false in
-    subst (λ (r : Result Edited LinkEnd). OnOk r (IsSoundLink s
-    → Walks (queues_of s) (steps_of (delivery_notes from count s)) (queues_of next)))
+    subst (λ (wires : Wires). let s = link wires c.args.a.now c.args.b.now in
+    OnOk c.ended.result (IsSoundLink s
+    → Walks (queues_of s) (steps_of (delivery_notes from count s)) (queues_of next))) c.self.view_is
+    (subst (λ (r : Result Edited LinkEnd). OnOk r (IsSoundLink here
+    → Walks (queues_of here) (steps_of (delivery_notes from count here)) (queues_of next)))
     (sym c.ended.ensures)
-    (on_done c.note-noted.result.0 c.other-2.result c.note-noted.result.1 (λ none l.
-    let found : c.in-Ok.carried.undetected ≡ None = sym c.note-noted.ensures.undetected ∙ none in
-    let is : next ≡ delivered_from from count s =
-    c.in-Ok.ensures.link found ∙ link_is from count s has in
-    let sent : undetected (delivery_from from count s) ≡ None =
-    sym c.in-Ok.ensures.told.found_is ∙ found in
-    subst
-    (λ (t : LinkState). Walks (queues_of s) (steps_of (delivery_notes from count s)) (queues_of t))
-    (sym is) (delivery_walks from count s sent l)))
+    (on_done c.other-to.result c.in_ok-unsent.unsent (λ none l.
+    let is : next ≡ delivered_from from count here =
+    c.in_ok-unsent.ensures.link none ∙ link_is from count here has in
+    let sent : undetected (delivery_from from count here) ≡ None =
+    sym c.in_ok-unsent.ensures.told.found_is ∙ none in
+    subst (λ (t : LinkState).
+    Walks (queues_of here) (steps_of (delivery_notes from count here)) (queues_of t))
+    (sym is) (delivery_walks from count here sent l))))

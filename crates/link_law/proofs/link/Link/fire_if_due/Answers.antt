@@ -1,11 +1,12 @@
-use Rattle.std.proofs.Common.{subst, sym, ap, ◌∙◌}
+use Rattle.std.proofs.Common.{sym, ap, ◌∙◌}
 use Rattle.link_port.specs.Ports.{PortState}
 use Rattle.link_machine.specs.States.{link}
 use Rattle.link_rest.specs.Settling.{TimesOut, may_fire, of_end}
-use Rattle.link_law.specs.Does.{Ends}
+use Rattle.link_law.specs.Does.{end_of}
+use Rattle.link_law.proofs.Noting.{given_is}
 use Rattle.link_law.proofs.DeliverLaws.{Only}
 use Rattle.link_rest.specs.Acts.{Fire}
-use Rattle.link_law.proofs.DoesLaws.{IsWatch, comes_none}
+use Rattle.link_law.proofs.DoesLaws.{IsWatch, comes_none, did_end}
 use Rattle.link_law.proofs.DrainLaws.{fire_comes, fire_ends}
 use Rattle.link_law.proofs.link.Link.fire_if_due.Given.{Over}
 use Rattle.link_law.proofs.link.Link.fire_if_due.Goals as goal
@@ -24,19 +25,26 @@ returns-then-not-fires-clause-does g c =
     link.a.output)) (Only (Fire c.args.side)) s c.args.watch.now (ap (λ (p : PortState). may_fire
     p.output) (sym (c.near.ensures c.args.self.now)) ∙ sym c.fires.ensures ∙ c.if-not-fires.true)
 
-pub returns-in-Err-clause-does : goal.returns-in-Err-clause-does
-returns-in-Err-clause-does g c =
+pub returns-in_err-time_out-clause-does : goal.returns-in_err-time_out-clause-does
+returns-in_err-time_out-clause-does g c =
     let s = link c.args.self.now c.args.a.now c.args.b.now in
-    subst (λ end. Ends g.W.Watch.grew g.W.Watch.cut (TimesOut c.args.side) s c.args.watch.now end
-    c.time_out.new.watch) (sym c.given_up.ensures) (fire_ends g.W.Watch.grew g.W.Watch.cut
-    c.args.side s c.args.watch.now c.time_out.new.watch c.in-Err.end (ap (λ (p : PortState).
-    may_fire p.output) (sym (c.near.ensures c.args.self.now)) ∙ sym c.fires.ensures ∙
-    c.if-not-fires.false) c.in-Err.ensures.stopped)
+    let next = link c.time_out.new.self c.time_out.new.a c.time_out.new.b in
+    let end = c.in_err-time_out.field-0.0 in
+    did_end g.W.Watch.grew g.W.Watch.cut (TimesOut c.args.side) s c.args.watch.now
+    c.time_out.new.watch (end_of end) c.from_residual.result next
+    (given_is c.from_residual.result (end_of end) c.from_residual.ensures.1)
+    (fire_ends g.W.Watch.grew g.W.Watch.cut c.args.side s c.args.watch.now c.time_out.new.watch end
+    (ap (λ (p : PortState). may_fire p.output) (sym (c.near.ensures c.args.self.now))
+    ∙ sym c.fires.ensures
+    ∙ c.if-not-fires.false)
+    c.in_err-time_out.ensures.stopped)
 
 pub returns-clause-does : goal.returns-clause-does
 returns-clause-does g c =
     let s = link c.args.self.now c.args.a.now c.args.b.now in
     let next = link c.time_out.new.self c.time_out.new.a c.time_out.new.b in
-    fire_comes g.W.Watch.grew c.args.side s next c.args.watch.now c.time_out.new.watch (ap (λ (p :
-    PortState). may_fire p.output) (sym (c.near.ensures c.args.self.now)) ∙ sym c.fires.ensures ∙
-    c.if-not-fires.false) c.in_default.ensures.link c.in_default.ensures.noted
+    fire_comes g.W.Watch.grew c.args.side s next c.args.watch.now c.time_out.new.watch
+    (ap (λ (p : PortState). may_fire p.output) (sym (c.near.ensures c.args.self.now))
+    ∙ sym c.fires.ensures
+    ∙ c.if-not-fires.false)
+    c.in_ok-time_out.ensures.link c.in_ok-time_out.ensures.noted

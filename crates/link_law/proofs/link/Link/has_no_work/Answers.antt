@@ -1,15 +1,18 @@
 use Rattle.std.proofs.Common.{◌&&◌, sym, ap, ◌∙◌}
+use Rattle.link_machine.specs.Prelude.{Wires, has_none}
 use Rattle.link_law.specs.Resting.{are_idle}
 use Rattle.link_law.proofs.link.Link.has_no_work.Goals as goal
 
-pub returns-then-is_silent : goal.returns-then-is_silent
-returns-then-is_silent c =
+pub returns-then-are_silent : goal.returns-then-are_silent
+returns-then-are_silent c =
     c.are_idle.ensures
     ∙ ap (λ silent. silent && are_idle c.args.a.now c.args.b.now)
-    (sym c.if-is_silent.true ∙ c.is_silent.ensures)
+    (sym c.if-are_silent.true ∙ c.are_silent.ensures
+    ∙ ap (λ (wires : Wires). has_none wires.a.chars && has_none wires.b.chars) c.self.view_is)
 
-pub returns-else-is_silent : goal.returns-else-is_silent
-returns-else-is_silent c =
-    c.if-is_silent.false
+pub returns-else-are_silent : goal.returns-else-are_silent
+returns-else-are_silent c =
+    c.if-are_silent.false
     ∙ ap (λ silent. silent && are_idle c.args.a.now c.args.b.now)
-    (sym c.if-is_silent.false ∙ c.is_silent.ensures)
+    (sym c.if-are_silent.false ∙ c.are_silent.ensures
+    ∙ ap (λ (wires : Wires). has_none wires.a.chars && has_none wires.b.chars) c.self.view_is)

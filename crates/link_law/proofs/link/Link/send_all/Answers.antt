@@ -88,7 +88,8 @@ loop-alloc-smaller g c =
     let next = link c.take_turn.new.self c.take_turn.new.a c.take_turn.new.b in
     (sent_on {cut = g.W.Watch.cut} (is_watch g) c.args.side s here next c.args.watch.now
     c.loop-alloc.watch c.take_turn.new.watch (ap (λ (p : PortState). is_ready p)
-    (sym (c.near.ensures c.loop-alloc.self)) ∙ sym c.is_ready.ensures ∙ c.loop-alloc-test.true) (ap (λ (p :
+    (sym (c.near.ensures c.loop-alloc.self)) ∙ sym c.is_ready.ensures ∙ c.loop-alloc-test.true)
+    (ap (λ (p :
     PortState). is_retry_stopped p.output) (sym (c.near-in-loop-alloc.ensures
     c.take_turn.new.self)) ∙ sym c.stands_back.ensures ∙ c.if-stands_back.false)
     c.loop-alloc.invariant.0 c.in_ok-take_turn.ensures.does).1
@@ -116,4 +117,5 @@ returns-clause-does g c =
     all_comes c.args.side s here c.args.watch.now c.loop-alloc.watch (quiet_first c.args.side s
     c.requires) (sent_over {cut = g.W.Watch.cut} (is_watch g) c.args.side s here c.args.watch.now
     c.loop-alloc.watch (ap (λ (p : PortState). is_ready p)
-    (sym (c.near.ensures c.loop-alloc.self)) ∙ sym c.is_ready.ensures ∙ c.loop-alloc-test.false) c.loop-alloc.invariant.0)
+    (sym (c.near.ensures c.loop-alloc.self)) ∙ sym c.is_ready.ensures ∙ c.loop-alloc-test.false)
+    c.loop-alloc.invariant.0)

@@ -1,9 +1,9 @@
-use Rattle.std.proofs.Common.{rules}
 use Rattle.link_machine.specs.States.{link}
 use Rattle.link_rest.specs.Settling.{Drains}
-use Rattle.link_law.specs.Does.{Pumps}
+use Rattle.link_law.specs.Does.{Pumps, end_of}
+use Rattle.link_law.proofs.Noting.{given_is}
 use Rattle.link_law.proofs.DoesLaws.{IsWatch, did_next, did_early}
-use Rattle.link_law.proofs.DrainLaws.{drain_follows, sound_then}
+use Rattle.link_law.proofs.DrainLaws.{drain_follows, sound_then, pump_comes, pump_ends}
 use Rattle.link_law.proofs.link.Link.take_turn.Given.{Over}
 use Rattle.link_law.proofs.link.Link.take_turn.Goals as goal
 
@@ -17,20 +17,27 @@ is_watch g = record {
 pub drain-requires : goal.drain-requires
 drain-requires g c =
     let s = link c.args.self.now c.args.a.now c.args.b.now in
-    let turned = link c.pump_once.new.self c.pump_once.new.a c.pump_once.new.b in
-    sound_then (Pumps c.args.side) s turned c.args.watch.now c.pump_once.new.watch c.requires
-    c.in_ok-pump_once.ensures.does
+    let turned = link c.pump.new.self c.pump.new.a c.pump.new.b in
+    sound_then (Pumps c.args.side) s turned c.args.watch.now c.pump.new.watch c.requires
+    (pump_comes g.W.Watch.grew c.args.side s turned c.args.watch.now c.pump.new.watch
+    c.in_ok-pump.ensures.link c.in_ok-pump.ensures.noted)
 
-pub returns-in_err-pump_once-clause-does : goal.returns-in_err-pump_once-clause-does
-returns-in_err-pump_once-clause-does g c =
+pub returns-in_err-pump-clause-does : goal.returns-in_err-pump-clause-does
+returns-in_err-pump-clause-does g c =
     let s = link c.args.self.now c.args.a.now c.args.b.now in
-    let turned = link c.pump_once.new.self c.pump_once.new.a c.pump_once.new.b in
-    did_early (is_watch g) c.args.watch.now c.pump_once.new.watch c.in_err-pump_once.field-0.0
-    c.from_residual.result turned (drain_follows (Pumps c.args.side) s c.requires) (search rules)
-    c.in_err-pump_once.ensures.does
+    let turned = link c.pump.new.self c.pump.new.a c.pump.new.b in
+    let end = c.in_err-pump.field-0.0 in
+    did_early (is_watch g) c.args.watch.now c.pump.new.watch (end_of end) c.from_residual.result
+    turned (drain_follows (Pumps c.args.side) s c.requires)
+    (given_is c.from_residual.result (end_of end) c.from_residual.ensures.1)
+    (pump_ends g.W.Watch.grew g.W.Watch.cut c.args.side s c.args.watch.now c.pump.new.watch end
+    c.in_err-pump.ensures.stopped)
 
 pub returns-clause-does : goal.returns-clause-does
 returns-clause-does g c =
+    let s = link c.args.self.now c.args.a.now c.args.b.now in
+    let turned = link c.pump.new.self c.pump.new.a c.pump.new.b in
     let drained = link c.drain.new.self c.drain.new.a c.drain.new.b in
     did_next (is_watch g) Drains c.drain.new.watch c.drain.result drained
-    c.in_ok-pump_once.ensures.does c.drain.ensures.does
+    (pump_comes g.W.Watch.grew c.args.side s turned c.args.watch.now c.pump.new.watch
+    c.in_ok-pump.ensures.link c.in_ok-pump.ensures.noted) c.drain.ensures.does

@@ -3,7 +3,7 @@ use Rattle.link_port.specs.Ports.{PortState}
 use Rattle.link_port.specs.Turns.{turn_sends}
 use Rattle.link_machine.specs.Prelude.{link, from_end}
 use Rattle.link_law.proofs.IdleTurns.{idle_pumped, idle_chars}
-use Rattle.link_law.proofs.link.Link.turn.Goals as goal
+use Rattle.link_law.proofs.wires.WirePair.turn.Goals as goal
 
 pub returns-then-has_no_turn-clause-link : goal.returns-then-has_no_turn-clause-link
 returns-then-has_no_turn-clause-link c =
@@ -17,4 +17,4 @@ returns-then-has_no_turn-clause-sent c =
     let port = (from_end c.args.from (link c.args.self.now c.args.a.now c.args.b.now)).a in
     let none = subst (λ (port : PortState). (turn_sends port).sent ≡ [])
     (c.near.ensures c.args.self.now) (c.has_no_turn.ensures c.if-has_no_turn.true) in
-    c.new.ensures.items ∙ sym (idle_chars c.args.turns port none)
+    c.clear.ensures.items ∙ sym (idle_chars c.args.turns port none)

@@ -1,15 +1,15 @@
 use Rattle.std.proofs.Common.{List, ap, ◌∙◌}
 use Rattle.rio_symbols.specs.Fields.{Fields}
 use Rattle.link_wires.specs.Wires.{answers}
-use Rattle.link_law.proofs.deliveries.carry.Goals as goal
+use Rattle.link_law.proofs.wires.carry.Goals as goal
 
 pub returns-clause-told : goal.returns-clause-told
 returns-clause-told c = record {
-  got_is = c.in_ok-delivery.ensures.got;
-  moves_are = c.in_ok-delivery.ensures.moves;
+  got_is = c.in_ok-unsent.ensures.got;
+  moves_are = c.in_ok-unsent.ensures.moves;
   answers_are =
-      c.in_ok-answers.ensures.sent
+      c.in_ok-reply.ensures.sent
       ∙ ap (λ (replies : List Fields). (answers replies).chars)
-      (c.as_slice.ensures.value ∙ c.in_ok-delivery.ensures.replies);
-  found_is = c.in_ok-delivery.ensures.undetected;
+      (c.as_slice.ensures.value ∙ c.in_ok-unsent.ensures.replies);
+  found_is = c.in_ok-unsent.ensures.undetected;
 }

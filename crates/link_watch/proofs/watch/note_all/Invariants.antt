@@ -1,8 +1,0 @@
-use Rattle.std.proofs.Common.{◌≡◌, take}
-use Rattle.link_watch.proofs.watch.note_all.Given as goal
-
-abbrev pub invariant-loop-note : goal.invariant-loop-note
-invariant-loop-note g l = record {
-  grown : g.W.Watch.grew l.initial.watch (take l.note-index l.notes) l.watch;
-  counts : g.W.Watch.faults l.watch ≡ g.W.Watch.faults l.initial.watch;
-}
