@@ -14,12 +14,15 @@ hex_text-injective (x ∷ xs) [] e = absurd cc
 hex_text-injective (x ∷ xs) (y ∷ ys) e = hex_of-injective (x ∷ xs) (y ∷ ys) e
 
 -- a word that is neither a hyphen nor digits spells no bytes
-pub no_hex : (word : List ℕ) → word ≢ codes "-" → ((bytes : List ℕ) → IsBytes bytes → word ≢ hex_of bytes) → (bytes : List ℕ) → IsBytes bytes → word ≢ hex_text bytes
+pub no_hex : (word : List ℕ) → word ≢ codes "-"
+    → ((bytes : List ℕ) → IsBytes bytes → word ≢ hex_of bytes) → (bytes : List ℕ) → IsBytes bytes
+    → word ≢ hex_text bytes
 no_hex word other none [] is e = other e
 no_hex word other none (b ∷ bs) is e = none (b ∷ bs) is e
 
 -- a digit behind a 0 spells its own value
-pub low_digit : (digit byte : ℕ) → byte < 256 → 48 ∷ digit ∷ [] ≡ hex_of (byte ∷ []) → (byte < 16) × (digit ≡ hex_digit byte)
+pub low_digit : (digit byte : ℕ) → byte < 256 → 48 ∷ digit ∷ [] ≡ hex_of (byte ∷ []) → (byte < 16)
+    × (digit ≡ hex_digit byte)
 low_digit digit byte below e =
     let high : hex_digit 0 ≡ hex_digit (byte / 16) = cc in
     let zero : 0 ≡ byte / 16 = hex_digit-injective 0 (byte / 16) high in
@@ -28,7 +31,8 @@ low_digit digit byte below e =
     let low : digit ≡ hex_digit (byte % 16) = cc in
     (small, subst (λ n. digit ≡ hex_digit n) same low)
 
-pub no_low_digit : (digit : ℕ) → ((byte : ℕ) → byte < 256 → 48 ∷ digit ∷ [] ≢ hex_of (byte ∷ [])) → (value : ℕ) → value < 16 → digit ≢ hex_digit value
+pub no_low_digit : (digit : ℕ) → ((byte : ℕ) → byte < 256 → 48 ∷ digit ∷ [] ≢ hex_of (byte ∷ []))
+    → (value : ℕ) → value < 16 → digit ≢ hex_digit value
 no_low_digit digit none value small e = none value (omega arith) spelled
   where
     spelled : 48 ∷ digit ∷ [] ≡ hex_of (value ∷ [])

@@ -1,10 +1,9 @@
 -- Words joined by single spaces, and lines by line feeds.
-use Rattle.std.proofs.Common.{◌≡◌, ℕ, ◌+◌, ◌-◌, ◌^◌, ◌/◌, ◌%◌, ◌==◌, ◌<◌, ◌≤◌, nat_le, zero, suc, Bool, true, false, ◌||◌, List, [], ◌∷◌, ◌++◌, codes, map, length, take, get_or, refl, sym, ap, ◌∙◌, append_assoc, arith}
+use Rattle.std.proofs.Common.{◌≡◌, ℕ, ◌/◌, ◌%◌, ◌==◌, ◌<◌, nat_le, zero, suc, Bool, true, false, ◌||◌, List, [], ◌∷◌, ◌++◌, codes, map, refl, sym, ap, ◌∙◌, append_assoc, append-nil, arith}
 use Rattle.std.specs.List.{slice_split, join_with_byte, list_all}
 use Rattle.std.specs.Fmt.{decimal}
 use Rattle.std.specs.Str.{all_ascii_digits}
 use Rattle.std.specs.Char.{is_ascii_digit}
-use Rattle.std.proofs.lemmas.List.{take_more}
 use Rattle.std.proofs.lemmas.List.Folds.{list_all-append}
 use Rattle.std.proofs.lemmas.List.Splits.{slice_split_none, slice_split_at}
 use Rattle.std.proofs.lemmas.List.Elements.{All-nil, All-cons, All-append}
@@ -21,7 +20,6 @@ use Rattle.fabric_script.specs.Texts.{Value, Named, AtNode, AtPort, Counted, Byt
 use Rattle.fabric_script.specs.Known.{Known, IsOrderly}
 use Rattle.fabric_script.specs.Hits.{Fits, FitAll}
 use Rattle.fabric_script.specs.LineTexts.{after_words}
-use Rattle.std.proofs.lemmas.Fmt.{decimal_step, decimal_digit}
 use Rattle.fabric_script.proofs.Decimals.{decimal_has_digits}
 use Rattle.fabric_script.proofs.LineLaws.{IsSmall, AreSmall}
 use Rattle.fabric_script.proofs.Points.{Lacks, and_parts}
@@ -34,13 +32,16 @@ pub visible_lacks : (c : ℕ) (bytes : List ℕ) → c < 33 → is_visible bytes
 visible_lacks c [] low e = All-nil (λ byte. (byte == c) ≡ false)
 visible_lacks c (b ∷ bytes) low e =
     let parts = and_parts (nat_le 33 b) (is_visible bytes) e in
-    All-cons (λ byte. (byte == c) ≡ false) b bytes (differs b parts.0) (visible_lacks c bytes low parts.1)
+    All-cons (λ byte. (byte == c) ≡ false) b bytes (differs b parts.0)
+    (visible_lacks c bytes low parts.1)
   where
     differs : (b : ℕ) → nat_le 33 b ≡ true → (b == c) ≡ false
     differs b h = grind (arith, nat_tests)
 
-visible_append : (a b : List ℕ) → is_visible a ≡ true → is_visible b ≡ true → is_visible (a ++ b) ≡ true
-visible_append a b visible_a visible_b = list_all-append (λ byte. nat_le 33 byte) a b ∙ rw (visible_a, visible_b)
+visible_append : (a b : List ℕ) → is_visible a ≡ true → is_visible b ≡ true → is_visible (a ++ b)
+    ≡ true
+visible_append a b visible_a visible_b = list_all-append (λ byte. nat_le 33 byte) a b
+    ∙ rw (visible_a, visible_b)
 
 visible_digits : (ds : List ℕ) → all_ascii_digits ds ≡ true → is_visible ds ≡ true
 visible_digits [] e = refl
@@ -78,7 +79,8 @@ visible_hex_digit n = grind (arith, nat_tests)
 
 visible_hex_of : (bytes : List ℕ) → is_visible (hex_of bytes) ≡ true
 visible_hex_of [] = refl
-visible_hex_of (b ∷ bytes) = rw (visible_hex_digit (b / 16), visible_hex_digit (b % 16), visible_hex_of bytes)
+visible_hex_of (b ∷ bytes) =
+    rw (visible_hex_digit (b / 16), visible_hex_digit (b % 16), visible_hex_of bytes)
 
 visible_hex_text : (bytes : List ℕ) → is_visible (hex_text bytes) ≡ true
 visible_hex_text [] = refl
@@ -86,21 +88,26 @@ visible_hex_text (b ∷ bytes) = visible_hex_of (b ∷ bytes)
 
 visible_digits_text : (count n : ℕ) → is_visible (digits_text count n) ≡ true
 visible_digits_text zero n = refl
-visible_digits_text (suc count) n = visible_append (digits_text count (n / 16)) (hex_digit (n % 16) ∷ []) (visible_digits_text count (n / 16)) (rw (visible_hex_digit (n % 16)))
+visible_digits_text (suc count) n = visible_append (digits_text count (n / 16))
+    (hex_digit (n % 16) ∷ []) (visible_digits_text count (n / 16)) (rw (visible_hex_digit (n % 16)))
 
 visible_char : (c : Char) → is_visible (char_text_of c) ≡ true
 visible_char (Data byte) = visible_hex_of (byte ∷ [])
 visible_char (Special byte) = visible_hex_of (byte ∷ [])
 visible_char Invalid = refl
 
-visible_value : (known : Known) (field : Field) (value : Value) → IsOrderly known → IsSmall field → Fits known field value → is_visible (value_text known.names value) ≡ true
+visible_value : (known : Known) (field : Field) (value : Value) → IsOrderly known → IsSmall field
+    → Fits known field value → is_visible (value_text known.names value) ≡ true
 visible_value known NewName (Named name) orderly small f = visible_name name f.0
-visible_value known Node (AtNode n) orderly small f = visible_name (name_of known.names n) (orderly.named n f)
+visible_value known Node (AtNode n) orderly small f =
+    visible_name (name_of known.names n) (orderly.named n f)
 visible_value known Port (AtPort p) orderly small f =
     visible_append (name_of known.names p.node ++ codes ".") (decimal p.port)
-    (visible_append (name_of known.names p.node) (codes ".") (visible_name (name_of known.names p.node) (orderly.named p.node f.0)) refl)
+    (visible_append (name_of known.names p.node) (codes ".")
+    (visible_name (name_of known.names p.node) (orderly.named p.node f.0)) refl)
     (visible_digits (decimal p.port) (decimal_has_digits p.port (omega (arith, f.1))))
-visible_value known (Number least most) (Counted n) orderly small f = visible_digits (decimal n) (decimal_has_digits n (omega (arith, f.1, small)))
+visible_value known (Number least most) (Counted n) orderly small f =
+    visible_digits (decimal n) (decimal_has_digits n (omega (arith, f.1, small)))
 visible_value known Hex (Bytes bytes) orderly small f = visible_hex_text bytes
 visible_value known (Digits count) (InDigits shown n) orderly small f = visible_digits_text shown n
 visible_value known Character (Code c) orderly small f = visible_char c
@@ -117,9 +124,15 @@ abbrev pub AreVisible : List (List ℕ) → Type 0
 AreVisible [] = Unit {0}
 AreVisible (word ∷ words) = (is_visible word ≡ true) × AreVisible words
 
-pub visible_values : (known : Known) (fields : List Field) (values : List Value) → IsOrderly known → AreSmall fields → FitAll known fields values → AreVisible (map (value_text known.names) values)
+pub visible_values : (known : Known) (fields : List Field) (values : List Value) → IsOrderly known
+    → AreSmall fields → FitAll known fields values
+    → AreVisible (map (value_text known.names) values)
 visible_values known [] [] orderly small f = tt
-visible_values known (field ∷ fields) (value ∷ values) orderly small f = (visible_value known field value orderly small.0 f.0, visible_values known fields values orderly small.1 f.1)
+visible_values known (field ∷ fields) (value ∷ values) orderly small f = (
+  visible_value known field value orderly small.0 f.0,
+  visible_values known fields values orderly
+      small.1 f.1,
+)
 visible_values known [] (value ∷ values) orderly small f = absurd f
 visible_values known (field ∷ fields) [] orderly small f = absurd f
 
@@ -152,53 +165,58 @@ visible_keyword F.Run = refl
 
 -- ---- words, joined and cut
 
-pub split_join : (word : List ℕ) (words : List (List ℕ)) → is_visible word ≡ true → AreVisible words → slice_split (λ byte. byte == 32) (join_with_byte 32 (word ∷ words)) ≡ word ∷ words
-split_join word [] visible others = slice_split_none (λ byte. byte == 32) word (visible_lacks 32 word (omega arith) visible)
+pub split_join : (word : List ℕ) (words : List (List ℕ)) → is_visible word ≡ true → AreVisible words
+    → slice_split (λ byte. byte == 32) (join_with_byte 32 (word ∷ words)) ≡ word ∷ words
+split_join word [] visible others = slice_split_none (λ byte. byte == 32) word
+    (visible_lacks 32 word (omega arith) visible)
 split_join word (next ∷ words) visible others =
-    slice_split_at (λ byte. byte == 32) word 32 (join_with_byte 32 (next ∷ words)) (visible_lacks 32 word (omega arith) visible) refl
+    slice_split_at (λ byte. byte == 32) word 32 (join_with_byte 32 (next ∷ words))
+    (visible_lacks 32 word (omega arith) visible) refl
     ∙ ap (λ ws. word ∷ ws) (split_join next words others.0 others.1)
 
 -- joined words have no line feed
-pub join_lacks : (word : List ℕ) (words : List (List ℕ)) → is_visible word ≡ true → AreVisible words → Lacks 10 (join_with_byte 32 (word ∷ words))
+pub join_lacks : (word : List ℕ) (words : List (List ℕ)) → is_visible word ≡ true → AreVisible words
+    → Lacks 10 (join_with_byte 32 (word ∷ words))
 join_lacks word [] visible others = visible_lacks 10 word (omega arith) visible
 join_lacks word (next ∷ words) visible others =
-    All-append (λ byte. (byte == 10) ≡ false) word (32 ∷ join_with_byte 32 (next ∷ words)) (visible_lacks 10 word (omega arith) visible)
-    (All-cons (λ byte. (byte == 10) ≡ false) 32 (join_with_byte 32 (next ∷ words)) refl (join_lacks next words others.0 others.1))
+    All-append (λ byte. (byte == 10) ≡ false) word (32 ∷ join_with_byte 32 (next ∷ words))
+    (visible_lacks 10 word (omega arith) visible)
+    (All-cons (λ byte. (byte == 10) ≡ false) 32 (join_with_byte 32 (next ∷ words)) refl
+    (join_lacks next words others.0 others.1))
 
 -- ---- words that are put behind a text, a space before each
 
-join-more : (a w : List ℕ) (words : List (List ℕ)) → join_with_byte 32 ((a ++ 32 ∷ w) ∷ words) ≡ a ++ 32 ∷ join_with_byte 32 (w ∷ words)
+join-more : (a w : List ℕ) (words : List (List ℕ)) → join_with_byte 32 ((a ++ 32 ∷ w) ∷ words) ≡ a
+    ++ 32 ∷ join_with_byte 32 (w ∷ words)
 join-more a w [] = refl
 join-more a w (next ∷ words) = append_assoc a (32 ∷ w) (32 ∷ join_with_byte 32 (next ∷ words))
 
-pub after_words-join : (text word : List ℕ) (words : List (List ℕ)) → after_words (text ++ word) words ≡ text ++ join_with_byte 32 (word ∷ words)
+pub after_words-join : (text word : List ℕ) (words : List (List ℕ))
+    → after_words (text ++ word) words ≡ text ++ join_with_byte 32 (word ∷ words)
 after_words-join text word [] = refl
 after_words-join text word (w ∷ words) =
-    ap (λ t. after_words t words) (append_assoc text word (32 ∷ w)) ∙ after_words-join text (word ++ 32 ∷ w) words ∙ ap (λ t. text ++ t) (join-more word w words)
+    ap (λ t. after_words t words) (append_assoc text word (32 ∷ w))
+    ∙ after_words-join text (word ++ 32 ∷ w) words
+    ∙ ap (λ t. text ++ t) (join-more word w words)
 
--- ---- numbers and bytes, digit by digit
+-- words behind a text are the text, and the words behind nothing
+words_behind : (text : List ℕ) (words : List (List ℕ))
+    → text ++ after_words [] words ≡ after_words text words
+words_behind text words =
+    ap (λ t. text ++ t) (after_words-join [] [] words) ∙ sym (after_words-join text [] words)
+    ∙ ap (λ t. after_words t words) (append-nil text)
 
-hex_of-push : (bytes : List ℕ) (byte : ℕ) → hex_of (bytes ++ byte ∷ []) ≡ hex_of bytes ++ hex_digit (byte / 16) ∷ hex_digit (byte % 16) ∷ []
-hex_of-push [] byte = refl
-hex_of-push (b ∷ bytes) byte = ap (λ t. hex_digit (b / 16) ∷ hex_digit (b % 16) ∷ t) (hex_of-push bytes byte)
+-- words behind words
+words_on : (text : List ℕ) (first rest : List (List ℕ))
+    → after_words (after_words text first) rest ≡ after_words text (first ++ rest)
+words_on text [] rest = refl
+words_on text (word ∷ first) rest = words_on (text ++ 32 ∷ word) first rest
 
-pub hex_of-turn : (before bytes : List ℕ) (i : ℕ) → i < length bytes → (before ++ hex_of (take i bytes)) ++ hex_digit (get_or bytes i 0 / 16) ∷ [] ++ hex_digit (get_or bytes i 0 % 16) ∷ [] ≡ before ++ hex_of (take (i + 1) bytes)
-hex_of-turn before bytes i within =
-    let more : hex_of (take (i + 1) bytes) ≡ hex_of (take i bytes) ++ hex_digit (get_or bytes i 0 / 16) ∷ hex_digit (get_or bytes i 0 % 16) ∷ [] = ap hex_of (take_more bytes i 0 within) ∙ hex_of-push (take i bytes) (get_or bytes i 0) in
-    append_assoc (before ++ hex_of (take i bytes)) (hex_digit (get_or bytes i 0 / 16) ∷ []) (hex_digit (get_or bytes i 0 % 16) ∷ [])
-    ∙ append_assoc before (hex_of (take i bytes)) (hex_digit (get_or bytes i 0 / 16) ∷ hex_digit (get_or bytes i 0 % 16) ∷ [])
-    ∙ ap (λ t. before ++ t) (sym more)
+pub after_words-append : (first rest : List (List ℕ))
+    → after_words [] first ++ after_words [] rest ≡ after_words [] (first ++ rest)
+after_words-append first rest = words_behind (after_words [] first) rest ∙ words_on [] first rest
 
--- the digits of a number behind a text
-pub decimal-more : (before text : List ℕ) (n : ℕ) → 10 ≤ n → n < 2 ^ 32 → text ≡ before ++ decimal (n / 10) → text ++ (48 + n % 10) ∷ [] ≡ before ++ decimal n
-decimal-more before text n more below e =
-    ap (λ t. t ++ (48 + n % 10) ∷ []) e ∙ append_assoc before (decimal (n / 10)) ((48 + n % 10) ∷ []) ∙ ap (λ t. before ++ t) (sym (decimal_step n more (omega arith)))
-
-pub decimal-one : (before : List ℕ) (n : ℕ) → n < 10 → before ++ (48 + n) ∷ [] ≡ before ++ decimal n
-decimal-one before n below = ap (λ t. before ++ t) (sym (decimal_digit n below))
-
-pub digits-more : (before text : List ℕ) (count n : ℕ) → 0 < count → text ≡ before ++ digits_text (count - 1) (n / 16) → text ++ hex_digit (n % 16) ∷ [] ≡ before ++ digits_text count n
-digits-more before text zero n some e = absurd (omega arith)
-digits-more before text (suc count) n some e =
-    let same : suc count - 1 ≡ count = omega arith in
-    ap (λ t. t ++ hex_digit (n % 16) ∷ []) (e ∙ ap (λ k. before ++ digits_text k (n / 16)) same) ∙ append_assoc before (digits_text count (n / 16)) (hex_digit (n % 16) ∷ [])
+-- a word and words behind it, a space before each, are the words joined by spaces
+pub word_and_words : (word : List ℕ) (words : List (List ℕ))
+    → word ++ after_words [] words ≡ join_with_byte 32 (word ∷ words)
+word_and_words word words = words_behind word words ∙ after_words-join [] word words

@@ -9,9 +9,12 @@ pub mod Outcomes
 pub mod LineLaws
 pub mod ReadLaws
 pub mod KnownLaws
+pub mod Marks
 pub mod ScriptLaws
 pub mod Joins
+pub mod SpacedWords
 pub mod PrintLaws
+pub mod GrowingLaws
 pub mod SetUpLaws
 pub mod AdviceLaws
 pub mod SoakLaws

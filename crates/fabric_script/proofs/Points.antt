@@ -14,7 +14,8 @@ use Rattle.fabric_script.specs.Hits.{point_text}
 abbrev pub Lacks : ℕ → List ℕ → Type 0
 Lacks c bytes = All (λ byte. (byte == c) ≡ false) bytes
 
-pub same_parts : (c : ℕ) (a b x y : List ℕ) → Lacks c a → Lacks c b → a ++ c ∷ x ≡ b ++ c ∷ y → (a ≡ b) × (x ≡ y)
+pub same_parts : (c : ℕ) (a b x y : List ℕ) → Lacks c a → Lacks c b → a ++ c ∷ x ≡ b ++ c ∷ y
+    → (a ≡ b) × (x ≡ y)
 same_parts c [] [] x y lacks_a lacks_b e = (refl, cc)
 same_parts c [] (d ∷ b) x y lacks_a lacks_b e =
     let other = All-head (λ byte. (byte == c) ≡ false) d b lacks_b in
@@ -25,14 +26,19 @@ same_parts c (d ∷ a) [] x y lacks_a lacks_b e =
     let same : d ≡ c = cc in
     absurd (grind (arith, nat_tests, other, same))
 same_parts c (d ∷ a) (f ∷ b) x y lacks_a lacks_b e =
-    let rest = same_parts c a b x y (All-tail (λ byte. (byte == c) ≡ false) d a lacks_a) (All-tail (λ byte. (byte == c) ≡ false) f b lacks_b) cc in
+    let rest = same_parts c a b x y (All-tail (λ byte. (byte == c) ≡ false) d a lacks_a)
+    (All-tail (λ byte. (byte == c) ≡ false) f b lacks_b) cc in
     let first : d ≡ f = cc in
     let all : d ∷ a ≡ f ∷ b = ap (λ t. d ∷ t) rest.0 ∙ ap (λ t. t ∷ b) first in
     (all, rest.1)
 
 has_it : (c : ℕ) (a x : List ℕ) → ¬ Lacks c (a ++ c ∷ x)
-has_it c [] x lacks = let other = All-head (λ byte. (byte == c) ≡ false) c x lacks in grind (arith, nat_tests, other)
-has_it c (d ∷ a) x lacks = has_it c a x (All-tail (λ byte. (byte == c) ≡ false) d (a ++ c ∷ x) lacks)
+has_it c [] x lacks =
+    let other = All-head (λ byte. (byte == c) ≡ false) c x lacks
+    in
+    grind (arith, nat_tests, other)
+has_it c (d ∷ a) x lacks =
+    has_it c a x (All-tail (λ byte. (byte == c) ≡ false) d (a ++ c ∷ x) lacks)
 
 -- the bytes of a name and of a number are 48 and more
 abbrev pub IsHigh : List ℕ → Type 0
@@ -70,39 +76,63 @@ point_text-parts name port = append_assoc name (46 ∷ []) (decimal port)
 
 -- ---- words that are no ports
 
-pub no_port-point : (word : List ℕ) → Lacks 46 word → (name : List ℕ) (port : ℕ) → is_name name ≡ true → port < 16 → word ≢ point_text name port
-no_port-point word lacks name port is_name below e = has_it 46 name (decimal port) (subst (Lacks 46) (e ∙ point_text-parts name port) lacks)
+pub no_port-point : (word : List ℕ) → Lacks 46 word → (name : List ℕ) (port : ℕ) → is_name name
+    ≡ true → port < 16 → word ≢ point_text name port
+no_port-point word lacks name port is_name below e =
+    has_it 46 name (decimal port) (subst (Lacks 46) (e ∙ point_text-parts name port) lacks)
 
-port_parts : (word front behind name : List ℕ) (port : ℕ) → Lacks 46 front → word ≡ front ++ 46 ∷ behind → is_name name ≡ true → word ≡ point_text name port → (front ≡ name) × (behind ≡ decimal port)
+port_parts : (word front behind name : List ℕ) (port : ℕ) → Lacks 46 front → word ≡ front ++ 46
+    ∷ behind → is_name name ≡ true → word ≡ point_text name port → (front ≡ name)
+    × (behind ≡ decimal port)
 port_parts word front behind name port lacks parts named e =
-    same_parts 46 front name behind (decimal port) lacks (lacks_low 46 name (omega arith) (high_name name named)) (sym parts ∙ e ∙ point_text-parts name port)
+    same_parts 46 front name behind (decimal port) lacks
+    (lacks_low 46 name (omega arith) (high_name name named))
+    (sym parts ∙ e ∙ point_text-parts name port)
 
-pub no_port-name : (word front behind : List ℕ) → Lacks 46 front → word ≡ front ++ 46 ∷ behind → is_name front ≡ false → (name : List ℕ) (port : ℕ) → is_name name ≡ true → port < 16 → word ≢ point_text name port
+pub no_port-name : (word front behind : List ℕ) → Lacks 46 front → word ≡ front ++ 46 ∷ behind
+    → is_name front ≡ false → (name : List ℕ) (port : ℕ) → is_name name ≡ true → port < 16 → word
+    ≢ point_text name port
 no_port-name word front behind lacks parts other name port named below e =
     let same = port_parts word front behind name port lacks parts named e in
     let name_too = ap is_name same.0 in
     cc
 
-pub no_port-number : (word front behind : List ℕ) → Lacks 46 front → word ≡ front ++ 46 ∷ behind → ((n : ℕ) → n < 2 ^ 32 → behind ≢ decimal n) → (name : List ℕ) (port : ℕ) → is_name name ≡ true → port < 16 → word ≢ point_text name port
+pub no_port-number : (word front behind : List ℕ) → Lacks 46 front → word ≡ front ++ 46 ∷ behind
+    → ((n : ℕ) → n < 2 ^ 32 → behind ≢ decimal n) → (name : List ℕ) (port : ℕ) → is_name name ≡ true
+    → port < 16 → word ≢ point_text name port
 no_port-number word front behind lacks parts other name port named below e =
     other port (omega arith) (port_parts word front behind name port lacks parts named e).1
 
-pub no_port-large : (word front behind : List ℕ) (n : ℕ) → Lacks 46 front → word ≡ front ++ 46 ∷ behind → behind ≡ decimal n → n < 2 ^ 32 → 15 < n → (name : List ℕ) (port : ℕ) → is_name name ≡ true → port < 16 → word ≢ point_text name port
+pub no_port-large : (word front behind : List ℕ) (n : ℕ) → Lacks 46 front → word ≡ front ++ 46
+    ∷ behind → behind ≡ decimal n → n < 2 ^ 32 → 15 < n → (name : List ℕ) (port : ℕ) → is_name name
+    ≡ true → port < 16 → word ≢ point_text name port
 no_port-large word front behind n lacks parts is fits large name port named below e =
-    let same = decimal_injective n port (omega arith) (omega arith) (sym is ∙ (port_parts word front behind name port lacks parts named e).1) in
+    let same = decimal_injective n port (omega arith) (omega arith)
+    (sym is ∙ (port_parts word front behind name port lacks parts named e).1) in
     omega arith
 
 -- the parts of a port are its own alone
-pub same_port_text : (name other : List ℕ) (port port' : ℕ) → is_name name ≡ true → is_name other ≡ true → port < 16 → port' < 16 → point_text name port ≡ point_text other port' → (name ≡ other) × (port ≡ port')
+pub same_port_text : (name other : List ℕ) (port port' : ℕ) → is_name name ≡ true → is_name other
+    ≡ true → port < 16 → port' < 16 → point_text name port ≡ point_text other port' → (name ≡ other)
+    × (port ≡ port')
 same_port_text name other port port' named named' below below' e =
-    let same = port_parts (point_text name port) name (decimal port) other port' (lacks_low 46 name (omega arith) (high_name name named)) (point_text-parts name port) named' e in
+    let same = port_parts (point_text name port) name (decimal port) other port'
+    (lacks_low 46 name (omega arith) (high_name name named)) (point_text-parts name port)
+    named' e in
     (same.0, decimal_injective port port' (omega arith) (omega arith) same.1)
 
 -- the first part of a list ends at the first such byte
-pub cut_at : (c : ℕ) (bytes : List ℕ) (i : ℕ) → i < length bytes → get_or bytes i 0 ≡ c → Lacks c (take i bytes) → slice_split (λ byte. byte == c) bytes ≡ take i bytes ∷ slice_split (λ byte. byte == c) (take (length bytes - (i + 1)) (drop (i + 1) bytes))
+pub cut_at : (c : ℕ) (bytes : List ℕ) (i : ℕ) → i < length bytes → get_or bytes i 0 ≡ c
+    → Lacks c (take i bytes) → slice_split (λ byte. byte == c) bytes ≡ take i bytes
+    ∷ slice_split (λ byte. byte == c) (take (length bytes - (i + 1)) (drop (i + 1) bytes))
 cut_at c bytes i within here lacks =
-    let rest : take (length bytes - (i + 1)) (drop (i + 1) bytes) ≡ drop (i + 1) bytes = grind (arith, common_steps) in
-    let next : drop i bytes ≡ get_or bytes i 0 ∷ drop (i + 1) bytes = rw add-one (drop-cons bytes i 0 within) in
-    let parts : bytes ≡ take i bytes ++ c ∷ drop (i + 1) bytes = sym (take-append-drop i bytes) ∙ ap (λ l. take i bytes ++ l) next ∙ ap (λ b. take i bytes ++ b ∷ drop (i + 1) bytes) here in
+    let rest : take (length bytes - (i + 1)) (drop (i + 1) bytes) ≡ drop (i + 1) bytes =
+    grind (arith, common_steps) in
+    let next : drop i bytes ≡ get_or bytes i 0 ∷ drop (i + 1) bytes =
+    rw add-one (drop-cons bytes i 0 within) in
+    let parts : bytes ≡ take i bytes ++ c ∷ drop (i + 1) bytes = sym (take-append-drop i bytes)
+    ∙ ap (λ l. take i bytes ++ l) next ∙ ap (λ b. take i bytes ++ b ∷ drop (i + 1) bytes)
+    here in
     let yes : (c == c) ≡ true = grind (arith, nat_tests) in
-    rw rest (ap (slice_split (λ byte. byte == c)) parts ∙ slice_split_at (λ byte. byte == c) (take i bytes) c (drop (i + 1) bytes) lacks yes)
+    rw rest (ap (slice_split (λ byte. byte == c)) parts ∙ slice_split_at (λ byte. byte == c)
+    (take i bytes) c (drop (i + 1) bytes) lacks yes)

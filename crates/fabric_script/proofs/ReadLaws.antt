@@ -22,9 +22,12 @@ use Rattle.fabric_script.proofs.Outcomes.{Outcome, outcome, number_in_range, ran
 use Rattle.fabric_script.proofs.LineLaws.{keyword-injective, same_line, length-fit, no_hit_one}
 
 -- a new node's name is the first word behind the keyword; other lines have none
-own_values : (text : List ℕ) (keyword : List ℕ) (rest : List (List ℕ)) (line : Line) → words_of text ≡ keyword ∷ rest → values_of (first_word rest) line ≡ values_of (new_name_in text line) line
-own_values text keyword rest (Endpoint name id) e = ap (λ ws. values_of (second_word ws) (Endpoint name id)) (sym e)
-own_values text keyword rest (Switch name ports) e = ap (λ ws. values_of (second_word ws) (Switch name ports)) (sym e)
+own_values : (text : List ℕ) (keyword : List ℕ) (rest : List (List ℕ)) (line : Line) → words_of text
+    ≡ keyword ∷ rest → values_of (first_word rest) line ≡ values_of (new_name_in text line) line
+own_values text keyword rest (Endpoint name id) e =
+    ap (λ ws. values_of (second_word ws) (Endpoint name id)) (sym e)
+own_values text keyword rest (Switch name ports) e =
+    ap (λ ws. values_of (second_word ws) (Switch name ports)) (sym e)
 own_values text keyword rest (Link a b) e = refl
 own_values text keyword rest (Buffers port n) e = refl
 own_values text keyword rest (Route node id p) e = refl
@@ -52,31 +55,44 @@ own_values text keyword rest (Run n) e = refl
 -- ---- a text that says a line is hit by none but those of the line
 
 -- it has the form of the line, and no reason hits its words
-says_form : (known : Known) (text : List ℕ) (line : Line) → Says known text line → HasForm (form_of line) text
+says_form : (known : Known) (text : List ℕ) (line : Line) → Says known text line
+    → HasForm (form_of line) text
 says_form known text line says = record {
   rest = map (value_text known.names) (values_of (new_name_in text line) line);
   words = says.words;
-  count = length-map (values_of (new_name_in text line) line) (value_text known.names) ∙ length-fit known (fields_of (form_of line)) (values_of (new_name_in text line) line) says.may.fit;
+  count = length-map (values_of (new_name_in text line) line) (value_text known.names)
+      ∙ length-fit known (fields_of (form_of line)) (values_of (new_name_in text line) line)
+      says.may.fit;
 }
 
-says_no_word : (known : Known) (text : List ℕ) (line : Line) (form : Form) (has : HasForm form text) (reason : Reason) → IsOrderly known → Says known text line → HitsOne known reason (fields_of form) has.rest → ⊥
+says_no_word : (known : Known) (text : List ℕ) (line : Line) (form : Form) (has : HasForm form text)
+    (reason : Reason) → IsOrderly known → Says known text line
+    → HitsOne known reason (fields_of form) has.rest → ⊥
 says_no_word known text line form has reason orderly says h =
-    let all : keyword_of form ∷ has.rest ≡ line_words known.names (new_name_in text line) line = sym has.words ∙ says.words in
+    let all : keyword_of form ∷ has.rest ≡ line_words known.names (new_name_in text line) line =
+    sym has.words ∙ says.words in
     let same : form ≡ form_of line = keyword-injective form (form_of line) cc in
-    let rest : has.rest ≡ map (value_text known.names) (values_of (new_name_in text line) line) = cc in
-    no_hit_one known (fields_of (form_of line)) (values_of (new_name_in text line) line) reason orderly says.may.fit
-    (subst (λ ws. HitsOne known reason (fields_of (form_of line)) ws) rest (subst (λ f. HitsOne known reason (fields_of f) has.rest) same h))
+    let rest : has.rest ≡ map (value_text known.names) (values_of (new_name_in text line) line) =
+    cc in
+    no_hit_one known (fields_of (form_of line)) (values_of (new_name_in text line) line) reason
+    orderly says.may.fit
+    (subst (λ ws. HitsOne known reason (fields_of (form_of line)) ws) rest
+    (subst (λ f. HitsOne known reason (fields_of f) has.rest) same h))
 
 -- what hits it is a reason of the line
-pub says_hit : (known : Known) (text : List ℕ) (line : Line) (reason : Reason) → IsOrderly known → Says known text line → HitsText known text reason → refuses known reason line ≡ true
-says_hit known text line reason orderly says (NoForm none) = absurd (none (form_of line) (says_form known text line says))
-says_hit known text line reason orderly says (AWord form has h) = absurd (says_no_word known text line form has reason orderly says h)
+pub says_hit : (known : Known) (text : List ℕ) (line : Line) (reason : Reason) → IsOrderly known
+    → Says known text line → HitsText known text reason → refuses known reason line ≡ true
+says_hit known text line reason orderly says (NoForm none) =
+    absurd (none (form_of line) (says_form known text line says))
+says_hit known text line reason orderly says (AWord form has h) =
+    absurd (says_no_word known text line form has reason orderly says h)
 says_hit known text line reason orderly says (TheLine other says' refuses') =
     let same = same_line known text other line orderly says' says in
     subst (λ l. refuses known reason l ≡ true) same refuses'
 
 -- no reason hits a text that is a line
-pub spelled_no_hit : (known : Known) (text : List ℕ) (line : Line) (reason : Reason) → IsOrderly known → Spells known text line → HitsText known text reason → ⊥
+pub spelled_no_hit : (known : Known) (text : List ℕ) (line : Line) (reason : Reason)
+    → IsOrderly known → Spells known text line → HitsText known text reason → ⊥
 spelled_no_hit known text line reason orderly spells hits =
     let hit = says_hit known text line reason orderly spells.says hits in
     let free = spells.free reason in
@@ -84,14 +100,18 @@ spelled_no_hit known text line reason orderly spells hits =
 
 -- ---- what reading finds
 
-pub reads_no_form : (known : Known) (text : List ℕ) → ((form : Form) → keyword_of form ≢ first_word (words_of text)) → LeastHit known text UnknownLine
+pub reads_no_form : (known : Known) (text : List ℕ)
+    → ((form : Form) → keyword_of form ≢ first_word (words_of text))
+    → LeastHit known text UnknownLine
 reads_no_form known text none = record {
   hits = NoForm (λ form has. none form (sym (ap first_word has.words)));
   least = λ other h. (number_in_range other).0;
 }
 
 -- a form whose words are not as many as the text has
-other_count : (known : Known) (text : List ℕ) (form : Form) (rest : List (List ℕ)) → words_of text ≡ keyword_of form ∷ rest → length rest ≢ length (fields_of form) → LeastHit known text UnknownLine
+other_count : (known : Known) (text : List ℕ) (form : Form) (rest : List (List ℕ)) → words_of text
+    ≡ keyword_of form ∷ rest → length rest ≢ length (fields_of form)
+    → LeastHit known text UnknownLine
 other_count known text form rest words other = record {
   hits = NoForm (λ form' has.
       let all : keyword_of form' ∷ has.rest ≡ keyword_of form ∷ rest = sym has.words ∙ words in
@@ -102,28 +122,42 @@ other_count known text form rest words other = record {
 }
 
 -- a reason that hits a word, where none hits one that is less
-a_word : (known : Known) (text : List ℕ) (form : Form) (rest : List (List ℕ)) (reason : Reason) → IsOrderly known → words_of text ≡ keyword_of form ∷ rest → length rest ≡ length (fields_of form) → HitsOne known reason (fields_of form) rest → ((other : Reason) → HitsOne known other (fields_of form) rest → reason_number reason ≤ reason_number other) → LeastHit known text reason
+a_word : (known : Known) (text : List ℕ) (form : Form) (rest : List (List ℕ)) (reason : Reason)
+    → IsOrderly known → words_of text ≡ keyword_of form ∷ rest → length rest
+    ≡ length (fields_of form) → HitsOne known reason (fields_of form) rest
+    → ((other : Reason) → HitsOne known other (fields_of form) rest → reason_number reason
+    ≤ reason_number other) → LeastHit known text reason
 a_word known text form rest reason orderly words count hits least =
     let has : HasForm form text = record { rest = rest; words = words; count = count } in
     record { hits = AWord form has hits; least = all has }
   where
-    all : HasForm form text → (other : Reason) → HitsText known text other → reason_number reason ≤ reason_number other
+    all : HasForm form text → (other : Reason) → HitsText known text other → reason_number reason
+        ≤ reason_number other
     all has other (NoForm none) = absurd (none form has)
     all has other (AWord form' has' h) =
         let both : keyword_of form' ∷ has'.rest ≡ keyword_of form ∷ rest = sym has'.words ∙ words in
         let same : form' ≡ form = keyword-injective form' form cc in
         let rest_too : has'.rest ≡ rest = cc in
-        least other (subst (λ ws. HitsOne known other (fields_of form) ws) rest_too (subst (λ f. HitsOne known other (fields_of f) has'.rest) same h))
-    all has other (TheLine line says refuses') = absurd (says_no_word known text line form record { rest = rest; words = words; count = count } reason orderly says hits)
+        least other
+        (subst (λ ws. HitsOne known other (fields_of form) ws) rest_too
+        (subst (λ f. HitsOne known other (fields_of f) has'.rest) same h))
+    all has other (TheLine line says refuses') =
+        absurd (says_no_word known text line form record {
+          rest = rest;
+          words = words;
+          count = count;
+        } reason orderly says hits)
 
 -- the reason at the end, by the words that are left
 end_of-none : (left : Left) → left.words ≡ [] → end_of left ≡ left.hit
 end_of-none left none = ap (λ ws. end_of record { words = ws; hit = left.hit }) none
 
-end_of-more : (left : Left) (word : List ℕ) (words : List (List ℕ)) → left.words ≡ word ∷ words → end_of left ≡ Some UnknownLine
+end_of-more : (left : Left) (word : List ℕ) (words : List (List ℕ)) → left.words ≡ word ∷ words
+    → end_of left ≡ Some UnknownLine
 end_of-more left word words more = ap (λ ws. end_of record { words = ws; hit = left.hit }) more
 
-end_of-unknown : (words : List (List ℕ)) → end_of record { words = words; hit = Some UnknownLine } ≡ Some UnknownLine
+end_of-unknown : (words : List (List ℕ)) → end_of record { words = words; hit = Some UnknownLine }
+    ≡ Some UnknownLine
 end_of-unknown [] = refl
 end_of-unknown (word ∷ words) = refl
 
@@ -131,73 +165,117 @@ end_of-unknown (word ∷ words) = refl
 abbrev pub Behind : List ℕ → Form → Left → Type 0
 Behind text form left = (words_of text ≡ keyword_of form ∷ left.words) × (left.hit ≡ None)
 
-cut_words : (ws : List (List ℕ)) → 0 < length ws → (ws ≡ first_word ws ∷ (after_word record { words = ws; hit = None }).words) × ((after_word record { words = ws; hit = None }).hit ≡ None)
+cut_words : (ws : List (List ℕ)) → 0 < length ws
+    → (ws ≡ first_word ws ∷ (after_word record { words = ws; hit = None }).words)
+    × ((after_word record { words = ws; hit = None }).hit ≡ None)
 cut_words [] some = absurd (omega arith)
 cut_words (w ∷ ws) some = (refl, refl)
 
-pub behind_first : (text : List ℕ) (form : Form) (word : List ℕ) (all left : Left) → all ≡ record { words = words_of text; hit = None } → word ≡ first_word all.words → left ≡ after_word all → keyword_of form ≡ word → Behind text form left
+pub behind_first : (text : List ℕ) (form : Form) (word : List ℕ) (all left : Left) → all
+    ≡ record { words = words_of text; hit = None } → word ≡ first_word all.words → left
+    ≡ after_word all → keyword_of form ≡ word → Behind text form left
 behind_first text form word all left begin first rest is =
-    let cut = cut_words (words_of text) (omega (arith, length-slice_split (λ byte. byte == 32) text)) in
-    let after : left ≡ after_word record { words = words_of text; hit = None } = rest ∙ ap (λ l. after_word l) begin in
-    let head : first_word (words_of text) ≡ keyword_of form = sym (is ∙ first ∙ ap (λ l. first_word l.words) begin) in
-    (cut.0 ∙ ap (λ w. w ∷ (after_word record { words = words_of text; hit = None }).words) head ∙ ap (λ ws. keyword_of form ∷ ws) (sym (ap (λ l. l.words) after)), ap (λ l. l.hit) after ∙ cut.1)
+    let cut =
+    cut_words (words_of text) (omega (arith, length-slice_split (λ byte. byte == 32) text))
+    in
+    let after : left ≡ after_word record { words = words_of text; hit = None } =
+    rest ∙ ap (λ l. after_word l) begin in
+    let head : first_word (words_of text) ≡ keyword_of form =
+    sym (is ∙ first ∙ ap (λ l. first_word l.words) begin) in (
+      cut.0 ∙ ap (λ w. w ∷ (after_word record { words = words_of text; hit = None }).words) head
+          ∙ ap (λ ws. keyword_of form ∷ ws) (sym (ap (λ l. l.words) after)),
+      ap (λ l. l.hit) after
+          ∙ cut.1,
+    )
 
-pub reads_hit : (known : Known) (text : List ℕ) (form : Form) (left left_after : Left) (line : Line) (reason : Reason) → IsOrderly known → Behind text form left → TakesLine known form left line left_after → end_of left_after ≡ Some reason → LeastHit known text reason
+pub reads_hit : (known : Known) (text : List ℕ) (form : Form) (left left_after : Left) (line : Line)
+    (reason : Reason) → IsOrderly known → Behind text form left
+    → TakesLine known form left line left_after → end_of left_after ≡ Some reason
+    → LeastHit known text reason
 reads_hit known text form left left_after line reason orderly behind takes ended =
     by_count (cases_lt (length left.words) (length (fields_of form)))
   where
-    o : Outcome known (fields_of form) (values_of (first_word left.words) line) left.words left.hit left_after.words left_after.hit
-    o = outcome known (fields_of form) (values_of (first_word left.words) line) left left_after orderly takes.takes
+    o : Outcome known (fields_of form) (values_of (first_word left.words) line) left.words left.hit
+        left_after.words left_after.hit
+    o = outcome known (fields_of form) (values_of (first_word left.words) line) left left_after
+        orderly takes.takes
 
-    unknown : end_of left_after ≡ Some UnknownLine → length left.words ≢ length (fields_of form) → LeastHit known text reason
+    unknown : end_of left_after ≡ Some UnknownLine → length left.words ≢ length (fields_of form)
+        → LeastHit known text reason
     unknown is other =
         let same : UnknownLine ≡ reason = let e = sym is ∙ ended in cc in
-        subst (λ r. LeastHit known text r) same (other_count known text form left.words behind.0 other)
+        subst (λ r. LeastHit known text r) same
+        (other_count known text form left.words behind.0 other)
 
-    by_from : length left.words ≡ length (fields_of form) → left_after.hit ≡ Some reason → (left_after.hit ≡ left.hit) ⊎ ((r : Reason) × HitsOne known r (fields_of form) left.words × (left_after.hit ≡ Some r)) → LeastHit known text reason
+    by_from : length left.words ≡ length (fields_of form) → left_after.hit ≡ Some reason
+        → (left_after.hit ≡ left.hit)
+        ⊎ ((r : Reason) × HitsOne known r (fields_of form) left.words × (left_after.hit ≡ Some r))
+        → LeastHit known text reason
     by_from count noted (inl same) = absurd (let e = sym noted ∙ same ∙ behind.1 in cc)
     by_from count noted (inr found) =
         let same : found.0 ≡ reason = let e = sym found.2 ∙ noted in cc in
-        a_word known text form left.words reason orderly behind.0 count (subst (λ r. HitsOne known r (fields_of form) left.words) same found.1)
+        a_word known text form left.words reason orderly behind.0 count
+        (subst (λ r. HitsOne known r (fields_of form) left.words) same found.1)
         (λ other h. let low = o.least other h in let at : rank left_after.hit ≡ reason_number reason = ap rank noted in omega arith)
 
-    by_rest : length (fields_of form) ≤ length left.words → (rest : List (List ℕ)) → left_after.words ≡ rest → LeastHit known text reason
+    by_rest : length (fields_of form) ≤ length left.words → (rest : List (List ℕ))
+        → left_after.words ≡ rest → LeastHit known text reason
     by_rest enough [] none =
         let parts = o.left enough in
-        let count : length left.words ≡ length (fields_of form) = omega (arith, parts, ap length none) in
+        let count : length left.words ≡ length (fields_of form) =
+        omega (arith, parts, ap length none) in
         by_from count (sym (end_of-none left_after none) ∙ ended) (o.from enough)
     by_rest enough (word ∷ words) more =
         let parts = o.left enough in
-        unknown (end_of-more left_after word words more) (λ same. omega (arith, parts, ap length more, same))
+        unknown (end_of-more left_after word words more)
+        (λ same. omega (arith, parts, ap length more, same))
 
-    by_count : (length left.words < length (fields_of form)) ⊎ (length (fields_of form) ≤ length left.words) → LeastHit known text reason
+    by_count : (length left.words < length (fields_of form))
+        ⊎ (length (fields_of form) ≤ length left.words) → LeastHit known text reason
     by_count (inl few) =
-        let noted = ap (λ h. end_of record { words = left_after.words; hit = h }) (o.few few) ∙ end_of-unknown left_after.words in
+        let noted = ap (λ h. end_of record { words = left_after.words; hit = h }) (o.few few)
+        ∙ end_of-unknown left_after.words in
         unknown noted (λ same. omega arith)
     by_count (inr enough) = by_rest enough left_after.words refl
 
-pub reads_none : (known : Known) (text : List ℕ) (form : Form) (left left_after : Left) (line : Line) → IsOrderly known → Behind text form left → TakesLine known form left line left_after → end_of left_after ≡ None → Says known text line
-reads_none known text form left left_after line orderly behind takes ended = by_rest left_after.words refl
+pub reads_none : (known : Known) (text : List ℕ) (form : Form) (left left_after : Left)
+    (line : Line) → IsOrderly known → Behind text form left
+    → TakesLine known form left line left_after → end_of left_after ≡ None → Says known text line
+reads_none known text form left left_after line orderly behind takes ended =
+    by_rest left_after.words refl
   where
-    o : Outcome known (fields_of form) (values_of (first_word left.words) line) left.words left.hit left_after.words left_after.hit
-    o = outcome known (fields_of form) (values_of (first_word left.words) line) left left_after orderly takes.takes
+    o : Outcome known (fields_of form) (values_of (first_word left.words) line) left.words left.hit
+        left_after.words left_after.hit
+    o = outcome known (fields_of form) (values_of (first_word left.words) line) left left_after
+        orderly takes.takes
 
     by_rest : (rest : List (List ℕ)) → left_after.words ≡ rest → Says known text line
     by_rest (word ∷ words) more = absurd (let e = sym (end_of-more left_after word words more) ∙ ended in cc)
     by_rest [] none =
         let f = o.fits (sym (end_of-none left_after none) ∙ ended) in
         let own = own_values text (keyword_of form) left.words line behind.0 in
-        let rest = f.2 ∙ ap (λ r. map (value_text known.names) (values_of (first_word left.words) line) ++ r) none ∙ append-nil (map (value_text known.names) (values_of (first_word left.words) line)) in
+        let rest =
+        f.2 ∙ ap (λ r. map (value_text known.names) (values_of (first_word left.words) line)
+        ++ r) none
+        ∙ append-nil (map (value_text known.names) (values_of (first_word left.words) line))
+        in
         record {
-          words = behind.0 ∙ ap (λ k. keyword_of k ∷ left.words) (sym takes.is) ∙ ap (λ ws. keyword_of (form_of line) ∷ ws) (rest ∙ ap (λ vs. map (value_text known.names) vs) own);
+          words = behind.0 ∙ ap (λ k. keyword_of k ∷ left.words) (sym takes.is)
+              ∙ ap (λ ws. keyword_of (form_of line) ∷ ws)
+              (rest ∙ ap (λ vs. map (value_text known.names) vs) own);
           may = record {
-            fit = subst (λ vs. FitAll known (fields_of (form_of line)) vs) own (subst (λ k. FitAll known (fields_of k) (values_of (first_word left.words) line)) (sym takes.is) f.1);
+            fit = subst (λ vs. FitAll known (fields_of (form_of line)) vs) own
+                (subst (λ k. FitAll known (fields_of k) (values_of (first_word left.words) line))
+                (sym takes.is) f.1);
             next = takes.next;
           };
         }
 
 -- a line that a reason hits, where none hits it that is less
-pub reads_refused : (known : Known) (text : List ℕ) (line : Line) (reason : Reason) → IsOrderly known → Says known text line → refuses known reason line ≡ true → ((other : Reason) → refuses known other line ≡ true → reason_number reason ≤ reason_number other) → LeastHit known text reason
+pub reads_refused : (known : Known) (text : List ℕ) (line : Line) (reason : Reason)
+    → IsOrderly known → Says known text line → refuses known reason line ≡ true
+    → ((other : Reason) → refuses known other line ≡ true → reason_number reason
+    ≤ reason_number other) → LeastHit known text reason
 reads_refused known text line reason orderly says hit least = record {
   hits = TheLine line says hit;
   least = λ other h. least other (says_hit known text line other orderly says h);

@@ -9,7 +9,8 @@ use Rattle.fabric_script.specs.Soak.{soak_set_up, soak_events, soak_values, soak
 -- ---- numbers of lines
 
 pub numbered-append : (number : ℕ) (xs ys : List Line)
-    → numbered_from number (xs ++ ys) ≡ numbered_from number xs ++ numbered_from (number + length xs) ys
+    → numbered_from number (xs ++ ys) ≡ numbered_from number xs
+    ++ numbered_from (number + length xs) ys
 unfolding numbered_from
 numbered-append number [] ys = ap (λ n. numbered_from n ys) (omega arith)
 numbered-append number (x ∷ xs) ys =
@@ -34,7 +35,8 @@ pub numbered-push : (before : List Line) (line : Line) (old : List Numbered)
 numbered-push before line old is =
     let long : length old ≡ length before = ap length is ∙ length-numbered 1 before in
     ap (λ ls. ls ++ record { number = length old + 1; line = line } ∷ []) is
-    ∙ ap (λ n. numbered_from 1 before ++ record { number = n; line = line } ∷ []) (omega (arith, long))
+    ∙ ap (λ n. numbered_from 1 before ++ record { number = n; line = line } ∷ [])
+    (omega (arith, long))
     ∙ ap (λ ls. numbered_from 1 before ++ ls) (numbered_one (1 + length before) line)
     ∙ sym (numbered-append 1 before (line ∷ []))
 
@@ -48,7 +50,8 @@ times-push zero line = refl
 times-push (suc count) line = ap (λ ls. line ∷ ls) (times-push count line)
 
 pub joined_round : (before : List Line) (n : ℕ)
-    → ((((before ++ Run 1 ∷ []) ++ times n (Collect 0)) ++ times n (Collect 1)) ++ times n (Collect 2))
+    → ((((before ++ Run 1 ∷ []) ++ times n (Collect 0)) ++ times n (Collect 1))
+    ++ times n (Collect 2))
     ++ times n (Collect 3) ≡ before ++ round_lines n
 unfolding round_lines
 joined_round before n =
@@ -109,11 +112,13 @@ steps_end number x = refl
 
 pub tenth_round : (number : ℕ) → number % 10 ≡ 0 → round_lines 4 ≡ round_behind number
 unfolding round_behind
-tenth_round number is = ap (λ (b : Bool). if b then round_lines 4 else []) (sym (eq-eqb (number % 10) 0 is))
+tenth_round number is = ap (λ (b : Bool). if b then round_lines 4 else [])
+    (sym (eq-eqb (number % 10) 0 is))
 
 pub no_round : (number : ℕ) → number % 10 ≢ 0 → [] ≡ round_behind number
 unfolding round_behind
-no_round number is = ap (λ (b : Bool). if b then round_lines 4 else []) (sym (ne_eqb (number % 10) 0 is))
+no_round number is = ap (λ (b : Bool). if b then round_lines 4 else [])
+    (sym (ne_eqb (number % 10) 0 is))
 
 -- so far these lines were added, and what is left of the steps follows them
 pub record IsUpTo (seed i x : ℕ) (new : List Numbered) (before : List Line) : Type 0 where
@@ -189,7 +194,8 @@ so_far_next lines new line rest far add = record {
 pub so_far_few : (lines : List Numbered) (rest : List Line) → AreSoFar lines rest
     → length lines ≤ 19
 so_far_few lines rest far =
-    let long : length lines ≡ length far.done = ap length far.numbered ∙ length-numbered 1 far.done in
+    let long : length lines ≡ length far.done = ap length far.numbered
+    ∙ length-numbered 1 far.done in
     let all : length far.done + length rest ≡ 19 =
     sym (length-append far.done rest) ∙ ap length far.all in
     omega (arith, long, all)

@@ -131,7 +131,10 @@ link_may joined a b an ap1 af bn bp bf = record {
 route_may : (node id p : ℕ) → node < 6 → id < 4 → p < 4
     → MayBe (known_with links) [] (Route node id p)
 route_may node id p n i less = record {
-  fit = (n, ((omega (arith, i), omega (arith, i)), ((omega (arith, less), omega (arith, less)), tt)));
+  fit = (
+    n,
+    ((omega (arith, i), omega (arith, i)), ((omega (arith, less), omega (arith, less)), tt)),
+  );
   next = tt;
 }
 
@@ -188,8 +191,15 @@ passes_routes lines rest =
     refl refl refl refl refl refl refl refl in
     let s7 = line_passes (known_with links) (Route 5 1 2)
     (route_may 5 1 2 (omega arith) (omega arith) (omega arith))
-    refl refl refl refl refl refl refl refl in
-    (s0.0, s0.1, (s1.0, s1.1, (s2.0, s2.1, (s3.0, s3.1, (s4.0, s4.1, (s5.0, s5.1, (s6.0, s6.1, (s7.0, s7.1, rest))))))))
+    refl refl refl refl refl refl refl refl in (
+      s0.0,
+      s0.1,
+      (
+        s1.0,
+        s1.1,
+        (s2.0, s2.1, (s3.0, s3.1, (s4.0, s4.1, (s5.0, s5.1, (s6.0, s6.1, (s7.0, s7.1, rest)))))),
+      ),
+    )
 
 passes_links : (lines : List Numbered) → PassesFrom (known_with links) soak_names lines
     → PassesFrom (known_with []) soak_names (numbered_from 7
@@ -197,44 +207,83 @@ passes_links : (lines : List Numbered) → PassesFrom (known_with links) soak_na
 unfolding numbered_from
 passes_links lines rest =
     let s0 = line_passes (known_with []) (Link (port_at_node 0 0) (port_at_node 4 0))
-    (link_may [] (port_at_node 0 0) (port_at_node 4 0) (omega arith) (omega arith) (few_ports 0 0 refl) (omega arith) (omega arith) (few_ports 4 0 refl))
+    (link_may [] (port_at_node 0 0) (port_at_node 4 0) (omega arith) (omega arith)
+    (few_ports 0 0 refl) (omega arith) (omega arith) (few_ports 4 0 refl))
     refl refl refl refl refl refl refl refl in
-    let s1 = line_passes (known_with ((port_at_node 0 0, port_at_node 4 0) ∷ [])) (Link (port_at_node 1 0) (port_at_node 4 1))
-    (link_may ((port_at_node 0 0, port_at_node 4 0) ∷ []) (port_at_node 1 0) (port_at_node 4 1) (omega arith) (omega arith) (few_ports 1 0 refl) (omega arith) (omega arith) (few_ports 4 1 refl))
+    let s1 = line_passes (known_with ((port_at_node 0 0, port_at_node 4 0) ∷ []))
+    (Link (port_at_node 1 0) (port_at_node 4 1))
+    (link_may ((port_at_node 0 0, port_at_node 4 0) ∷ []) (port_at_node 1 0) (port_at_node 4 1)
+    (omega arith) (omega arith) (few_ports 1 0 refl) (omega arith) (omega arith)
+    (few_ports 4 1 refl))
     refl refl refl refl refl refl refl refl in
-    let s2 = line_passes (known_with ((port_at_node 0 0, port_at_node 4 0) ∷ (port_at_node 1 0, port_at_node 4 1) ∷ [])) (Link (port_at_node 4 2) (port_at_node 5 2))
-    (link_may ((port_at_node 0 0, port_at_node 4 0) ∷ (port_at_node 1 0, port_at_node 4 1) ∷ []) (port_at_node 4 2) (port_at_node 5 2) (omega arith) (omega arith) (few_ports 4 2 refl) (omega arith) (omega arith) (few_ports 5 2 refl))
+    let s2 = line_passes
+    (known_with ((port_at_node 0 0, port_at_node 4 0) ∷ (port_at_node 1 0, port_at_node 4 1)
+    ∷ [])) (Link (port_at_node 4 2) (port_at_node 5 2))
+    (link_may ((port_at_node 0 0, port_at_node 4 0) ∷ (port_at_node 1 0, port_at_node 4 1) ∷ [])
+    (port_at_node 4 2) (port_at_node 5 2) (omega arith) (omega arith) (few_ports 4 2 refl)
+    (omega arith) (omega arith) (few_ports 5 2 refl))
     refl refl refl refl refl refl refl refl in
-    let s3 = line_passes (known_with ((port_at_node 0 0, port_at_node 4 0) ∷ (port_at_node 1 0, port_at_node 4 1) ∷ (port_at_node 4 2, port_at_node 5 2) ∷ [])) (Link (port_at_node 2 0) (port_at_node 5 0))
-    (link_may ((port_at_node 0 0, port_at_node 4 0) ∷ (port_at_node 1 0, port_at_node 4 1) ∷ (port_at_node 4 2, port_at_node 5 2) ∷ []) (port_at_node 2 0) (port_at_node 5 0) (omega arith) (omega arith) (few_ports 2 0 refl) (omega arith) (omega arith) (few_ports 5 0 refl))
+    let s3 = line_passes
+    (known_with ((port_at_node 0 0, port_at_node 4 0) ∷ (port_at_node 1 0, port_at_node 4 1)
+    ∷ (port_at_node 4 2, port_at_node 5 2) ∷ []))
+    (Link (port_at_node 2 0) (port_at_node 5 0))
+    (link_may ((port_at_node 0 0, port_at_node 4 0) ∷ (port_at_node 1 0, port_at_node 4 1)
+    ∷ (port_at_node 4 2, port_at_node 5 2) ∷ []) (port_at_node 2 0) (port_at_node 5 0)
+    (omega arith) (omega arith) (few_ports 2 0 refl) (omega arith) (omega arith)
+    (few_ports 5 0 refl))
     refl refl refl refl refl refl refl refl in
-    let s4 = line_passes (known_with ((port_at_node 0 0, port_at_node 4 0) ∷ (port_at_node 1 0, port_at_node 4 1) ∷ (port_at_node 4 2, port_at_node 5 2) ∷ (port_at_node 2 0, port_at_node 5 0) ∷ [])) (Link (port_at_node 3 0) (port_at_node 5 1))
-    (link_may ((port_at_node 0 0, port_at_node 4 0) ∷ (port_at_node 1 0, port_at_node 4 1) ∷ (port_at_node 4 2, port_at_node 5 2) ∷ (port_at_node 2 0, port_at_node 5 0) ∷ []) (port_at_node 3 0) (port_at_node 5 1) (omega arith) (omega arith) (few_ports 3 0 refl) (omega arith) (omega arith) (few_ports 5 1 refl))
+    let s4 = line_passes
+    (known_with ((port_at_node 0 0, port_at_node 4 0) ∷ (port_at_node 1 0, port_at_node 4 1)
+    ∷ (port_at_node 4 2, port_at_node 5 2) ∷ (port_at_node 2 0, port_at_node 5 0) ∷ []))
+    (Link (port_at_node 3 0) (port_at_node 5 1))
+    (link_may ((port_at_node 0 0, port_at_node 4 0) ∷ (port_at_node 1 0, port_at_node 4 1)
+    ∷ (port_at_node 4 2, port_at_node 5 2) ∷ (port_at_node 2 0, port_at_node 5 0) ∷ [])
+    (port_at_node 3 0) (port_at_node 5 1) (omega arith) (omega arith) (few_ports 3 0 refl)
+    (omega arith) (omega arith) (few_ports 5 1 refl))
     refl refl refl refl refl refl refl refl in
     (s0.0, s0.1, (s1.0, s1.1, (s2.0, s2.1, (s3.0, s3.1, (s4.0, s4.1, rest)))))
 
 passes_nodes : (lines : List Numbered) → PassesFrom (known_with []) soak_names lines
     → PassesFrom nothing soak_names (numbered_from 1
-    (Endpoint 0 0 ∷ Endpoint 1 1 ∷ Endpoint 2 2 ∷ Endpoint 3 3 ∷ Switch 4 4 ∷ Switch 5 4 ∷ []) ++ lines)
+    (Endpoint 0 0 ∷ Endpoint 1 1 ∷ Endpoint 2 2 ∷ Endpoint 3 3 ∷ Switch 4 4 ∷ Switch 5 4 ∷ [])
+    ++ lines)
 unfolding numbered_from
 passes_nodes lines rest =
     let s0 = line_passes (some_nodes [] [] []) (Endpoint 0 0)
     (endpoint_may [] [] (codes "E0") 0 0 refl refl (omega arith) tt)
     refl refl refl refl refl refl refl refl in
     let s1 = line_passes (some_nodes (codes "E0" ∷ []) (Nodes.Endpoint 0 ∷ []) []) (Endpoint 1 1)
-    (endpoint_may (codes "E0" ∷ []) (Nodes.Endpoint 0 ∷ []) (codes "E1") 1 1 refl refl (omega arith) (refl, tt))
+    (endpoint_may (codes "E0" ∷ []) (Nodes.Endpoint 0 ∷ []) (codes "E1") 1 1 refl refl (omega arith)
+    (refl, tt))
     refl refl refl refl refl refl refl refl in
-    let s2 = line_passes (some_nodes (codes "E0" ∷ codes "E1" ∷ []) (Nodes.Endpoint 0 ∷ Nodes.Endpoint 1 ∷ []) []) (Endpoint 2 2)
-    (endpoint_may (codes "E0" ∷ codes "E1" ∷ []) (Nodes.Endpoint 0 ∷ Nodes.Endpoint 1 ∷ []) (codes "E2") 2 2 refl refl (omega arith) (refl, (refl, tt)))
+    let s2 = line_passes
+    (some_nodes (codes "E0" ∷ codes "E1" ∷ []) (Nodes.Endpoint 0 ∷ Nodes.Endpoint 1 ∷ [])
+    []) (Endpoint 2 2)
+    (endpoint_may (codes "E0" ∷ codes "E1" ∷ []) (Nodes.Endpoint 0 ∷ Nodes.Endpoint 1 ∷ [])
+    (codes "E2") 2 2 refl refl (omega arith) (refl, (refl, tt)))
     refl refl refl refl refl refl refl refl in
-    let s3 = line_passes (some_nodes (codes "E0" ∷ codes "E1" ∷ codes "E2" ∷ []) (Nodes.Endpoint 0 ∷ Nodes.Endpoint 1 ∷ Nodes.Endpoint 2 ∷ []) []) (Endpoint 3 3)
-    (endpoint_may (codes "E0" ∷ codes "E1" ∷ codes "E2" ∷ []) (Nodes.Endpoint 0 ∷ Nodes.Endpoint 1 ∷ Nodes.Endpoint 2 ∷ []) (codes "E3") 3 3 refl refl (omega arith) (refl, (refl, (refl, tt))))
+    let s3 = line_passes
+    (some_nodes (codes "E0" ∷ codes "E1" ∷ codes "E2" ∷ [])
+    (Nodes.Endpoint 0 ∷ Nodes.Endpoint 1 ∷ Nodes.Endpoint 2 ∷ []) []) (Endpoint 3 3)
+    (endpoint_may (codes "E0" ∷ codes "E1" ∷ codes "E2" ∷ [])
+    (Nodes.Endpoint 0 ∷ Nodes.Endpoint 1 ∷ Nodes.Endpoint 2 ∷ []) (codes "E3") 3 3 refl refl
+    (omega arith) (refl, (refl, (refl, tt))))
     refl refl refl refl refl refl refl refl in
-    let s4 = line_passes (some_nodes (codes "E0" ∷ codes "E1" ∷ codes "E2" ∷ codes "E3" ∷ []) (Nodes.Endpoint 0 ∷ Nodes.Endpoint 1 ∷ Nodes.Endpoint 2 ∷ Nodes.Endpoint 3 ∷ []) []) (Switch 4 4)
-    (switch_may (codes "E0" ∷ codes "E1" ∷ codes "E2" ∷ codes "E3" ∷ []) (Nodes.Endpoint 0 ∷ Nodes.Endpoint 1 ∷ Nodes.Endpoint 2 ∷ Nodes.Endpoint 3 ∷ []) (codes "S") 4 refl refl (refl, (refl, (refl, (refl, tt)))))
+    let s4 = line_passes
+    (some_nodes (codes "E0" ∷ codes "E1" ∷ codes "E2" ∷ codes "E3" ∷ [])
+    (Nodes.Endpoint 0 ∷ Nodes.Endpoint 1 ∷ Nodes.Endpoint 2 ∷ Nodes.Endpoint 3 ∷ []) [])
+    (Switch 4 4)
+    (switch_may (codes "E0" ∷ codes "E1" ∷ codes "E2" ∷ codes "E3" ∷ [])
+    (Nodes.Endpoint 0 ∷ Nodes.Endpoint 1 ∷ Nodes.Endpoint 2 ∷ Nodes.Endpoint 3 ∷ []) (codes "S")
+    4 refl refl (refl, (refl, (refl, (refl, tt)))))
     refl refl refl refl refl refl refl refl in
-    let s5 = line_passes (some_nodes (codes "E0" ∷ codes "E1" ∷ codes "E2" ∷ codes "E3" ∷ codes "S" ∷ []) (Nodes.Endpoint 0 ∷ Nodes.Endpoint 1 ∷ Nodes.Endpoint 2 ∷ Nodes.Endpoint 3 ∷ Nodes.Switch 4 ∷ []) []) (Switch 5 4)
-    (switch_may (codes "E0" ∷ codes "E1" ∷ codes "E2" ∷ codes "E3" ∷ codes "S" ∷ []) (Nodes.Endpoint 0 ∷ Nodes.Endpoint 1 ∷ Nodes.Endpoint 2 ∷ Nodes.Endpoint 3 ∷ Nodes.Switch 4 ∷ []) (codes "T") 5 refl refl (refl, (refl, (refl, (refl, (refl, tt))))))
+    let s5 = line_passes
+    (some_nodes (codes "E0" ∷ codes "E1" ∷ codes "E2" ∷ codes "E3" ∷ codes "S" ∷ [])
+    (Nodes.Endpoint 0 ∷ Nodes.Endpoint 1 ∷ Nodes.Endpoint 2 ∷ Nodes.Endpoint 3
+    ∷ Nodes.Switch 4 ∷ []) []) (Switch 5 4)
+    (switch_may (codes "E0" ∷ codes "E1" ∷ codes "E2" ∷ codes "E3" ∷ codes "S" ∷ [])
+    (Nodes.Endpoint 0 ∷ Nodes.Endpoint 1 ∷ Nodes.Endpoint 2 ∷ Nodes.Endpoint 3 ∷ Nodes.Switch 4
+    ∷ []) (codes "T") 5 refl refl (refl, (refl, (refl, (refl, (refl, tt))))))
     refl refl refl refl refl refl refl refl in
     (s0.0, s0.1, (s1.0, s1.1, (s2.0, s2.1, (s3.0, s3.1, (s4.0, s4.1, (s5.0, s5.1, rest))))))
 
@@ -252,7 +301,8 @@ abbrev IsSoakEvent : Line → Type 0
 IsSoakEvent (Send node prio ftype dest hex) = (node < 4) × (prio < 4) × (ftype ≡ 15) × (dest < 4)
     × (length hex ≡ 2) × All (λ b. b < 256) hex
 IsSoakEvent (Pump port n) = (n' : ℕ) × (n' < 4) × (port ≡ port_at_node n' 0) × (n ≡ 1)
-IsSoakEvent (Erase port place n) = (n' : ℕ) × (n' < 4) × (port ≡ port_at_node n' 0) × (place ≡ 0) × (n ≡ 1)
+IsSoakEvent (Erase port place n) = (n' : ℕ) × (n' < 4) × (port ≡ port_at_node n' 0) × (place ≡ 0)
+    × (n ≡ 1)
 IsSoakEvent (Collect node) = node < 4
 IsSoakEvent (Run n) = n ≡ 1
 IsSoakEvent _ = ⊥
@@ -277,7 +327,8 @@ endpoint_is : (n : ℕ) → n < 4 → is_switch nodes n ≡ false
 endpoint_is = by_four (λ n. is_switch nodes n ≡ false) refl refl refl refl
 
 one_port : (n : ℕ) → n < 4 → 0 < ports_of nodes n
-one_port = by_four (λ n. 0 < ports_of nodes n) (few_ports 0 0 refl) (few_ports 1 0 refl) (few_ports 2 0 refl) (few_ports 3 0 refl)
+one_port = by_four (λ n. 0 < ports_of nodes n) (few_ports 0 0 refl) (few_ports 1 0 refl)
+    (few_ports 2 0 refl) (few_ports 3 0 refl)
 
 linked_is : (n : ℕ) → n < 4 → not (is_linked links (port_at_node n 0)) ≡ false
 linked_is = by_four (λ n. not (is_linked links (port_at_node n 0)) ≡ false) refl refl refl refl
@@ -285,8 +336,10 @@ linked_is = by_four (λ n. not (is_linked links (port_at_node n 0)) ≡ false) r
 few_is : (cost : ℕ) → cost ≤ 100000 → nat_lt 100000 cost ≡ false
 few_is cost few = le-ltb 100000 cost few
 
-good_length : (hex : List ℕ) (ftype : ℕ) → length hex ≡ 2 → ftype ≡ 15 → is_bad_length false ftype (length hex) ≡ false
-good_length hex ftype two is = ap (λ n. is_bad_length false ftype n) two ∙ ap (λ f. is_bad_length false f 2) is
+good_length : (hex : List ℕ) (ftype : ℕ) → length hex ≡ 2 → ftype ≡ 15
+    → is_bad_length false ftype (length hex) ≡ false
+good_length hex ftype two is = ap (λ n. is_bad_length false ftype n) two
+    ∙ ap (λ f. is_bad_length false f 2) is
 
 -- behind an event an event has its place
 placed : (begun : Bool) → (begun && false) ≡ false
@@ -296,7 +349,8 @@ placed false = refl
 port_fits : (known : Known) (port : PortRef) (n : ℕ) → n < 4 → port ≡ port_at_node n 0
     → (port.node < 6) × (port.port < 16) × (port.port < ports_of nodes port.node)
 port_fits known port n less is =
-    subst (λ (p : PortRef). (p.node < 6) × (p.port < 16) × (p.port < ports_of nodes p.node)) (sym is)
+    subst (λ (p : PortRef). (p.node < 6) × (p.port < 16) × (p.port < ports_of nodes p.node))
+    (sym is)
     (omega (arith, less), omega arith, one_port n less)
 
 port_linked : (port : PortRef) (n : ℕ) → n < 4 → port ≡ port_at_node n 0
@@ -315,13 +369,16 @@ with_event : (begun : Bool) (cost : ℕ) (line : Line) → MayBe (soak_known beg
     → new_name soak_names line ≡ [] → IsFree (soak_known begun cost) line
     → (number : ℕ) (lines : List Numbered)
     → PassesFrom (soak_known true (cost + cost_of links line)) soak_names lines
-    → PassesFrom (soak_known begun cost) soak_names (record { number = number; line = line } ∷ lines)
+    → PassesFrom (soak_known begun cost) soak_names
+    (record { number = number; line = line } ∷ lines)
 with_event begun cost line may after unnamed frees number lines rest = (
   subst (λ new. MayBe (soak_known begun cost) new line) (sym unnamed) may,
   frees,
-  subst (λ new. PassesFrom (known_after (soak_known begun cost) new line) soak_names lines) (sym unnamed)
+  subst (λ new. PassesFrom (known_after (soak_known begun cost) new line) soak_names lines)
+      (sym unnamed)
       (subst (λ known. PassesFrom known soak_names lines) (sym after)
-      (subst (λ x. PassesFrom (soak_known x (cost + cost_of links line)) soak_names lines) (begun_too begun) rest)),
+      (subst (λ x. PassesFrom (soak_known x (cost + cost_of links line)) soak_names lines)
+      (begun_too begun) rest)),
 )
 
 passes_events : (number : ℕ) (lines : List Line) (begun : Bool) (cost : ℕ)
@@ -339,12 +396,20 @@ passes_events number (Send node prio ftype dest hex ∷ lines) begun cost all fe
     let line = Send node prio ftype dest hex in
     with_event begun cost line
     (record {
-      fit = (omega (arith, a), ((omega arith, omega (arith, b)), ((omega arith, omega (arith, f)), ((omega arith, omega (arith, d)), (is.5, tt)))));
+      fit = (
+        omega (arith, a),
+        (
+          (omega arith, omega (arith, b)),
+          ((omega arith, omega (arith, f)), ((omega arith, omega (arith, d)), (is.5, tt))),
+        ),
+      );
       next = tt;
     }) refl refl
-    (free known line refl refl refl (good_length hex ftype is.4 is.2) (endpoint_is node a) (placed begun) refl
+    (free known line refl refl refl (good_length hex ftype is.4 is.2) (endpoint_is node a)
+    (placed begun) refl
     (few_is (cost + 1) (omega (arith, few))))
-    number (numbered_from (suc number) lines) (passes_events (suc number) lines true (cost + 1) all.1 (omega (arith, few)))
+    number (numbered_from (suc number) lines)
+    (passes_events (suc number) lines true (cost + 1) all.1 (omega (arith, few)))
 passes_events number (Pump port n ∷ lines) begun cost all few =
     let is = all.0 in
     let known = soak_known begun cost in
@@ -356,7 +421,8 @@ passes_events number (Pump port n ∷ lines) begun cost all few =
     }) refl refl
     (free known line refl refl refl refl refl (placed begun) (port_linked port is.0 is.1 is.2)
     (few_is (cost + n) (omega (arith, few))))
-    number (numbered_from (suc number) lines) (passes_events (suc number) lines true (cost + n) all.1 (omega (arith, few)))
+    number (numbered_from (suc number) lines)
+    (passes_events (suc number) lines true (cost + n) all.1 (omega (arith, few)))
 passes_events number (Erase port place n ∷ lines) begun cost all few =
     let is = all.0 in
     let known = soak_known begun cost in
@@ -364,19 +430,28 @@ passes_events number (Erase port place n ∷ lines) begun cost all few =
     let first = is.3 in
     let one = is.4 in
     with_event begun cost line (record {
-      fit = (port_fits known port is.0 is.1 is.2, ((omega (arith, first), omega (arith, first)), ((omega (arith, one), omega (arith, one)), tt)));
+      fit = (
+        port_fits known port is.0 is.1 is.2,
+        (
+          (omega (arith, first), omega (arith, first)),
+          ((omega (arith, one), omega (arith, one)), tt),
+        ),
+      );
       next = tt;
     }) refl refl
     (free known line refl refl refl refl refl (placed begun) (port_linked port is.0 is.1 is.2)
     (few_is (cost + 1) (omega (arith, few))))
-    number (numbered_from (suc number) lines) (passes_events (suc number) lines true (cost + 1) all.1 (omega (arith, few)))
+    number (numbered_from (suc number) lines)
+    (passes_events (suc number) lines true (cost + 1) all.1 (omega (arith, few)))
 passes_events number (Collect node ∷ lines) begun cost all few =
     let a = all.0 in
     let known = soak_known begun cost in
-    with_event begun cost (Collect node) (record { fit = (omega (arith, a), tt); next = tt }) refl refl
+    with_event begun cost (Collect node) (record { fit = (omega (arith, a), tt); next = tt }) refl
+    refl
     (free known (Collect node) refl refl refl refl (endpoint_is node a) (placed begun) refl
     (few_is (cost + 1) (omega (arith, few))))
-    number (numbered_from (suc number) lines) (passes_events (suc number) lines true (cost + 1) all.1 (omega (arith, few)))
+    number (numbered_from (suc number) lines)
+    (passes_events (suc number) lines true (cost + 1) all.1 (omega (arith, few)))
 passes_events number (Run n ∷ lines) begun cost all few =
     let one = all.0 in
     let known = soak_known begun cost in
@@ -384,7 +459,9 @@ passes_events number (Run n ∷ lines) begun cost all few =
     (record { fit = ((omega (arith, one), omega (arith, one)), tt); next = tt }) refl refl
     (free known (Run n) refl refl refl refl refl (placed begun) refl
     (few_is (cost + cost_of links (Run n)) (omega (arith, few))))
-    number (numbered_from (suc number) lines) (passes_events (suc number) lines true (cost + cost_of links (Run n)) all.1 (omega (arith, few)))
+    number (numbered_from (suc number) lines)
+    (passes_events (suc number) lines true (cost + cost_of links (Run n)) all.1
+    (omega (arith, few)))
 passes_events number (Endpoint name id ∷ lines) begun cost all few = absurd all.0
 passes_events number (Switch name ports ∷ lines) begun cost all few = absurd all.0
 passes_events number (Link a b ∷ lines) begun cost all few = absurd all.0
@@ -395,10 +472,13 @@ passes_events number (Lock node id ∷ lines) begun cost all few = absurd all.0
 passes_events number (Large node id ∷ lines) begun cost all few = absurd all.0
 passes_events number (Credits port ∷ lines) begun cost all few = absurd all.0
 passes_events number (Read node prio dest hop tid offset ∷ lines) begun cost all few = absurd all.0
-passes_events number (Write node prio dest hop tid offset value ∷ lines) begun cost all few = absurd all.0
+passes_events number (Write node prio dest hop tid offset value ∷ lines) begun cost all few =
+    absurd all.0
 passes_events number (Send16 node prio ftype dest hex ∷ lines) begun cost all few = absurd all.0
-passes_events number (Read16 node prio dest hop tid offset ∷ lines) begun cost all few = absurd all.0
-passes_events number (Write16 node prio dest hop tid offset value ∷ lines) begun cost all few = absurd all.0
+passes_events number (Read16 node prio dest hop tid offset ∷ lines) begun cost all few =
+    absurd all.0
+passes_events number (Write16 node prio dest hop tid offset value ∷ lines) begun cost all few =
+    absurd all.0
 passes_events number (Deliver port n ∷ lines) begun cost all few = absurd all.0
 passes_events number (Alter port place ch ∷ lines) begun cost all few = absurd all.0
 passes_events number (Insert port place ch ∷ lines) begun cost all few = absurd all.0
@@ -414,7 +494,8 @@ all-append [] ys a b = b
 all-append (x ∷ xs) ys a b = (a.0, all-append xs ys a.1 b)
 
 collects : (count node : ℕ) → node < 4
-    → AllByRecursion IsSoakEvent (times count (Collect node)) × (total (times count (Collect node)) ≡ count)
+    → AllByRecursion IsSoakEvent (times count (Collect node))
+    × (total (times count (Collect node)) ≡ count)
 unfolding times
 collects zero node less = (tt, refl)
 collects (suc count) node less =
@@ -441,28 +522,53 @@ round_is count =
     let cb = b.1 in
     let cd = d.1 in
     let ce = e.1 in (
-      (refl, all-append zero_ (one ++ (two ++ three)) a.0 (all-append one (two ++ three) b.0 (all-append two three d.0 e.0))),
+      (
+        refl,
+        all-append zero_ (one ++ (two ++ three)) a.0
+            (all-append one (two ++ three) b.0 (all-append two three d.0 e.0)),
+      ),
       omega (arith, t1, t2, t3, ca, cb, cd, ce),
     )
 
-step_is : (v : ℕ) → v < 32768 → AllByRecursion IsSoakEvent (step_lines v) × (total (step_lines v) ≤ 3)
+step_is : (v : ℕ) → v < 32768 → AllByRecursion IsSoakEvent (step_lines v)
+    × (total (step_lines v) ≤ 3)
 unfolding step_lines
 step_is v small = by_test ((v / 64 % 3) == 0)
   where
-    by_test : (b : Bool) → AllByRecursion IsSoakEvent (Send (v % 4) (v / 16 % 4) 15 (v / 4 % 4) (v / 256 ∷ v % 256 ∷ [])
-        ∷ Pump (port_at_node (v % 4) 0) 1 ∷ (if b then Erase (port_at_node (v % 4) 0) 0 1 ∷ [] else []))
+    by_test : (b : Bool)
+        → AllByRecursion IsSoakEvent
+        (Send (v % 4) (v / 16 % 4) 15 (v / 4 % 4) (v / 256 ∷ v % 256 ∷ [])
+        ∷ Pump (port_at_node (v % 4) 0) 1
+        ∷ (if b then Erase (port_at_node (v % 4) 0) 0 1 ∷ [] else []))
         × (total (Send (v % 4) (v / 16 % 4) 15 (v / 4 % 4) (v / 256 ∷ v % 256 ∷ [])
-        ∷ Pump (port_at_node (v % 4) 0) 1 ∷ (if b then Erase (port_at_node (v % 4) 0) 0 1 ∷ [] else [])) ≤ 3)
+        ∷ Pump (port_at_node (v % 4) 0) 1
+        ∷ (if b then Erase (port_at_node (v % 4) 0) 0 1 ∷ [] else [])) ≤ 3)
     by_test true = (
       (
-        (omega arith, omega arith, refl, omega arith, refl, All-from_recursion (λ b. b < 256) (v / 256 ∷ v % 256 ∷ []) (omega (arith, small), (omega arith, tt))),
+        (
+          omega arith,
+          omega arith,
+          refl,
+          omega arith,
+          refl,
+          All-from_recursion (λ b. b < 256)
+              (v / 256 ∷ v % 256 ∷ []) (omega (arith, small), (omega arith, tt)),
+        ),
         ((v % 4, omega arith, refl, refl), ((v % 4, omega arith, refl, refl, refl), tt)),
       ),
       omega arith,
     )
     by_test false = (
       (
-        (omega arith, omega arith, refl, omega arith, refl, All-from_recursion (λ b. b < 256) (v / 256 ∷ v % 256 ∷ []) (omega (arith, small), (omega arith, tt))),
+        (
+          omega arith,
+          omega arith,
+          refl,
+          omega arith,
+          refl,
+          All-from_recursion (λ b. b < 256)
+              (v / 256 ∷ v % 256 ∷ []) (omega (arith, small), (omega arith, tt)),
+        ),
         ((v % 4, omega arith, refl, refl), tt),
       ),
       omega arith,
@@ -473,8 +579,10 @@ behind_is : (number : ℕ) → 1 ≤ number → AllByRecursion IsSoakEvent (roun
 unfolding round_behind
 behind_is number some = by_test (number % 10 == 0) refl
   where
-    by_test : (b : Bool) → (number % 10 == 0) ≡ b → AllByRecursion IsSoakEvent (if b then round_lines 4 else [])
-        × (total (if b then round_lines 4 else []) + 116 * ((number - 1) / 10) ≤ 116 * (number / 10))
+    by_test : (b : Bool) → (number % 10 == 0) ≡ b
+        → AllByRecursion IsSoakEvent (if b then round_lines 4 else [])
+        × (total (if b then round_lines 4 else []) + 116 * ((number - 1) / 10) ≤ 116
+        * (number / 10))
     by_test true is =
         let tenth = eqb-true (number % 10) 0 is in
         let round = round_is 4 in
@@ -492,12 +600,15 @@ steps_are number (v ∷ values) small =
     let two = behind_is (number + 1) (omega arith) in
     let rest = steps_are (number + 1) values small.1 in
     let t1 = total-append (round_behind (number + 1)) (steps_from (number + 1 + 1) values) in
-    let t2 = total-append (step_lines v) (round_behind (number + 1) ++ steps_from (number + 1 + 1) values) in
+    let t2 = total-append (step_lines v)
+    (round_behind (number + 1) ++ steps_from (number + 1 + 1) values) in
     let ca = one.1 in
     let cb = two.1 in
     let cd = rest.1 in (
-      all-append (step_lines v) (round_behind (number + 1) ++ steps_from (number + 1 + 1) values) one.0
-          (all-append (round_behind (number + 1)) (steps_from (number + 1 + 1) values) two.0 rest.0),
+      all-append (step_lines v) (round_behind (number + 1) ++ steps_from (number + 1 + 1) values)
+          one.0
+          (all-append (round_behind (number + 1)) (steps_from (number + 1 + 1) values) two.0
+          rest.0),
       omega (arith, t1, t2, ca, cb, cd),
     )
 
@@ -513,7 +624,8 @@ rounds_are (suc count) =
     let cb = rest.1 in
     (all-append (round_lines 8) (last_rounds count) one.0 rest.0, omega (arith, t1, ca, cb))
 
-values_small : (count x : ℕ) → AllByRecursion (λ v. v < 32768) (map value_of_number (numbers_behind count x))
+values_small : (count x : ℕ) → AllByRecursion (λ v. v < 32768)
+    (map value_of_number (numbers_behind count x))
     × (length (map value_of_number (numbers_behind count x)) ≡ count)
 unfolding numbers_behind
 values_small zero x = (tt, refl)
@@ -522,7 +634,8 @@ values_small (suc count) x =
     let long = rest.1 in
     ((omega arith, rest.0), omega (arith, long))
 
-events_are : (seed : ℕ) → AllByRecursion IsSoakEvent (soak_events seed) × (total (soak_events seed) ≤ 100000)
+events_are : (seed : ℕ) → AllByRecursion IsSoakEvent (soak_events seed)
+    × (total (soak_events seed) ≤ 100000)
 unfolding soak_events soak_values
 events_are seed =
     let values = values_small 2000 (seed % 2147483648) in
@@ -540,6 +653,7 @@ unfolding soak_lines
 soak_passes seed =
     let events = events_are seed in
     let cost = events.1 in
-    subst (λ ls. PassesFrom nothing soak_names ls) (sym (numbered-append 1 soak_set_up (soak_events seed)))
+    subst (λ ls. PassesFrom nothing soak_names ls)
+    (sym (numbered-append 1 soak_set_up (soak_events seed)))
     (passes_set_up (numbered_from 20 (soak_events seed))
     (passes_events 20 (soak_events seed) false 0 events.0 (omega (arith, cost))))

@@ -4,6 +4,7 @@ pub mod Texts
 pub mod Lines
 pub mod Reasons
 pub mod Known
+pub mod Links
 pub mod Peers
 pub mod Hits
 pub mod Words

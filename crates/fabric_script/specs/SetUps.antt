@@ -21,7 +21,8 @@ NoEvents lines = AllByRecursion (λ (line : Numbered). is_event line.line ≡ fa
 abbrev pub for_event : Known → Known
 for_event known = record known { mode = one_event }
 
--- What is always known behind set-up lines: the names are names and differ, one event alone may stand,
+-- What is always known behind set-up lines: the names are names and differ, one event alone may
+-- stand,
 -- and the links are counted.
 pub record IsReady (known : Known) : Type 0 where
   pub orderly : IsOrderly known

@@ -1,6 +1,6 @@
-//! Bytes and numbers in hexadecimal digits.
+//! Bytes and numbers from hexadecimal digits.
 
-ghost use Rattle.std.specs.Prelude.{◌≡◌, ◌≢◌, ℕ, ◌^◌, ◌<◌, ◌≤◌, List, ◌++◌, All, IfOk, MatchOption};
+ghost use Rattle.std.specs.Prelude.{◌≡◌, ◌≢◌, ℕ, ◌^◌, ◌<◌, ◌≤◌, List, All, IfOk, MatchOption};
 ghost use Rattle.rio_chars.specs.HexText.{hex_digit};
 ghost use Rattle.fabric_script.specs.Texts.{hex_text, digits_text};
 
@@ -83,43 +83,4 @@ fn digit_value(digit: u8) -> Option<u8>
         (λ value. (value < 16) × (digit ≡ hex_digit value)) }
 {
     read_hex_byte(b'0', digit)
-}
-
-/// Adds the digits of bytes, two a byte, or a hyphen for no bytes.
-pub(crate) fn push_hex(text: &mut Vec<u8>, bytes: &[u8]) -> Result<(), AllocError>
-    ensures { IfOk result (λ _. text.new.items ≡ text.old.items ++ hex_text bytes.now) }
-{
-    if bytes.is_empty() {
-        text.push(b'-')?;
-        return Ok(());
-    }
-    for byte in bytes {
-        text.push(digit_of(*byte / 16))?;
-        text.push(digit_of(*byte % 16))?;
-    }
-    Ok(())
-}
-
-/// Adds the last so many digits of a number.
-pub(crate) fn push_digits(text: &mut Vec<u8>, count: u8, n: u32) -> Result<(), AllocError>
-    ensures { IfOk result (λ _. text.new.items ≡ text.old.items ++ digits_text count n) }
-{
-    if count == 0 {
-        return Ok(());
-    }
-    push_digits(text, count - 1, n / 16)?;
-    text.push(digit_of((n % 16) as u8))?;
-    Ok(())
-}
-
-/// The lower-case digit of a number below 16.
-fn digit_of(number: u8) -> u8
-    requires { number < 16 }
-    ensures { result ≡ hex_digit number }
-{
-    if number < 10 {
-        b'0' + number
-    } else {
-        b'a' - 10 + number
-    }
 }

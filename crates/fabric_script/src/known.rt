@@ -13,15 +13,13 @@ ghost use Rattle.fabric_script.specs.Known.{nothing_in, ports_of, is_switch, has
 ghost use Rattle.fabric_script.specs.declared.lines.Line.TheVariants.{Large as ALarge};
 
 use crate::lines::Line;
+use crate::links::Links;
 use crate::names::{Name, find, is_name};
-use crate::ports::{PortRef, same_port, split_port};
+use crate::ports::{PortRef, split_port};
 use crate::reasons::Reason;
 use crate::words::Words;
 use std::alloc::{AllocError, Global};
 use std::marker::Model;
-
-/// The most nodes that a script may have.
-pub(crate) const MOST_NODES: usize = 64;
 
 /// Which lines may stand.
 #[derive(Clone, Copy, Debug, PartialEq, Eq)]
@@ -48,7 +46,7 @@ pub(crate) enum Node {
 pub(crate) struct Known {
     names: Vec<Name>,
     nodes: Vec<Node>,
-    links: Vec<(PortRef, PortRef)>,
+    links: Links,
     large_ids: Vec<(u8, u16)>,
     begun: bool,
     cost: u32,
@@ -64,7 +62,7 @@ impl Model for Known {
     ghost view = { λ k. record {
       names = k.names.items;
       nodes = k.nodes.items;
-      links = k.links.items;
+      links = k.links;
       large_ids = k.large_ids.items;
       begun = k.begun;
       cost = k.cost;
@@ -82,7 +80,7 @@ impl Known {
         Known {
             names: Vec::new(alloc),
             nodes: Vec::new(alloc),
-            links: Vec::new(alloc),
+            links: Links::new(alloc),
             large_ids: Vec::new(alloc),
             begun: false,
             cost: 0,
@@ -103,10 +101,7 @@ impl Known {
         match line {
             Line::Endpoint { id, .. } => self.add_node(text, Node::Endpoint { id: *id }),
             Line::Switch { ports, .. } => self.add_node(text, Node::Switch { ports: *ports }),
-            Line::Link { a, b } => {
-                self.links.push((*a, *b))?;
-                Ok(())
-            }
+            Line::Link { a, b } => self.links.push(*a, *b),
             Line::Large { node, id } => self.set_large_id(*node, *id),
             _ => Ok(()),
         }
@@ -252,9 +247,7 @@ impl Known {
     pub(crate) fn is_linked(&self, port: PortRef) -> bool
         ensures { result ≡ is_linked self.now.links port }
     {
-        self.links
-            .iter()
-            .any(|link| same_port(link.0, port) || same_port(link.1, port))
+        self.links.is_linked(port)
     }
 
     /// How many nodes there are.

@@ -1,8 +1,8 @@
 //! The script language: what a script may say, and which line of other text is refused, and why.
 //!
 //! `parse` answers the script that bytes spell, or the first line that any of fourteen reasons hits
-//! and the least such reason; `print` and `line_text` go the other way. The language stands in
-//! `specs/`, once for both directions:
+//! and the least such reason. `write_line` goes the other way, to an outbox, and `print` and
+//! `line_text` answer what it writes. The language stands in `specs/`, once for both directions:
 //!
 //! - `Forms`: the keyword and the kinds of words of each kind of line;
 //! - `Names`, `Texts`, `Lines`: the text of each word, and the words of a line;
@@ -23,18 +23,20 @@
 //!
 //! `advise` says what in the text of a refused line is to blame.
 //!
-//! It leaves out what a line does. Only the lines, the names and the bytes of a script take memory,
-//! and no word does.
+//! It leaves out what a line does. In reading only the lines, the names and the bytes of a script
+//! take memory, and no word does. `write_line` takes none.
 #![tactic(auto)]
 
 mod advice;
 mod forms;
+mod growing_sink;
 mod hex;
 mod known;
 mod laws;
 mod line_texts;
 mod line_words;
 mod lines;
+mod links;
 mod names;
 mod numbers;
 mod ports;
@@ -43,7 +45,9 @@ mod refusals;
 mod scripts;
 mod set_ups;
 mod soak;
+mod spaced;
 mod words;
+mod writing;
 
 pub use advice::{Advice, WordKind, advise};
 pub use hex::Hex;
@@ -60,4 +64,6 @@ pub use reasons::Reason;
 pub use scripts::{Refusal, ScriptEnd, parse, parse_set_up};
 pub use set_ups::{EventEnd, SetUp, read_set_up};
 pub use soak::soak_script;
+pub use spaced::{write_name, write_port};
 pub use words::split_word;
+pub use writing::write_line;

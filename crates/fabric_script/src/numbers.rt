@@ -1,11 +1,10 @@
-//! Numbers in decimal digits.
+//! Numbers from decimal digits.
 
-ghost use Rattle.std.specs.Prelude.{◌≡◌, ◌≢◌, ℕ, ◌<◌, ◌≤◌, ◌^◌, length, slice_index, ◌++◌, MatchOption, IfOk};
+ghost use Rattle.std.specs.Prelude.{◌≡◌, ◌≢◌, ℕ, ◌<◌, ◌≤◌, ◌^◌, length, slice_index, MatchOption};
 ghost use Rattle.std.specs.Fmt.{decimal};
 ghost use Rattle.fabric_script.specs.Words.{ReadsNumber};
 
 use crate::reasons::Reason;
-use std::alloc::AllocError;
 
 /// The most digits that a number has.
 const MOST_DIGITS: usize = 10;
@@ -66,17 +65,4 @@ pub(crate) fn read_count(word: &[u8], least: u32, most: u32) -> Result<u32, Reas
         Some(n) if least <= n && n <= most => Ok(n),
         _ => Err(Reason::BadNumber),
     }
-}
-
-/// Adds the digits of a number.
-pub(crate) fn push_decimal(text: &mut Vec<u8>, n: u32) -> Result<(), AllocError>
-    ensures { IfOk result (λ _. text.new.items ≡ text.old.items ++ decimal n) }
-{
-    if n < 10 {
-        text.push(b'0' + n as u8)?;
-        return Ok(());
-    }
-    push_decimal(text, n / 10)?;
-    text.push(b'0' + (n % 10) as u8)?;
-    Ok(())
 }

@@ -5,8 +5,9 @@ ghost use Rattle.fabric_script.specs.declared.reasons.Reason.{Reason as AReason}
 ghost use Rattle.fabric_script.specs.Reasons.{reason_number};
 ghost use Rattle.fabric_script.specs.Refusals.{refuses, is_outside, is_bad_length, entry_is_outside, port_is_taken, id_is_taken, length_is_bad, kind_is_wrong, out_of_place, not_linked, too_much_work, makes_node};
 
-use crate::known::{Known, MOST_NODES, Mode};
+use crate::known::{Known, Mode};
 use crate::lines::Line;
+use crate::links::MOST_NODES;
 use crate::ports::same_port;
 use crate::reasons::Reason;
 use rio_packets::max_rest;

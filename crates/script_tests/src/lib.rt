@@ -1,4 +1,4 @@
-//! Scripts that are read, printed, refused and explained, and lines that are written, as tests: each
+//! Scripts that are printed, lines that are explained, and lines that are written, as tests: each
 //! tries public calls of `fabric_script` or `trace_lines`. The expected values are worked by hand, or
 //! come from outside code.
 //!

@@ -1,12 +1,14 @@
 //! Each line that is written here stands in a trace of two endpoints.
-ghost use Rattle.std.specs.Prelude.{◌≡◌, ◌<◌, ◌++◌, length, OnOk, OnErr, IfOk, List};
+ghost use Rattle.std.specs.Prelude.{◌≡◌, ◌<◌, ◌≤◌, ◌++◌, ◌∷◌, [], length, OnOk, OnErr, IfOk, IsErrOf, List};
+ghost use Rattle.rio_chars.specs.Faults.{Rose};
 ghost use Rattle.rio_chars.specs.Written.{Writes};
+ghost use Rattle.link_watch.specs.Stops.{Stopped};
 ghost use Rattle.link_watch.specs.declared.note.Note.{Note};
 ghost use Rattle.fabric_trace.specs.Text.{trace_text};
 ghost use Rattle.fabric_trace.specs.Blocks.{lines_of};
 
 use fabric_script::{Name, PortRef, read_name};
-use link_watch::{Note, NoteEnd, Side, note_all};
+use link_watch::{Note, NoteEnd, Side, Watch};
 use rio_chars::{Char, Chars, MemSink, Outbox, Sink, TextBuffer};
 use rio_packets::{Packet, check};
 use std::alloc::Global;
@@ -84,6 +86,39 @@ fn notes_of_a_packet(rt: &impl Abort, alloc: Global) -> Result<Vec<Note>, Fail> 
     ]?)
 }
 
+/// Lends to a watch what a note has.
+fn lend<W: Watch>(watch: &mut W, alloc: Global, note: &Note) -> Result<(), NoteEnd>
+    ensures taken { OnOk result (W.grew watch.old (note.now ∷ []) watch.new) }
+    ensures stopped { OnErr result (W.cut watch.old note.now watch.new) }
+    ensures cause { IsErrOf result NoteEnd.Failed → Rose (W.faults watch.old) (W.faults watch.new) }
+    ensures counts { ¬ IsErrOf result NoteEnd.Failed → W.faults watch.new ≡ W.faults watch.old }
+    ensures never_falls { W.faults watch.old ≤ W.faults watch.new }
+{
+    match note {
+        Note::Sent(side, chars) => watch.sent(alloc, *side, chars.as_slice()),
+        Note::Got(side, chars) => watch.got(alloc, *side, chars.as_slice()),
+        Note::Hold(side, packet) => watch.hold(alloc, *side, packet),
+        Note::Free(side, packet) => watch.free(alloc, *side, packet),
+        Note::Fire(side) => watch.fire(alloc, *side),
+    }
+}
+
+/// Lends to a watch what notes have, one after another, up to the first that it does not take in.
+fn lend_all<W: Watch>(watch: &mut W, alloc: Global, notes: &[Note]) -> Result<(), NoteEnd>
+    ensures all { OnOk result (W.grew watch.old notes.now watch.new) }
+    ensures stopped { OnErr result (Stopped W.grew W.cut watch.old notes.now watch.new) }
+    ensures cause { IsErrOf result NoteEnd.Failed → Rose (W.faults watch.old) (W.faults watch.new) }
+    ensures counts { ¬ IsErrOf result NoteEnd.Failed → W.faults watch.new ≡ W.faults watch.old }
+    ensures never_falls { W.faults watch.old ≤ W.faults watch.new }
+{
+    for note in notes {
+        if let Err(end) = lend(watch, alloc, note) {
+            return Err(end);
+        }
+    }
+    Ok(())
+}
+
 /// Writes the lines of notes, as whoever works a link does.
 fn write_notes<K: Sink>(
     outbox: &mut Outbox<K>,
@@ -107,7 +142,7 @@ fn write_notes<K: Sink>(
         a,
         b,
     };
-    note_all(&mut watch, alloc, notes)
+    lend_all(&mut watch, alloc, notes)
 }
 
 #[test]

@@ -1,2 +1,1 @@
 pub mod WritingLaws
-pub mod WordLaws

@@ -14,7 +14,6 @@
 mod begun;
 mod undetected;
 mod watching;
-mod words;
 mod writing;
 
 pub use begun::write_begun;

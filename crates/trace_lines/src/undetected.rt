@@ -6,8 +6,7 @@ ghost use Rattle.link_model.specs.declared.event.Event.TheVariants.{Ctl, Pkt};
 ghost use Rattle.fabric_trace.specs.Lines.{Undetected};
 ghost use Rattle.fabric_trace.specs.Text.{event_text, trace_line_text};
 
-use crate::writing::write_port;
-use fabric_script::{Name, PortRef};
+use fabric_script::{Name, PortRef, write_port};
 use link_model::Event;
 use rio_chars::{Outbox, Sink};
 use rio_packets::Packet;

@@ -1,19 +1,19 @@
 //! `LinkLines`: a watch of a link that writes its notes.
-ghost use Rattle.std.specs.Prelude.{◌≡◌, ◌<◌, ◌≤◌, ◌++◌, ◌∷◌, [], ℕ, length, codes, IsOk, OnOk, OnErr, IsErrOf};
+ghost use Rattle.std.specs.Prelude.{◌≡◌, ◌<◌, ◌≤◌, ◌∷◌, [], ℕ, length, IsOk, OnOk, OnErr, IsErrOf};
 ghost use Rattle.rio_chars.specs.Faults.{Rose};
-ghost use Rattle.rio_chars.specs.Written.{Writes};
-ghost use Rattle.fabric_trace.specs.Text.{trace_line_text};
-ghost use Rattle.fabric_trace.specs.Blocks.{port_at_side, line_of};
+ghost use Rattle.fabric_trace.specs.Blocks.{port_at_side};
+ghost use Rattle.link_watch.specs.declared.note.Note.TheVariants.{Sent, Got, Hold, Free, Fire};
 
 use crate::writing::{write_fire, write_free, write_got, write_hold, write_sent};
 use fabric_script::{Name, PortRef};
 use link_watch::{Note, NoteEnd, Side, Watch};
-use rio_chars::{Outbox, Sink};
+use rio_chars::{Char, Outbox, Sink};
+use rio_packets::Packet;
 use std::alloc::Global;
 
-/// A watch of a link that writes a line for each note, in order. It takes in every note, and takes
-/// no memory. After a write that fails the outbox drops what it is told: ask it, behind the last
-/// note, whether it failed.
+/// A watch of a link that writes a line for each note, in order, straight from what is lent. It
+/// takes in every note, and takes no memory. After a write that fails the outbox drops what it is
+/// told: ask it, behind the last note, whether it failed.
 #[derive(Drop)]
 pub struct LinkLines<'o, 's, 'n, K> {
     /// Where the lines go.
@@ -45,7 +45,7 @@ impl<'o, 's, 'n, K: Sink> Watch for LinkLines<'o, 's, 'n, K> {
 
     ghost cut_none = { λ watch note. refl };
 
-    fn note(&mut self, _alloc: Global, note: &Note) -> Result<(), NoteEnd>
+    fn note(&mut self, alloc: Global, note: &Note) -> Result<(), NoteEnd>
         ensures taken { OnOk result
             (WritesNotes K.written K.faults self.old (note.now ∷ []) self.new) }
         ensures stopped { OnErr result (self.new ≡ self.old) }
@@ -54,28 +54,98 @@ impl<'o, 's, 'n, K: Sink> Watch for LinkLines<'o, 's, 'n, K> {
         ensures never_falls { 0 ≤ 0 }
         ensures always { IsOk result }
     {
-        write_note(self.outbox, self.names, self.a, self.b, note);
+        match note {
+            Note::Sent(side, chars) => self.sent(alloc, *side, chars.as_slice()),
+            Note::Got(side, chars) => self.got(alloc, *side, chars.as_slice()),
+            Note::Hold(side, packet) => self.hold(alloc, *side, packet),
+            Note::Free(side, packet) => self.free(alloc, *side, packet),
+            Note::Fire(side) => self.fire(alloc, *side),
+        }
+    }
+
+    fn sent(&mut self, _alloc: Global, side: Side, chars: &[Char]) -> Result<(), NoteEnd>
+        ensures taken { OnOk result
+            (WritesNotes K.written K.faults self.old (Sent side chars.now ∷ []) self.new) }
+        ensures stopped { OnErr result (self.new ≡ self.old) }
+        ensures cause { IsErrOf result NoteEnd.Failed → Rose 0 0 }
+        ensures counts { ¬ IsErrOf result NoteEnd.Failed → ◌≡◌ {A = ℕ} 0 0 }
+        ensures never_falls { 0 ≤ 0 }
+        ensures always { IsOk result }
+    {
+        write_sent(
+            self.outbox,
+            self.names,
+            port_at(self.a, self.b, side),
+            chars,
+        );
         Ok(())
     }
-}
 
-/// Writes what is noted of the link whose ends are these two ports.
-fn write_note<K: Sink>(outbox: &mut Outbox<K>, names: &[Name], a: PortRef, b: PortRef, note: &Note)
-    requires first_named { a.node < length names.now }
-    requires second_named { b.node < length names.now }
-    ensures { Writes K.written K.faults outbox.old outbox.new
-        (trace_line_text names.now (line_of a b note.now) ++ codes "\n") }
-{
-    match note {
-        Note::Sent(side, chars) => {
-            write_sent(outbox, names, port_at(a, b, *side), chars.as_slice());
-        }
-        Note::Got(side, chars) => {
-            write_got(outbox, names, port_at(a, b, *side), chars.as_slice());
-        }
-        Note::Hold(side, packet) => write_hold(outbox, names, port_at(a, b, *side), packet),
-        Note::Free(side, packet) => write_free(outbox, names, port_at(a, b, *side), packet),
-        Note::Fire(side) => write_fire(outbox, names, port_at(a, b, *side)),
+    fn got(&mut self, _alloc: Global, side: Side, chars: &[Char]) -> Result<(), NoteEnd>
+        ensures taken { OnOk result
+            (WritesNotes K.written K.faults self.old (Got side chars.now ∷ []) self.new) }
+        ensures stopped { OnErr result (self.new ≡ self.old) }
+        ensures cause { IsErrOf result NoteEnd.Failed → Rose 0 0 }
+        ensures counts { ¬ IsErrOf result NoteEnd.Failed → ◌≡◌ {A = ℕ} 0 0 }
+        ensures never_falls { 0 ≤ 0 }
+        ensures always { IsOk result }
+    {
+        write_got(
+            self.outbox,
+            self.names,
+            port_at(self.a, self.b, side),
+            chars,
+        );
+        Ok(())
+    }
+
+    fn hold(&mut self, _alloc: Global, side: Side, packet: &Packet) -> Result<(), NoteEnd>
+        ensures taken { OnOk result
+            (WritesNotes K.written K.faults self.old (Hold side packet.now ∷ []) self.new) }
+        ensures stopped { OnErr result (self.new ≡ self.old) }
+        ensures cause { IsErrOf result NoteEnd.Failed → Rose 0 0 }
+        ensures counts { ¬ IsErrOf result NoteEnd.Failed → ◌≡◌ {A = ℕ} 0 0 }
+        ensures never_falls { 0 ≤ 0 }
+        ensures always { IsOk result }
+    {
+        write_hold(
+            self.outbox,
+            self.names,
+            port_at(self.a, self.b, side),
+            packet,
+        );
+        Ok(())
+    }
+
+    fn free(&mut self, _alloc: Global, side: Side, packet: &Packet) -> Result<(), NoteEnd>
+        ensures taken { OnOk result
+            (WritesNotes K.written K.faults self.old (Free side packet.now ∷ []) self.new) }
+        ensures stopped { OnErr result (self.new ≡ self.old) }
+        ensures cause { IsErrOf result NoteEnd.Failed → Rose 0 0 }
+        ensures counts { ¬ IsErrOf result NoteEnd.Failed → ◌≡◌ {A = ℕ} 0 0 }
+        ensures never_falls { 0 ≤ 0 }
+        ensures always { IsOk result }
+    {
+        write_free(
+            self.outbox,
+            self.names,
+            port_at(self.a, self.b, side),
+            packet,
+        );
+        Ok(())
+    }
+
+    fn fire(&mut self, _alloc: Global, side: Side) -> Result<(), NoteEnd>
+        ensures taken { OnOk result
+            (WritesNotes K.written K.faults self.old (Fire side ∷ []) self.new) }
+        ensures stopped { OnErr result (self.new ≡ self.old) }
+        ensures cause { IsErrOf result NoteEnd.Failed → Rose 0 0 }
+        ensures counts { ¬ IsErrOf result NoteEnd.Failed → ◌≡◌ {A = ℕ} 0 0 }
+        ensures never_falls { 0 ≤ 0 }
+        ensures always { IsOk result }
+    {
+        write_fire(self.outbox, self.names, port_at(self.a, self.b, side));
+        Ok(())
     }
 }
 

@@ -4,12 +4,10 @@ ghost use Rattle.rio_chars.specs.HexText.{hex_of};
 ghost use Rattle.rio_chars.specs.CharText.{spaced_chars};
 ghost use Rattle.rio_chars.specs.Written.{Writes};
 ghost use Rattle.fabric_model.specs.Steps.{Hold, Free, Linked, Take, Leave, AtNode, Move, Drop, Answer, ByDevice};
-ghost use Rattle.fabric_script.specs.Names.{name_of};
-ghost use Rattle.fabric_script.specs.Texts.{port_text};
 ghost use Rattle.fabric_trace.specs.Lines.{Sent, Got, Fired, Full, Empty, Short, Early, NoStep, Stepped, Signed, Lacked, Ended};
 ghost use Rattle.fabric_trace.specs.Text.{trace_line_text};
 
-use fabric_script::{Name, PortRef};
+use fabric_script::{Name, PortRef, write_name, write_port};
 use rio_chars::{Char, Outbox, Sink};
 use rio_packets::Packet;
 
@@ -198,22 +196,4 @@ fn write_packet<K: Sink>(outbox: &mut Outbox<K>, packet: &Packet)
     outbox.write(b" ");
     outbox.write_hex(packet.bytes());
     outbox.write(b"\n");
-}
-
-/// Writes the name of a node.
-pub(crate) fn write_name<K: Sink>(outbox: &mut Outbox<K>, names: &[Name], node: u8)
-    requires { node < length names.now }
-    ensures { Writes K.written K.faults outbox.old outbox.new (name_of names.now node) }
-{
-    outbox.write(names[usize::from(node)].as_slice());
-}
-
-/// Writes a port.
-pub(crate) fn write_port<K: Sink>(outbox: &mut Outbox<K>, names: &[Name], port: PortRef)
-    requires { port.node < length names.now }
-    ensures { Writes K.written K.faults outbox.old outbox.new (port_text names.now port) }
-{
-    write_name(outbox, names, port.node);
-    outbox.write(b".");
-    outbox.write_decimal(u32::from(port.port));
 }

@@ -8,7 +8,8 @@ returns-then-is_empty c = λ _.
     behind_contains (words_of c.args.text.now) c.loop.counter c.loop.words.words
     (λ none. search (rules, c.is_done.ensures))
     (sym c.word.ensures.word ∙ empty_is c.word.result.now
-    (eqb-true (length c.word.result.now) 0 (sym c.is_empty.ensures ∙ c.if-is_empty.true))) c.loop.invariant
+    (eqb-true (length c.word.result.now) 0 (sym c.is_empty.ensures ∙ c.if-is_empty.true)))
+    c.loop.invariant
 
 pub loop-preserved : goal.loop-preserved
 loop-preserved c =

@@ -1,10 +1,20 @@
-use Rattle.std.proofs.Common.{◌≡◌, rules}
+use Rattle.std.proofs.Common.{◌≡◌, [], rules, ◌∙◌}
 use Rattle.fabric_script.specs.LineTexts.{script_text}
+use Rattle.fabric_script.proofs.GrowingLaws.{whole_text}
 use Rattle.fabric_script.proofs.PrintLaws.{printed}
 use Rattle.fabric_script.proofs.line_texts.print.Goals as goal
 
-pub returns-in-Ok-clause-reads : goal.returns-in-Ok-clause-reads
-returns-in-Ok-clause-reads c =
-    let put = c.in-Ok.ensures in
-    let text : c.put_lines.new.text.items ≡ script_text c.args.script.now.names.items c.args.script.now.lines.items = search rules in
-    rw text (printed c.args.script.now.names.items c.args.script.now.lines.items c.requires)
+pub returns-clause-text : goal.returns-clause-text
+returns-clause-text c =
+    let script = c.args.script.now in
+    let new : c.new-outbox.result.sink.now.bytes.items ≡ [] = search rules in
+    let end : c.into_bytes.result.items ≡ c.finish.new.outbox.sink.now.bytes.items = search rules in
+    end ∙ whole_text c.new-outbox.result _ c.finish.new.outbox
+    (script_text script.names.items script.lines.items) new c.new-outbox.ensures.empty
+    c.write_lines.ensures c.finish.ensures.written c.finish.ensures.empty
+    c.in_ok-finish.ensures.fine
+
+pub returns-clause-reads : goal.returns-clause-reads
+returns-clause-reads c =
+    let script = c.args.script.now in
+    rw (returns-clause-text c) (printed script.names.items script.lines.items c.requires)

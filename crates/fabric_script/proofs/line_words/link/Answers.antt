@@ -3,4 +3,8 @@ use Rattle.fabric_script.specs.Words.{Done, More}
 use Rattle.fabric_script.proofs.line_words.link.Goals as goal
 
 pub returns : goal.returns
-returns c = record { is = refl; next = tt; takes = More c.port-a.ensures (More c.port-b.ensures Done) }
+returns c = record {
+  is = refl;
+  next = tt;
+  takes = More c.port-a.ensures (More c.port-b.ensures Done);
+}

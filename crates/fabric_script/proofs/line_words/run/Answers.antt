@@ -3,4 +3,8 @@ use Rattle.fabric_script.specs.Words.{Done, More}
 use Rattle.fabric_script.proofs.line_words.run.Goals as goal
 
 pub returns : goal.returns
-returns c = λ known. record { is = refl; next = tt; takes = More (c.number-n.ensures.takes known) Done }
+returns c = λ known. record {
+  is = refl;
+  next = tt;
+  takes = More (c.number-n.ensures.takes known) Done;
+}

@@ -6,7 +6,8 @@ use Rattle.fabric_script.proofs.ports.split_point.Goals as goal
 
 pub loop-i-preserved : goal.loop-i-preserved
 loop-i-preserved c =
-    let more = All-push (λ byte. (byte == 46) ≡ false) (take c.loop-i.i c.args.word.now) (get_or c.args.word.now c.loop-i.i 0) c.loop-i.invariant (search (rules, tests)) in
+    let more = All-push (λ byte. (byte == 46) ≡ false) (take c.loop-i.i c.args.word.now)
+    (get_or c.args.word.now c.loop-i.i 0) c.loop-i.invariant (search (rules, tests)) in
     subst (Lacks 46) (sym (take_more c.args.word.now c.loop-i.i 0 c.loop-i-test.true)) more
 
 pub returns : goal.returns

@@ -4,10 +4,12 @@ use Rattle.fabric_script.proofs.ScriptLaws.{only_script, only_refusal, Passes-fr
 use Rattle.fabric_script.proofs.scripts.parse.Goals as goal
 
 pub returns-in_err-lines-clause-only : goal.returns-in_err-lines-clause-only
-returns-in_err-lines-clause-only c = only_script Mode.Script c.args.bytes.now c.from_residual.result (search rules) (search rules)
+returns-in_err-lines-clause-only c = only_script Mode.Script c.args.bytes.now c.from_residual.result
+    (search rules) (search rules)
 
 pub returns-in_err-lines-clause-refusal_only : goal.returns-in_err-lines-clause-refusal_only
-returns-in_err-lines-clause-refusal_only c = only_refusal Mode.Script c.args.bytes.now c.from_residual.result (search rules) (search rules)
+returns-in_err-lines-clause-refusal_only c = only_refusal Mode.Script c.args.bytes.now
+    c.from_residual.result (search rules) (search rules)
 
 pub returns-clause-script : goal.returns-clause-script
 returns-clause-script c =
@@ -17,14 +19,20 @@ returns-clause-script c =
 pub returns-clause-passes : goal.returns-clause-passes
 returns-clause-passes c =
     let read = c.in_ok-lines.ensures in
-    Passes-from_script Mode.Script c.args.bytes.now c.into_names-names.result.items c.in_ok-lines.lines.items (c.read_lines.new.known, sym c.into_names-names.ensures, read.lines)
+    Passes-from_script Mode.Script c.args.bytes.now c.into_names-names.result.items
+    c.in_ok-lines.lines.items
+    (c.read_lines.new.known, sym c.into_names-names.ensures, read.lines)
 
 pub returns-clause-only : goal.returns-clause-only
 returns-clause-only c =
     let read = c.in_ok-lines.ensures in
-    only_script Mode.Script c.args.bytes.now (Ok record { names = c.into_names-names.result; lines = c.in_ok-lines.lines }) (c.read_lines.new.known, sym c.into_names-names.ensures, read.lines) (search rules)
+    only_script Mode.Script c.args.bytes.now
+    (Ok record { names = c.into_names-names.result; lines = c.in_ok-lines.lines })
+    (c.read_lines.new.known, sym c.into_names-names.ensures, read.lines) (search rules)
 
 pub returns-clause-refusal_only : goal.returns-clause-refusal_only
 returns-clause-refusal_only c =
     let read = c.in_ok-lines.ensures in
-    only_refusal Mode.Script c.args.bytes.now (Ok record { names = c.into_names-names.result; lines = c.in_ok-lines.lines }) (c.read_lines.new.known, sym c.into_names-names.ensures, read.lines) (search rules)
+    only_refusal Mode.Script c.args.bytes.now
+    (Ok record { names = c.into_names-names.result; lines = c.in_ok-lines.lines })
+    (c.read_lines.new.known, sym c.into_names-names.ensures, read.lines) (search rules)

@@ -19,7 +19,8 @@ loop-preserved c =
     let old = c.loop.invariant.count in
     record {
       numbered = λ before is.
-          c.in_ok-push_line.ensures.numbered (before ++ times i line) (c.loop.invariant.numbered before is)
+          c.in_ok-push_line.ensures.numbered (before ++ times i line)
+          (c.loop.invariant.numbered before is)
           ∙ ap (λ ls. numbered_from 1 ls) (append_assoc before (times i line) (line ∷ [])
           ∙ ap (λ ls. before ++ ls) (times-push i line
           ∙ ap (λ n. times n line) (omega arith)));

@@ -30,7 +30,8 @@ loop-preserved c =
     record {
       names = old.names;
       numbered = added.numbered _ old.numbered
-          ∙ ap (λ ls. numbered_from 1 ls) (append_assoc front (last_rounds c.loop.counter) (round_lines 8)
+          ∙ ap (λ ls. numbered_from 1 ls)
+          (append_assoc front (last_rounds c.loop.counter) (round_lines 8)
           ∙ ap (λ ls. front ++ ls) (rounds-push c.loop.counter
           ∙ ap (λ n. last_rounds n) (omega arith)));
       count = omega (arith, a, b);

@@ -4,5 +4,7 @@ use Rattle.trace_lines.proofs.writing.write_answer.Goals as goal
 
 pub returns : goal.returns
 returns g c =
-    let port = Writes-then _ _ (Writes-then _ _ c.write.ensures c.write_port.ensures) c.write-2.ensures in
-    Writes-packet _ _ c.args.response.now port (rw c.bytes.ensures.value at c.write_hex.ensures) c.write_packet.ensures
+    let port = Writes-then _ _ (Writes-then _ _ c.write.ensures c.write_port.ensures)
+    c.write-2.ensures in
+    Writes-packet _ _ c.args.response.now port (rw c.bytes.ensures.value at c.write_hex.ensures)
+    c.write_packet.ensures

@@ -12,5 +12,11 @@ returns-in-Some c =
     let found = c.in-Some.ensures in
     let names : c.as_slice.result.now ≡ c.args.self.now.names = search rules in
     let within : c.in-Some.field-0 < length c.args.self.now.names = rw (← names) found.0 in
-    let same : name_of c.args.self.now.names c.in-Some.field-0 ≡ c.args.word.now = rw (← names) found.1 in
-    NameIsTaken (search rules) (c.in-Some.field-0, within, get_or_default c.args.self.now.names c.in-Some.field-0 c.args.word.now [] within ∙ same)
+    let same : name_of c.args.self.now.names c.in-Some.field-0 ≡ c.args.word.now =
+    rw (← names) found.1 in
+    NameIsTaken (search rules) (
+      c.in-Some.field-0,
+      within,
+      get_or_default c.args.self.now.names c.in-Some.field-0
+          c.args.word.now [] within ∙ same,
+    )

@@ -7,15 +7,21 @@ use Rattle.fabric_script.proofs.set_ups.SetUp.read_event.Goals as goal
 
 pub returns-in-Ok-clause-only : goal.returns-in-Ok-clause-only
 returns-in-Ok-clause-only c =
-    let orderly = subst IsOrderly (ap (λ (s : SetUpLines). s.known) c.self.view_is) c.self.invariant.orderly in
-    only_event c.args.self.now.known c.args.line.now (Ok c.in-Ok.event) orderly (search rules) (search rules)
+    let orderly = subst IsOrderly (ap (λ (s : SetUpLines). s.known) c.self.view_is)
+    c.self.invariant.orderly in
+    only_event c.args.self.now.known c.args.line.now (Ok c.in-Ok.event) orderly (search rules)
+    (search rules)
 
 pub returns-in-Ok-clause-refusal_only : goal.returns-in-Ok-clause-refusal_only
 returns-in-Ok-clause-refusal_only c =
-    let orderly = subst IsOrderly (ap (λ (s : SetUpLines). s.known) c.self.view_is) c.self.invariant.orderly in
-    only_event_refusal c.args.self.now.known c.args.line.now (Ok c.in-Ok.event) orderly (search rules) (search rules)
+    let orderly = subst IsOrderly (ap (λ (s : SetUpLines). s.known) c.self.view_is)
+    c.self.invariant.orderly in
+    only_event_refusal c.args.self.now.known c.args.line.now (Ok c.in-Ok.event) orderly
+    (search rules) (search rules)
 
 pub returns-in-Err-clause-only : goal.returns-in-Err-clause-only
 returns-in-Err-clause-only c =
-    let orderly = subst IsOrderly (ap (λ (s : SetUpLines). s.known) c.self.view_is) c.self.invariant.orderly in
-    only_event c.args.self.now.known c.args.line.now (Err (Refused c.number.result)) orderly (search rules) (search rules)
+    let orderly = subst IsOrderly (ap (λ (s : SetUpLines). s.known) c.self.view_is)
+    c.self.invariant.orderly in
+    only_event c.args.self.now.known c.args.line.now (Err (Refused c.number.result)) orderly
+    (search rules) (search rules)

@@ -5,5 +5,8 @@ use Rattle.fabric_script.proofs.words.Words.number.Goals as goal
 
 pub returns-clause-takes : goal.returns-clause-takes
 returns-clause-takes c = λ known.
-    takes known (Number c.args.least c.args.most) Counted c.args.least c.args.self.now c.word-word.new.self c.note.new.self c.word-word.result.now c.read_count.result c.note.result c.unwrap_or.result c.word-word.ensures.word c.word-word.ensures.rest
-    (reads_number known c.args.least c.args.most c.word-word.result.now c.read_count.result c.read_count.ensures) c.note.ensures.noted c.note.ensures.value c.unwrap_or.ensures
+    takes known (Number c.args.least c.args.most) Counted c.args.least c.args.self.now
+    c.word-word.new.self c.note.new.self c.word-word.result.now c.read_count.result
+    c.note.result c.unwrap_or.result c.word-word.ensures.word c.word-word.ensures.rest
+    (reads_number known c.args.least c.args.most c.word-word.result.now c.read_count.result
+    c.read_count.ensures) c.note.ensures.noted c.note.ensures.value c.unwrap_or.ensures

@@ -1,0 +1,8 @@
+use Rattle.rio_chars.proofs.WrittenLaws.{Writes-then}
+use Rattle.fabric_script.proofs.SpacedWords.{six_digits}
+use Rattle.fabric_script.proofs.spaced.put_offset.Goals as goal
+
+pub returns : goal.returns
+returns g c =
+    let digits = rw (c.to_be_bytes.ensures, six_digits c.args.offset) at c.write_hex.ensures in
+    Writes-then _ _ c.write.ensures digits
