@@ -13,14 +13,24 @@ use Rattle.switch_core.proofs.RequestLaws.{answer_prio}
 module _ (device : Device) (face : Face) (packet : List ℕ) (request : Request)
     (held : first_held face ≡ Some packet) (asks : request_of packet ≡ Some request) where
   collected-is : collected device face
-      ≡ (if has_room face (min (request.prio + 1) 3) then Answered packet (response_bytes (answered device request 0).response) else Full)
+      ≡ (if has_room face (min (request.prio + 1) 3) then Answered packet
+      (response_bytes (answered device request 0).response) else Full)
   collected-is =
       ap (collected_head device face) held ∙ ap (collected_of device face packet) asks
-      ∙ ap (λ prio. if has_room face prio then Answered packet (response_bytes (answered device request 0).response) else Full) (answer_prio device request 0)
+      ∙ ap (λ prio. if has_room face prio then Answered packet
+      (response_bytes (answered device request 0).response) else Full)
+      (answer_prio device request 0)
 
   pub full : has_room face (min (request.prio + 1) 3) ≡ false → Full ≡ collected device face
-  full none = sym (collected-is ∙ ap (λ b. if b then Answered packet (response_bytes (answered device request 0).response) else Full) none)
+  full none =
+      sym (collected-is
+      ∙ ap (λ b. if b then Answered packet (response_bytes (answered device request 0).response)
+      else Full) none)
 
   pub answers : has_room face (min (request.prio + 1) 3) ≡ true
-      → Answered packet (response_bytes (answered device request 0).response) ≡ collected device face
-  answers room = sym (collected-is ∙ ap (λ b. if b then Answered packet (response_bytes (answered device request 0).response) else Full) room)
+      → Answered packet (response_bytes (answered device request 0).response)
+      ≡ collected device face
+  answers room =
+      sym (collected-is
+      ∙ ap (λ b. if b then Answered packet (response_bytes (answered device request 0).response)
+      else Full) room)

@@ -2,4 +2,5 @@ pub mod FaceLaws
 pub mod OrderLaws
 pub mod RequestLaws
 pub mod StepLaws
+pub mod GoingLaws
 pub mod CollectLaws

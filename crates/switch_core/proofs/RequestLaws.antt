@@ -16,19 +16,23 @@ use Rattle.link_buffers.specs.Queues.{list_at}
 use Rattle.link_port.specs.Faces.{AreLists}
 
 -- the first packet of a list has the priority of the list
-pub first_has_prio : (lists : List (List (List ℕ))) (prio : ℕ) (packet : List ℕ) → AreLists lists → prio < 4
+pub first_has_prio : (lists : List (List (List ℕ))) (prio : ℕ) (packet : List ℕ) → AreLists lists
+    → prio < 4
     → slice_get (list_at lists prio) 0 ≡ Some packet → prio_of packet ≡ prio
 first_has_prio lists prio packet are few is = by_list (list_at lists prio) (are.sorted prio few) is
   where
-    by_list : (packets : List (List ℕ)) → All (λ p. prio_of p ≡ prio) packets → slice_get packets 0 ≡ Some packet → prio_of packet ≡ prio
+    by_list : (packets : List (List ℕ)) → All (λ p. prio_of p ≡ prio) packets → slice_get packets 0
+        ≡ Some packet → prio_of packet ≡ prio
     by_list [] all is = cc
     by_list (x ∷ xs) all is = let first : prio_of x ≡ prio = all 0 [] (omega arith) in cc
 
 -- a request has its packet's priority
-pub request_prio : (packet : List ℕ) (request : Request) → request_of packet ≡ Some request → request.prio ≡ prio_of packet
+pub request_prio : (packet : List ℕ) (request : Request) → request_of packet ≡ Some request
+    → request.prio ≡ prio_of packet
 request_prio packet request is = by_test (is_request packet) refl is
   where
-    by_test : (t : Bool) → is_request packet ≡ t → request_of packet ≡ Some request → request.prio ≡ prio_of packet
+    by_test : (t : Bool) → is_request packet ≡ t → request_of packet ≡ Some request → request.prio
+        ≡ prio_of packet
     by_test true e h = let k = rw e at h in ap (λ (r : Request). r.prio) (sym (inside _ _ k))
       where
         inside : (a b : Request) → Some a ≡ Some b → a ≡ b
@@ -39,7 +43,8 @@ request_prio packet request is = by_test (is_request packet) refl is
         none a e = cc
 
 -- what is a request has one
-pub request_there : (packet : List ℕ) → is_request packet ≡ true → (request : Request) × (request_of packet ≡ Some request)
+pub request_there : (packet : List ℕ) → is_request packet ≡ true → (request : Request)
+    × (request_of packet ≡ Some request)
 request_there packet is = (
   record {
     prio = prio_of packet;
@@ -63,17 +68,22 @@ ended_prio true prio dest source rest = omega arith
 response_bytes-prio : (response : Response) → prio_of (response_bytes response) ≡ response.prio
 response_bytes-prio response =
     ended_prio response.large response.prio response.dest response.source
-    (behind_ids (if response.write then 3 else 2) response.status response.tid response.hop 0 response.words)
+    (behind_ids (if response.write then 3 else 2) response.status response.tid response.hop 0
+    response.words)
 
-answered_to-prio : (device : Device) (request : Request) (port : ℕ) (op : Op) → (answered_to device request port op).response.prio ≡ min (request.prio + 1) 3
+answered_to-prio : (device : Device) (request : Request) (port : ℕ) (op : Op)
+    → (answered_to device request port op).response.prio ≡ min (request.prio + 1) 3
 answered_to-prio device request port Read = read (value_at device request.offset port)
   where
-    read : (value : Option ℕ) → (after_read device request value).response.prio ≡ min (request.prio + 1) 3
+    read : (value : Option ℕ) → (after_read device request value).response.prio
+        ≡ min (request.prio + 1) 3
     read (Some value) = refl
     read None = refl
-answered_to-prio device request port (Write value) = written (written_at device request.offset value)
+answered_to-prio device request port (Write value) =
+    written (written_at device request.offset value)
   where
-    written : (next : Option Device) → (after_write device request next).response.prio ≡ min (request.prio + 1) 3
+    written : (next : Option Device) → (after_write device request next).response.prio
+        ≡ min (request.prio + 1) 3
     written (Some next) = refl
     written None = refl
 answered_to-prio device request port BadRead = refl
@@ -83,7 +93,8 @@ answered_to-prio device request port BadWrite = refl
 pub answer_prio : (device : Device) (request : Request) (port : ℕ)
     → prio_of (response_bytes (answered device request port).response) ≡ min (request.prio + 1) 3
 answer_prio device request port =
-    response_bytes-prio (answered device request port).response ∙ answered_to-prio device request port request.op
+    response_bytes-prio (answered device request port).response ∙ answered_to-prio device request
+    port request.op
 
 -- what is there
 pub some_there : {A : Type 0} (o : Option A) → IsSome o → (x : A) × (o ≡ Some x)

@@ -1,5 +1,5 @@
 -- The step of a first packet.
-use Rattle.std.proofs.Common.{◌≡◌, ℕ, ◌+◌, min, true, false, Bool, Option, Some, None, IsSome, is_some, List, refl, sym, ap, ◌∙◌, if◌then◌else◌}
+use Rattle.std.proofs.Common.{◌≡◌, ℕ, ◌+◌, min, true, false, Bool, Some, None, is_some, List, refl, sym, ap, ◌∙◌, if◌then◌else◌}
 use Rattle.rio_packets.specs.Fields.{prio_of, is_request}
 use Rattle.maint_registers.specs.Devices.{Device}
 use Rattle.maint_packets.specs.declared.next_hop.Next.{Next}
@@ -18,52 +18,45 @@ is_some-if : {A : Type 0} (b : Bool) (x : A) → b ≡ is_some (if b then Some x
 is_some-if true x = refl
 is_some-if false x = refl
 
-if_some : {A : Type 0} (b : Bool) (x : A) (o : Option A) → o ≡ (if b then Some x else None) → IsSome o
-    → o ≡ Some x
-if_some true x o e h = e
-if_some false x None e h = cc
-if_some false x (Some y) e h = cc
-
 module _ (device : Device) (faces : List Face) (prio port : ℕ) (packet : List ℕ)
     (head : head_of (face_at faces port) prio ≡ Some packet) (same : prio_of packet ≡ prio) where
   -- the step goes by where the packet goes next
-  pub step_at-next : (next : Next) → next_of device packet ≡ next → step_at device faces prio port ≡ step_to device faces port packet next
-  step_at-next next is = ap (step_of_head device faces port) head ∙ ap (step_to device faces port packet) is
+  pub step_at-next : (next : Next) → next_of device packet ≡ next → step_at device faces prio port
+      ≡ step_to device faces port packet next
+  step_at-next next is = ap (step_of_head device faces port) head
+      ∙ ap (step_to device faces port packet) is
 
   -- a move needs room at the port that it goes to
-  pub can_move : (to : ℕ) (room : Bool) → next_of device packet ≡ Port to → room ≡ has_room (face_at faces to) prio
+  pub can_move : (to : ℕ) (room : Bool) → next_of device packet ≡ Port to → room
+      ≡ has_room (face_at faces to) prio
       → room ≡ is_some (step_at device faces prio port)
   can_move to room next is =
-      is ∙ ap (has_room (face_at faces to)) (sym same) ∙ is_some-if (has_room (face_at faces to) (prio_of packet)) (Moved port to packet)
+      is ∙ ap (has_room (face_at faces to)) (sym same)
+      ∙ is_some-if (has_room (face_at faces to) (prio_of packet)) (Moved port to packet)
       ∙ ap is_some (sym (step_at-next (Port to) next))
 
   -- the step of a request to the registers
-  pub step_at-answer : (request : Request) → next_of device packet ≡ RegisterUnit → request_of packet ≡ Some request
+  pub step_at-answer : (request : Request) → next_of device packet ≡ RegisterUnit
+      → request_of packet ≡ Some request
       → step_at device faces prio port
-      ≡ (if has_room (face_at faces port) (min (prio + 1) 3) then Some (Answered port packet (response_bytes (answered device request port).response)) else None)
+      ≡ (if has_room (face_at faces port) (min (prio + 1) 3) then Some
+      (Answered port packet (response_bytes (answered device request port).response)) else None)
   step_at-answer request next is =
       let response = response_bytes (answered device request port).response in
       let its : prio_of response ≡ min (prio + 1) 3 =
-      answer_prio device request port ∙ ap (λ n. min (n + 1) 3) (request_prio packet request is ∙ same) in
+      answer_prio device request port
+      ∙ ap (λ n. min (n + 1) 3) (request_prio packet request is ∙ same) in
       step_at-next RegisterUnit next ∙ ap (answer_step device faces port packet) is
-      ∙ ap (λ n. if has_room (face_at faces port) n then Some (Answered port packet response) else None) its
+      ∙ ap (λ n. if has_room (face_at faces port) n then Some (Answered port packet response) else
+      None) its
 
   -- an answer needs room for the response at the port on which the request came
   pub can_answer : (room : Bool) → next_of device packet ≡ RegisterUnit → is_request packet ≡ true
-      → room ≡ has_room (face_at faces port) (min (prio + 1) 3) → room ≡ is_some (step_at device faces prio port)
+      → room ≡ has_room (face_at faces port) (min (prio + 1) 3) → room
+      ≡ is_some (step_at device faces prio port)
   can_answer room next asks is =
       let found = request_there packet asks in
       let request = found.0 in
-      is ∙ is_some-if (has_room (face_at faces port) (min (prio + 1) 3)) (Answered port packet (response_bytes (answered device request port).response))
-      ∙ ap is_some (sym (step_at-answer request next found.1))
-
-  -- what is done for a request to the registers if it can go
-  pub answered_step : (request : Request) (response : List ℕ) → next_of device packet ≡ RegisterUnit
-      → request_of packet ≡ Some request → response ≡ response_bytes (answered device request port).response
-      → IsSome (step_at device faces prio port)
-      → step_at device faces prio port ≡ Some (Answered port packet response)
-  answered_step request response next is same_response goes =
-      if_some (has_room (face_at faces port) (min (prio + 1) 3))
+      is ∙ is_some-if (has_room (face_at faces port) (min (prio + 1) 3))
       (Answered port packet (response_bytes (answered device request port).response))
-      (step_at device faces prio port) (step_at-answer request next is) goes
-      ∙ ap (λ bytes. Some (Answered port packet bytes)) (sym same_response)
+      ∙ ap is_some (sym (step_at-answer request next found.1))

@@ -3,7 +3,8 @@ use Rattle.std.specs.Prelude.{ℕ, Bool, nat_lt, List, [], ◌∷◌, length, ma
 use Rattle.rio_packets.specs.Fields.{prio_of}
 use Rattle.link_buffers.specs.Queues.{list_at, appended, popped, no_packets}
 
--- the packets that a port has received, and those that it has to send, each with a list for each priority
+-- the packets that a port has received, and those that it has to send, each with a list for each
+-- priority
 pub record Face : Type 0 where
   pub received : List (List (List ℕ))
   pub queued : List (List (List ℕ))
@@ -26,7 +27,8 @@ face_at faces n = slice_index_or faces n record { received = no_packets; queued 
 abbrev pub head_of : Face → ℕ → Option (List ℕ)
 head_of face prio = slice_get (list_at face.received prio) 0
 
--- whether a packet of a priority may be put to those to be sent: fewer than 16 wait there (this project's profile)
+-- whether a packet of a priority may be put to those to be sent: fewer than 16 wait there (this
+-- project's profile)
 abbrev pub has_room : Face → ℕ → Bool
 has_room face prio = nat_lt (length (list_at face.queued prio)) 16
 

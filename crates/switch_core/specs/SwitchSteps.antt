@@ -1,4 +1,5 @@
--- The step of a switch: the first packet that can go, where it goes, and what it leaves (RapidIO Interconnect
+-- The step of a switch: the first packet that can go, where it goes, and what it leaves (RapidIO
+-- Interconnect
 -- Specification 1.3, Part 3, routing; the order is this project's profile).
 use Rattle.std.specs.Prelude.{ℕ, List, Option, Some, None, unwrap_or, if◌then◌else◌}
 use Rattle.rio_packets.specs.Fields.{prio_of}

@@ -7,6 +7,8 @@
 //! Left out: what goes on between the ports of a link, and progress among switches that wait for each other. No call takes
 //! memory.
 //!
+//! - [`first_going`] finds the packet of a switch that goes first: [`Going`], which lends it, has it
+//!   pass on and has it answered.
 //! - [`switch_step`] makes the first step that a switch can make, and [`Step`] tells it.
 //! - [`endpoint_send`] puts a packet to be sent, if there is room: [`Sent`].
 //! - [`endpoint_collect`] takes a packet out of the fabric, or has the registers answer it: [`Collected`].
@@ -14,8 +16,10 @@
 #![tactic(auto)]
 
 mod endpoint;
+mod going;
 mod ports;
 mod switch;
 
 pub use endpoint::{Collected, Sent, endpoint_collect, endpoint_send};
+pub use going::{Going, first_going};
 pub use switch::{Step, switch_step};

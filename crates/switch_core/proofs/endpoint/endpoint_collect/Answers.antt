@@ -13,27 +13,36 @@ pub returns-then-not-has_room-clause-collected : goal.returns-then-not-has_room-
 returns-then-not-has_room-clause-collected g c =
     let face = face_of g.P.PortFace.received g.P.PortFace.queued c.args.port.now in
     let there = some_there (head_of face c.in-Some.prio) c.in-Some.ensures.held in
-    let asks = sym (c.in-Some-first_request.ensures.value ∙ ap (option_and_then request_of) there.1) in
+    let asks = sym (c.in-Some-first_request.ensures.value ∙ ap (option_and_then request_of) there.1)
+    in
     let none : has_room face (min (c.in-Some-first_request.request.prio + 1) 3) ≡ false =
-    ap (has_room face) (sym c.response_prio.ensures.value) ∙ sym c.has_room.ensures ∙ c.if-not-has_room.true in
-    full c.args.registers.now face there.0 c.in-Some-first_request.request (c.in-Some.ensures.value ∙ there.1) asks none
+    ap (has_room face) (sym c.response_prio.ensures.value) ∙ sym c.has_room.ensures
+    ∙ c.if-not-has_room.true in
+    full c.args.registers.now face there.0 c.in-Some-first_request.request
+    (c.in-Some.ensures.value ∙ there.1) asks none
 
 pub returns-clause-collected : goal.returns-clause-collected
 returns-clause-collected g c =
     let face = face_of g.P.PortFace.received g.P.PortFace.queued c.args.port.now in
     let there = some_there (head_of face c.in-Some.prio) c.in-Some.ensures.held in
-    let asks = sym (c.in-Some-first_request.ensures.value ∙ ap (option_and_then request_of) there.1) in
+    let asks = sym (c.in-Some-first_request.ensures.value ∙ ap (option_and_then request_of) there.1)
+    in
     let room : has_room face (min (c.in-Some-first_request.request.prio + 1) 3) ≡ true =
-    ap (has_room face) (sym c.response_prio.ensures.value) ∙ sym c.has_room.ensures ∙ c.if-not-has_room.false in
+    ap (has_room face) (sym c.response_prio.ensures.value) ∙ sym c.has_room.ensures
+    ∙ c.if-not-has_room.false in
     c.answer_first.ensures.value there.0 there.1
-    ∙ answers c.args.registers.now face there.0 c.in-Some-first_request.request (c.in-Some.ensures.value ∙ there.1) asks room
+    ∙ answers c.args.registers.now face there.0 c.in-Some-first_request.request
+    (c.in-Some.ensures.value ∙ there.1) asks room
 
 pub returns-clause-face : goal.returns-clause-face
 returns-clause-face g c =
     let face = face_of g.P.PortFace.received g.P.PortFace.queued c.args.port.now in
     let there = some_there (head_of face c.in-Some.prio) c.in-Some.ensures.held in
-    let response = response_bytes (answered c.args.registers.now c.in-Some-first_request.request 0).response in
-    let same = first_has_prio face.received c.in-Some.prio there.0 c.in-Some.ensures.lists c.in-Some.ensures.range there.1 in
+    let response =
+    response_bytes
+    (answered c.args.registers.now c.in-Some-first_request.request 0).response in
+    let same = first_has_prio face.received c.in-Some.prio there.0 c.in-Some.ensures.lists
+    c.in-Some.ensures.range there.1 in
     c.answer_first.ensures.face
     ∙ ap (λ prio. with_packet (without_head face prio) response) (sym same)
     ∙ sym (ap (face_after face) (c.answer_first.ensures.value there.0 there.1))
@@ -42,7 +51,8 @@ pub returns-clause-registers : goal.returns-clause-registers
 returns-clause-registers g c =
     let face = face_of g.P.PortFace.received g.P.PortFace.queued c.args.port.now in
     let there = some_there (head_of face c.in-Some.prio) c.in-Some.ensures.held in
-    let asks = sym (c.in-Some-first_request.ensures.value ∙ ap (option_and_then request_of) there.1) in
+    let asks = sym (c.in-Some-first_request.ensures.value ∙ ap (option_and_then request_of) there.1)
+    in
     c.answer_first.ensures.registers
     ∙ sym (ap (device_after c.args.registers.now) (c.answer_first.ensures.value there.0 there.1)
     ∙ ap (answered_on_0 c.args.registers.now) asks)
