@@ -1,5 +1,5 @@
 -- What a call of a link does, as a part of the schedule.
-use Rattle.std.proofs.Common.{◌≡◌, ℕ, Bool, true, false, List, Ok, Err, refl, sym, ap, ◌∙◌, subst, if◌then◌else◌}
+use Rattle.std.proofs.Common.{◌≡◌, ℕ, Bool, true, false, List, Result, Ok, Err, refl, sym, ap, ◌∙◌, subst, if◌then◌else◌, IsErrAnd}
 use Rattle.link_model.specs.declared.event.Event.{Event}
 use Rattle.link_watch.specs.Sides.{other_side}
 use Rattle.link_watch.specs.Stops.{Stopped}
@@ -19,7 +19,9 @@ use Rattle.link_law.specs.Does.{Comes, Stops, Ends, end_of}
 use Rattle.link_law.specs.declared.answers.LinkEnd.{LinkEnd}
 use Rattle.link_law.specs.declared.answers.LinkEnd.TheVariants.{Undetected, Failed, NoMemory}
 use Rattle.link_law.proofs.DeliverLaws.{one_comes, one_stops}
-use Rattle.fabric_ports.specs.Acting.{part_of}
+use Rattle.link_rest.specs.Settling.{Part}
+use Rattle.fabric_ports.specs.Acting.{part_of, Acts}
+use Rattle.fabric_ports.specs.declared.actions.Acted.{Acted}
 use Rattle.fabric_ports.specs.declared.actions.Action.{Action}
 use Rattle.fabric_ports.specs.declared.actions.Action.TheVariants.{Pump, Deliver, TimeOut}
 
@@ -30,6 +32,15 @@ stops : {W : Type 0} (grew : W → List Note → W → Type 0) (cut : W → Note
     → Ends grew cut (part_of side action) before old (end_of end) new
 stops grew cut side action before old new Stop.Failed stopped = stopped
 stops grew cut side action before old new Stop.NoMemory stopped = stopped
+
+-- a call in one that ended, which ended so too
+pub acts_end : {W : Type 0} (grew : W → List Note → W → Type 0) (cut : W → Note → W → Type 0)
+    (P : Part) (before : LinkState) (old : W) (result : Result Acted LinkEnd) (end : LinkEnd)
+    (next : LinkState) (new : W) → IsErrAnd result (λ y. y ≡ end)
+    → Ends grew cut P before old end new → Acts grew cut P before old result next new
+acts_end grew cut P before old (Ok answer) end next new gives ends = absurd gives
+acts_end grew cut P before old (Err y) end next new gives ends =
+    subst (λ e. Ends grew cut P before old e new) (sym gives) ends
 
 -- ---- turns
 

@@ -76,6 +76,7 @@ fabric_with fabric k cable wires ports = record {
   firsts = fabric.firsts;
   ports = with_items fabric.ports ports;
   cables = with_item fabric.cables k (with_wires cable wires);
+  cable_at = fabric.cable_at;
 }
 
 changed_with : (fabric : Fabric) (place : LinkPlace) (cable : Cable) (wires : Wires)
@@ -95,6 +96,7 @@ changed_with fabric place cable wires ports next x y same first second becomes =
       ports = with_items_is fabric.ports next counted ∙ becomes
           ∙ (λ i. slice_set (slice_set (same i) (first i) x) (second i) y);
       cables = refl;
+      cable_at = refl;
     }
 
 -- ---- what the call between two ports says

@@ -148,7 +148,8 @@ module _ {K : Type 0} (written : K → Option (List ℕ)) (faults : K → ℕ) (
           refl,
           own,
           subst (λ (f : Option Found). Follows f
-              (AskRounds host most_rounds noise (seen (seen from lines) x)) NamesNothing y) (sym still)
+              (AskRounds host most_rounds noise (seen (seen from lines) x)) NamesNothing y)
+              (sym still)
               more.0,
         ),
         leaves_behind host left x y

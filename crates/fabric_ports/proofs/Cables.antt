@@ -29,7 +29,7 @@ use Rattle.fabric_ports.specs.Places.{AreFirsts, IsEndpointAt, port_count, place
 use Rattle.fabric_ports.specs.Showing.{ends_of, wires_of, ShowsCable, AreRegisters, ShowsFabric}
 use Rattle.fabric_ports.specs.declared.fabric.Cable.{Cable}
 use Rattle.fabric_ports.specs.declared.fabric.Fabric.{Fabric}
-use Rattle.fabric_ports.proofs.ShowLaws.{get_set, ArePorts, two_set}
+use Rattle.fabric_ports.proofs.ShowLaws.{get_set, lead_same, ArePorts, two_set}
 
 -- ---- ends of two links
 
@@ -113,6 +113,7 @@ pub record IsChanged (old new : Fabric) (k : ℕ) (cable : Cable) (wires : Wires
       (slice_set old.ports.items (place_of old.firsts.items cable.a) x)
       (place_of old.firsts.items cable.b) y
   pub cables : new.cables.items ≡ slice_set old.cables.items k (with_wires cable wires)
+  pub cable_at : new.cable_at.items ≡ old.cable_at.items
 
 wires_stay : {s t : Seen} {a b : PortRef} (c d : Cable) → d.a ≡ a → d.b ≡ b → AreApart c d
     → AreOthers s t a b → wires_of t c.a c.b ≡ wires_of s c.a c.b
@@ -282,6 +283,9 @@ changed_shows old new s t k d wires x y shows at changed proper others registers
           (subst (λ (l : List Device). All (ShowsCable l t)
           (slice_set old.cables.items k (with_wires d wires))) (sym changed.devices) cables);
       links = ap (map ends_of) changed.cables ∙ same_ends ∙ shows.links ∙ sym others.links;
+      lead = lead_same s.network.links t.network.links firsts new.firsts.items
+          old.cable_at.items new.cable_at.items others.links changed.firsts changed.cable_at
+          shows.lead;
       registers = subst (AreRegisters t.network) (sym changed.devices)
           (registers ∙ shows.registers);
       endpoints = λ n is.

@@ -146,6 +146,7 @@ fabric_edited fabric k cable wires = record {
   firsts = fabric.firsts;
   ports = fabric.ports;
   cables = with_item fabric.cables k (with_wires cable wires);
+  cable_at = fabric.cable_at;
 }
 
 set_same : {X : Type 0} (xs : List X) (i : ℕ) (x : X) → slice_get xs i ≡ Some x
@@ -166,6 +167,7 @@ links_changed fabric k cable wires x y at_x at_y = record {
       sym (ap (λ l. slice_set l py y) (set_same fabric.ports.items px x at_x)
       ∙ set_same fabric.ports.items py y at_y);
   cables = refl;
+  cable_at = refl;
 }
 
 -- what is known of a link whose ports stand where they are shown

@@ -1,14 +1,15 @@
 -- The link that a port has.
-use Rattle.std.proofs.Common.{◌≡◌, ◌≢◌, ℕ, zero, suc, ◌<◌, Bool, true, false, List, [], ◌∷◌, map, length, drop, Option, Some, None, IsSome, slice_get, slice_index_or, refl, sym, ap, ◌∙◌, subst, arith, if◌then◌else◌}
-use Rattle.std.proofs.lemmas.Option.{slice_get-get_or, slice_get_within, get_or_from_slice_get}
+use Rattle.std.proofs.Common.{◌≡◌, ◌≢◌, ℕ, suc, ◌<◌, Bool, true, false, List, [], ◌∷◌, map, length, Option, Some, IsSome, slice_get, slice_index_or, option_map, refl, sym, ap, ◌∙◌, subst, if◌then◌else◌}
+use Rattle.std.proofs.lemmas.Option.{slice_get-map, slice_get_within, get_or_from_slice_get}
 use Rattle.link_watch.specs.declared.side.Side.{Side}
 use Rattle.link_watch.specs.declared.side.Side.TheVariants.{A, B}
 use Rattle.fabric_script.specs.declared.ports.PortRef.{PortRef}
+use Rattle.fabric_trace.specs.Blocks.{port_at_side}
 use Rattle.fabric_model.specs.Network.{same_port, link_in, peer_in}
 use Rattle.fabric_model.specs.Laws.Proper.{AreProper}
 use Rattle.fabric_model.proofs.Peers.{port_is}
-use Rattle.fabric_ports.specs.Ends.{IsLinked, IsEndOf, IsPlaceOf}
-use Rattle.fabric_ports.specs.Places.{place_of}
+use Rattle.fabric_ports.specs.Ends.{IsLinked, side_in, IsEndOf, IsPlaceOf}
+use Rattle.fabric_ports.specs.Places.{IsPortOf, place_of}
 use Rattle.fabric_ports.specs.Showing.{ends_of, ShowsCable}
 use Rattle.fabric_ports.specs.Standing.{Stands}
 use Rattle.fabric_ports.specs.declared.ends.LinkPlace.{LinkPlace}
@@ -20,12 +21,6 @@ use Rattle.fabric_trace.specs.Fold.{seen}
 use Rattle.fabric_trace.specs.Known.{Seen}
 use Rattle.fabric_trace.specs.Lines.{TraceLine}
 
-drop_at : {X : Type 0} (xs : List X) (k : ℕ) (x : X) → k < length xs → x ≡ slice_index_or xs k x
-    → (rest : List X) × (drop k xs ≡ x ∷ rest)
-drop_at [] k x within is = absurd (omega (arith, within))
-drop_at (y ∷ ys) zero x within is = (ys, ap (λ z. z ∷ ys) (sym is))
-drop_at (y ∷ ys) (suc k) x within is = drop_at ys k x (omega (arith, within)) is
-
 link_first : (a b : Bool) (ends : PortRef × PortRef) (later : Option (PortRef × PortRef)) → a ≡ true
     → (if a then Some ends else (if b then Some ends else later)) ≡ Some ends
 link_first a b ends later is = ap (λ x. if x then Some ends else (if b then Some ends else later))
@@ -36,68 +31,78 @@ link_second : (a b : Bool) (ends : PortRef × PortRef) (later : Option (PortRef 
 link_second true b ends later is = refl
 link_second false b ends later is = ap (λ x. if x then Some ends else later) is
 
--- a link that is met has this port as its first end, and so do none before it
-pub first_end : (cables : List Cable) (port : PortRef) (k : ℕ) (cable : Cable) → k < length cables
-    → cable ≡ slice_index_or cables k cable
-    → link_in (map ends_of (drop k cables)) port ≡ link_in (map ends_of cables) port
-    → same_port cable.a port ≡ true → IsEndOf cables port k A
-first_end cables port k cable within is before same =
-    let d = drop_at cables k cable within is in
-    record {
-      cable = cable;
-      at = slice_get-get_or cables k cable within ∙ ap Some (sym is);
-      found = sym before ∙ ap (λ (l : List Cable). link_in (map ends_of l) port) d.1
-          ∙ link_first (same_port cable.a port) (same_port cable.b port) (ends_of cable)
-          (link_in (map ends_of d.0) port) same;
-      end = sym (port_is cable.a port same);
+-- the link that a port has, and where it stands
+pub record HasCable (cables : List Cable) (port : PortRef) : Type 0 where
+  pub place : ℕ
+  pub cable : Cable
+  pub at : slice_get cables place ≡ Some cable
+  pub found : link_in (map ends_of cables) port ≡ Some (ends_of cable)
+  pub end : port ≡ port_at_side cable.a cable.b (side_in cable.a port)
+
+has_cable : (cables : List Cable) (port : PortRef) → IsSome (peer_in (map ends_of cables) port)
+    → HasCable cables port
+has_cable [] port is = absurd cc
+has_cable (c ∷ cables) port is =
+    by_ends (same_port c.a port) (same_port c.b port) refl refl is
+    (λ later. has_cable cables port later)
+  where
+    first : same_port c.a port ≡ true → HasCable (c ∷ cables) port
+    first same = record {
+      place = 0;
+      cable = c;
+      at = refl;
+      found = link_first (same_port c.a port) (same_port c.b port) (ends_of c)
+          (link_in (map ends_of cables) port) same;
+      end = sym (port_is c.a port same)
+          ∙ ap (λ x. port_at_side c.a c.b (if x then A else B)) (sym same);
     }
 
-pub second_end : (cables : List Cable) (port : PortRef) (k : ℕ) (cable : Cable) → k < length cables
-    → cable ≡ slice_index_or cables k cable
-    → link_in (map ends_of (drop k cables)) port ≡ link_in (map ends_of cables) port
-    → same_port cable.b port ≡ true → IsEndOf cables port k B
-second_end cables port k cable within is before same =
-    let d = drop_at cables k cable within is in
-    record {
-      cable = cable;
-      at = slice_get-get_or cables k cable within ∙ ap Some (sym is);
-      found = sym before ∙ ap (λ (l : List Cable). link_in (map ends_of l) port) d.1
-          ∙ link_second (same_port cable.a port) (same_port cable.b port) (ends_of cable)
-          (link_in (map ends_of d.0) port) same;
-      end = sym (port_is cable.b port same);
+    second : same_port c.a port ≡ false → same_port c.b port ≡ true → HasCable (c ∷ cables) port
+    second other same = record {
+      place = 0;
+      cable = c;
+      at = refl;
+      found = link_second (same_port c.a port) (same_port c.b port) (ends_of c)
+          (link_in (map ends_of cables) port) same;
+      end = sym (port_is c.b port same)
+          ∙ ap (λ x. port_at_side c.a c.b (if x then A else B)) (sym other);
     }
+
+    behind : same_port c.a port ≡ false → same_port c.b port ≡ false → HasCable cables port
+        → HasCable (c ∷ cables) port
+    behind apart_a apart_b own = record {
+      place = suc own.place;
+      cable = own.cable;
+      at = own.at;
+      found = ap (λ x. if x then Some (ends_of c) else (if same_port c.b port then Some (ends_of c)
+          else link_in (map ends_of cables) port)) apart_a
+          ∙ ap (λ x. if x then Some (ends_of c) else link_in (map ends_of cables) port) apart_b
+          ∙ own.found;
+      end = own.end;
+    }
+
+    by_ends : (a b : Bool) → same_port c.a port ≡ a → same_port c.b port ≡ b
+        → IsSome (if a then Some c.b else
+        (if b then Some c.a else peer_in (map ends_of cables) port))
+        → (IsSome (peer_in (map ends_of cables) port) → HasCable cables port)
+        → HasCable (c ∷ cables) port
+    by_ends true b is_a is_b some later = first is_a
+    by_ends false true is_a is_b some later = second is_a is_b
+    by_ends false false is_a is_b some later = behind is_a is_b (later some)
 
 -- ---- a fabric that stands for some lines
-
-no_peer : (links : List (PortRef × PortRef)) (p : PortRef) → link_in links p ≡ None
-    → peer_in links p ≡ None
-no_peer [] p none = refl
-no_peer (link ∷ links) p none =
-    by_ends (same_port link.0 p) (same_port link.1 p) none (λ rest. no_peer links p rest)
-  where
-    by_ends : (a b : Bool) → (if a then Some link else (if b then Some link else link_in links p)) ≡
-        None → (link_in links p ≡ None → peer_in links p ≡ None)
-        → (if a then Some link.1 else (if b then Some link.0 else peer_in links p)) ≡ None
-    by_ends true b none later = absurd cc
-    by_ends false true none later = absurd cc
-    by_ends false false none later = later none
 
 pub links_stand : {from : Seen} {lines : List TraceLine} {fabric : Fabric}
     → Stands from lines fabric → map ends_of fabric.cables.items ≡ from.network.links
 links_stand {from} {lines} {fabric} stands = stands.shows.links ∙ seen_links from lines
 
--- a port with a link has one that is found
-pub linked_found : (fabric : Fabric) (port : PortRef) → IsLinked fabric port
-    → link_in (map ends_of fabric.cables.items) port ≡ None → ⊥
-linked_found fabric port is none =
-    let peer = no_peer (map ends_of fabric.cables.items) port none in
-    let same = ap (λ (l : List (PortRef × PortRef)). peer_in l port)
-    (sym (links_stand is.stands)) in
-    none_some (peer_in is.from.network.links port) is.linked (same ∙ peer)
-  where
-    none_some : {X : Type 0} (o : Option X) → IsSome o → o ≡ None → ⊥
-    none_some None is none = absurd cc
-    none_some (Some x) is none = absurd cc
+-- a port with a link has one of the fabric
+pub cable_of : (fabric : Fabric) (port : PortRef) → IsLinked fabric port
+    → HasCable fabric.cables.items port
+cable_of fabric port is =
+    has_cable fabric.cables.items port
+    (subst (λ (l : List (PortRef × PortRef)). IsSome (peer_in l port)) (sym (links_stand is.stands))
+    is.linked)
 
 -- what a fabric shows of one of its links
 pub cable_shown : {from : Seen} {lines : List TraceLine} {fabric : Fabric} (k : ℕ) (cable : Cable)
@@ -120,6 +125,74 @@ ends_apart {from} {lines} {fabric} k cable stands at =
     let shown = cable_shown k cable stands at in
     places_apart fabric.devices.items fabric.firsts.items cable.a cable.b stands.shows.firsts
     shown.port_a shown.port_b (own_apart fabric.cables.items k cable (links_proper stands) at)
+
+-- what holds of both ends of a link holds of one of them
+at_side : (P : PortRef → Type 0) (a b : PortRef) (side : Side) → P a → P b
+    → P (port_at_side a b side)
+at_side P a b A first second = first
+at_side P a b B first second = second
+
+-- a port with a link is one of the devices
+pub linked_port : (fabric : Fabric) (port : PortRef) → IsLinked fabric port
+    → IsPortOf fabric.devices.items port
+linked_port fabric port is =
+    let own = cable_of fabric port is in
+    let shown = cable_shown own.place own.cable is.stands own.at in
+    subst (IsPortOf fabric.devices.items) (sym own.end)
+    (at_side (IsPortOf fabric.devices.items) own.cable.a own.cable.b (side_in own.cable.a port)
+    shown.port_a shown.port_b)
+
+-- the number that stands at the place of a port
+abbrev IsNumber : Fabric → ℕ → PortRef → Type 0
+IsNumber fabric n port =
+    slice_get fabric.cable_at.items (place_of fabric.firsts.items port) ≡ Some n
+
+-- it leads to the port's link
+pub number_at : (fabric : Fabric) (port : PortRef) (is : IsLinked fabric port)
+    → slice_get fabric.cable_at.items (place_of fabric.firsts.items port)
+    ≡ Some (cable_of fabric port is).place
+number_at fabric port is =
+    let own = cable_of fabric port is in
+    let shows = is.stands.shows in
+    let leads = shows.lead own.place (ends_of own.cable)
+    (ap (λ (l : List (PortRef × PortRef)). slice_get l own.place) (sym shows.links)
+    ∙ slice_get-map ends_of fabric.cables.items own.place ∙ ap (option_map ends_of) own.at) in
+    subst (IsNumber fabric own.place) (sym own.end)
+    (at_side (IsNumber fabric own.place) own.cable.a own.cable.b (side_in own.cable.a port) leads.0
+    leads.1)
+
+-- the number that was read there
+pub number_is : (fabric : Fabric) (port : PortRef) (is : IsLinked fabric port) (place n : ℕ)
+    → place ≡ place_of fabric.firsts.items port → n ≡ slice_index_or fabric.cable_at.items place n
+    → n ≡ (cable_of fabric port is).place
+number_is fabric port is place n stands read =
+    read ∙ ap (λ i. slice_index_or fabric.cable_at.items i n) stands
+    ∙ get_or_from_slice_get fabric.cable_at.items (place_of fabric.firsts.items port)
+    (cable_of fabric port is).place n (number_at fabric port is)
+
+-- the link that stands there, and the end of it
+pub cable_read : (fabric : Fabric) (port : PortRef) (is : IsLinked fabric port) (n : ℕ)
+    (cable : Cable) → n ≡ (cable_of fabric port is).place
+    → cable ≡ slice_index_or fabric.cables.items n cable → cable ≡ (cable_of fabric port is).cable
+cable_read fabric port is n cable number read =
+    let own = cable_of fabric port is in
+    read ∙ get_or_from_slice_get fabric.cables.items n own.cable cable
+    (ap (slice_get fabric.cables.items) number ∙ own.at)
+
+pub end_read : (fabric : Fabric) (port : PortRef) (is : IsLinked fabric port) (n : ℕ)
+    (cable : Cable) (side : Side) → n ≡ (cable_of fabric port is).place
+    → cable ≡ slice_index_or fabric.cables.items n cable → side ≡ side_in cable.a port
+    → IsEndOf fabric.cables.items port n side
+end_read fabric port is n cable side number read told =
+    let own = cable_of fabric port is in
+    let same = cable_read fabric port is n cable number read in
+    record {
+      cable = own.cable;
+      at = ap (slice_get fabric.cables.items) number ∙ own.at;
+      found = own.found;
+      end = own.end ∙ ap (port_at_side own.cable.a own.cable.b)
+          (sym (told ∙ ap (λ (c : Cable). side_in c.a port) same));
+    }
 
 -- the link at that place
 pub cable_is : (cables : List Cable) (port : PortRef) (k : ℕ) (side : Side)

@@ -1,5 +1,5 @@
 -- What an event at a node needs, and what it did.
-use Rattle.std.proofs.Common.{◌≡◌, ℕ, Bool, true, List, [], ◌∷◌, ◌++◌, get_or, slice_get, Option, Some, None, IsSome, Result, Ok, Err, OnOk, IfOk, IfErr, option_map, unwrap_or, refl, sym, ap, ◌∙◌, subst}
+use Rattle.std.proofs.Common.{◌≡◌, ℕ, Bool, true, List, [], ◌∷◌, ◌++◌, get_or, slice_get, Option, Some, None, IsSome, option_map, unwrap_or, refl, sym, ap, ◌∙◌, subst}
 use mathlib.Core.Path.{fun_ext}
 use Rattle.std.proofs.lemmas.Option.{same_Some, slice_get_within, slice_get-get_or}
 use Rattle.rio_chars.specs.Written.{Writes}
@@ -28,7 +28,7 @@ use Rattle.fabric_ports.specs.Blocked.{Blocked, BlockEnds}
 use Rattle.fabric_ports.specs.Ends.{IsLinked}
 use Rattle.fabric_ports.specs.declared.fabric.Fabric.{Fabric}
 use Rattle.fabric_trace.proofs.Unique.{block_one}
-use Rattle.fabric_ports.specs.Events.{body_in, taker, taken, happened, other_of, Did, Evented, EventEnds, IsAtLink}
+use Rattle.fabric_ports.specs.Events.{body_in, taker, taken, happened, Did, Evented, EventEnds, IsAtLink}
 use Rattle.fabric_ports.specs.Places.{IsEndpointAt, IsSwitchAt}
 use Rattle.fabric_ports.specs.Showing.{ShowsFabric}
 use Rattle.fabric_ports.specs.Standing.{Stands}
@@ -186,33 +186,24 @@ sent_block s line node ids packet told takes_it endpoint same form block is = (
 -- ---- at a link
 
 -- the line with which an event begins, and what was written behind it
-pub linked_done : (line : Line) (names : List (List ℕ)) {K : Type 0} (written : K → Option (List ℕ))
-    (faults : K → ℕ) (b b2 b3 : Outbox K)
-    (old new : Fabric) (acted : Result (Unit {0}) EventEnd) (result : Result Happened EventEnd)
+pub linked_evented : (line : Line) (names : List (List ℕ)) {K : Type 0}
+    (written : K → Option (List ℕ)) (faults : K → ℕ) (b b2 b3 : Outbox K)
+    (from : Seen) (lines : List TraceLine) (new : Fabric)
     → ((block : List TraceLine) → Other ≡ happened line block)
     → Writes written faults b b2 (trace_line_text names (Begun line) ++ 10 ∷ [])
-    → OnOk acted ((from : Seen) (lines : List TraceLine) → Stands from lines old
-    → Blocked line names written faults b2 b3 from lines new)
-    → result ≡ other_of acted
-    → IfOk result (λ answer. (from : Seen) (lines : List TraceLine) → Stands from lines old
-    → Evented line names written faults b b3 from lines new answer)
-linked_done line names {K} written faults b b2 b3 old new (Ok done) result other begun blocked is =
-    subst (λ r. IfOk r (λ answer. (from : Seen) (lines : List TraceLine) → Stands from lines old
-    → Evented line names written faults b b3 from lines new answer)) (sym is)
-    (λ from lines stands. (let all = blocked from lines stands in record {
-      block = all.block;
-      prints = Writes-then (trace_line_text names (Begun line) ++ 10 ∷ [])
-          (trace_text names all.block) begun all.prints;
-      is = all.is;
-      only = λ other own. block_one line (seen from lines) other all.block own all.is;
-      stands = all.stands;
-      answered = other all.block;
-    }))
-linked_done line names written faults b b2 b3 old new (Err end) result other begun blocked is =
-    subst (λ r. IfOk r (λ answer. (from : Seen) (lines : List TraceLine) → Stands from lines old
-    → Evented line names written faults b b3 from lines new answer)) (sym is) tt
+    → Blocked line names written faults b2 b3 from lines new
+    → Evented line names written faults b b3 from lines new Other
+linked_evented line names written faults b b2 b3 from lines new other begun all = record {
+  block = all.block;
+  prints = Writes-then (trace_line_text names (Begun line) ++ 10 ∷ []) (trace_text names all.block)
+      begun all.prints;
+  is = all.is;
+  only = λ other own. block_one line (seen from lines) other all.block own all.is;
+  stands = all.stands;
+  answered = other all.block;
+}
 
-ends_on : (line : Line) (names : List (List ℕ)) {K : Type 0} (written : K → Option (List ℕ))
+pub ends_on : (line : Line) (names : List (List ℕ)) {K : Type 0} (written : K → Option (List ℕ))
     (faults : K → ℕ) (b b2 b3 : Outbox K)
     (from : Seen) (lines : List TraceLine) (end : EventEnd)
     → Writes written faults b b2 (trace_line_text names (Begun line) ++ 10 ∷ [])
@@ -236,24 +227,6 @@ ends_on line names written faults b b2 b3 from lines NoMemory begun all = record
   only = λ other own. block_one line (seen from lines) other all.block own all.is;
   whole = ap (λ (l : List TraceLine). Begun line ∷ l) all.whole;
 }
-
-pub linked_ended : (line : Line) (names : List (List ℕ)) {K : Type 0}
-    (written : K → Option (List ℕ)) (faults : K → ℕ) (b b2 b3 : Outbox K)
-    (old : Fabric) (acted : Result (Unit {0}) EventEnd) (result : Result Happened EventEnd)
-    → Writes written faults b b2 (trace_line_text names (Begun line) ++ 10 ∷ [])
-    → IfErr acted (λ end. (from : Seen) (lines : List TraceLine) → Stands from lines old
-    → BlockEnds line names written faults b2 b3 from lines end)
-    → result ≡ other_of acted
-    → IfErr result (λ end. (from : Seen) (lines : List TraceLine) → Stands from lines old
-    → EventEnds line names written faults b b3 from lines end)
-linked_ended line names written faults b b2 b3 old (Ok done) result begun ends is =
-    subst (λ r. IfErr r (λ end. (from : Seen) (lines : List TraceLine) → Stands from lines old
-    → EventEnds line names written faults b b3 from lines end)) (sym is) tt
-linked_ended line names written faults b b2 b3 old (Err end) result begun ends is =
-    subst (λ r. IfErr r (λ end. (from : Seen) (lines : List TraceLine) → Stands from lines old
-    → EventEnds line names written faults b b3 from lines end)) (sym is)
-    (λ from lines stands. ends_on line names written faults b b2 b3 from lines end begun
-    (ends from lines stands))
 
 -- a port that has a link now had one when the fabric was made
 pub is_linked : (fabric : Fabric) (from : Seen) (lines : List TraceLine) (port : PortRef)

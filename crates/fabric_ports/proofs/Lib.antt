@@ -24,6 +24,7 @@ pub mod LeaveLaws
 pub mod LinkLaws
 pub mod NewLaws
 pub mod NodeLaws
+pub mod NumberLaws
 pub mod OwnLaws
 pub mod PlaceLaws
 pub mod PlanLaws

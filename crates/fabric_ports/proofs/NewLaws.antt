@@ -19,6 +19,7 @@ use Rattle.fabric_script.specs.Lines.{new_name}
 use Rattle.fabric_script.specs.Scripts.{PassesFrom, Passes}
 use Rattle.fabric_model.specs.Network.{Network}
 use Rattle.fabric_model.specs.Laws.History.{IsEmptyNetwork}
+use Rattle.fabric_model.specs.Laws.Proper.{AreProper}
 use Rattle.fabric_trace.specs.Events.{ArePorts, counts_after, counts_after_all, port_counts}
 use Rattle.fabric_trace.specs.Known.{port_at}
 use Rattle.fabric_trace.specs.Parts.{Done}
@@ -29,10 +30,11 @@ use Rattle.fabric_trace.proofs.Existing.{ready_begun}
 use Rattle.fabric_trace.proofs.Happening.{may_set_up, ports_there}
 use Rattle.fabric_trace.proofs.Starting.{set_up_bare}
 use Rattle.fabric_ports.specs.Places.{IsEndpointAt, place_of}
-use Rattle.fabric_ports.specs.Showing.{ShowsCable, ShowsFabric}
+use Rattle.fabric_ports.specs.Showing.{ends_of, ShowsCable, LeadToLinks, ShowsFabric}
 use Rattle.fabric_ports.specs.Standing.{Stands}
 use Rattle.fabric_ports.specs.Plans.{counts_of, HasPorts, IsNewCable, PlansFor, MayAdd, port_plan, planned_port}
 use Rattle.fabric_ports.proofs.PlanLaws.{Lists, lists_of, lists_same}
+use Rattle.fabric_ports.proofs.ShowLaws.{lead_same}
 use Rattle.fabric_ports.specs.declared.fabric.Fabric.{Fabric}
 use Rattle.fabric_ports.specs.declared.plans.Plan.{Plan}
 use Rattle.fabric_ports.specs.declared.plans.PortPlan.{PortPlan}
@@ -77,8 +79,10 @@ endpoint_at (device ∷ devices) (suc n) have is =
 -- a fabric with new ports as planned shows the network of the plan
 new_shows : (fabric : Fabric) (plans : List PortPlan) (net : Network) → IsEmptyNetwork net
     → Lists fabric.devices.items fabric.firsts.items plans fabric.cables.items net
-    → fabric.ports.items ≡ map planned_port plans → ShowsFabric fabric (begins net)
-new_shows fabric plans net empty l ports = record {
+    → fabric.ports.items ≡ map planned_port plans
+    → LeadToLinks (map ends_of fabric.cables.items) fabric.firsts.items fabric.cable_at.items
+    → ShowsFabric fabric (begins net)
+new_shows fabric plans net empty l ports lead = record {
   firsts = l.rows;
   count = ap length ports ∙ length-map plans planned_port ∙ l.count;
   ports = λ p here.
@@ -90,6 +94,8 @@ new_shows fabric plans net empty l ports = record {
       (λ cable new. record { port_a = new.port_a; port_b = new.port_b; wires = new.wires })
       fabric.cables.items l.new;
   links = l.links;
+  lead = subst (λ (links : List (PortRef × PortRef)). LeadToLinks links fabric.firsts.items
+      fabric.cable_at.items) l.links lead;
   registers = l.registers;
   endpoints = λ n is. endpoint_at fabric.devices.items n l.have_ports
       (subst (λ (registers : List Device). option_map is_switch (slice_get registers n) ≡ Some
@@ -101,8 +107,9 @@ pub new_stands : (names : List (List ℕ)) (lines : List Numbered) (plan : Plan)
     → fabric.devices.items ≡ plan.devices.items → fabric.firsts.items ≡ plan.firsts.items
     → fabric.cables.items ≡ plan.cables.items
     → fabric.ports.items ≡ map planned_port plan.ports.items
+    → LeadToLinks (map ends_of plan.cables.items) plan.firsts.items fabric.cable_at.items
     → Stands (begins (set_up_all bare lines)) [] fabric
-new_stands names lines plan fabric passes is d f c ports =
+new_stands names lines plan fabric passes is d f c ports lead =
     let set_up = set_up_bare lines (may_set_up names lines passes) in
     record {
       ready = ready_begun (set_up_all bare lines) set_up;
@@ -111,8 +118,18 @@ new_stands names lines plan fabric passes is d f c ports =
       shows = new_shows fabric plan.ports.items (set_up_all bare lines) set_up.empty
           (lists_same plan.devices.items fabric.devices.items plan.firsts.items fabric.firsts.items
           plan.ports.items plan.ports.items plan.cables.items fabric.cables.items
-          (set_up_all bare lines) d f refl c (lists_of plan (set_up_all bare lines) is)) ports;
+          (set_up_all bare lines) d f refl c (lists_of plan (set_up_all bare lines) is)) ports
+          (lead_same (map ends_of plan.cables.items) (map ends_of fabric.cables.items)
+          plan.firsts.items fabric.firsts.items fabric.cable_at.items fabric.cable_at.items
+          (ap (map ends_of) c) f refl lead);
     }
+
+-- the links of a plan for a script that passes
+pub plan_proper : (names : List (List ℕ)) (lines : List Numbered) (plan : Plan)
+    → Passes names lines → PlansFor plan (set_up_all bare lines)
+    → AreProper (map ends_of plan.cables.items)
+plan_proper names lines plan passes is =
+    subst AreProper (sym is.links) (set_up_bare lines (may_set_up names lines passes)).proper
 
 -- ---- from line to line
 

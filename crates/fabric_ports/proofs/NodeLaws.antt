@@ -12,7 +12,7 @@ use Rattle.fabric_ports.specs.declared.fabric.Fabric.{Fabric}
 use Rattle.fabric_ports.specs.Places.{AreFirsts, IsPortOf, IsEndpointAt, place_of}
 use Rattle.fabric_ports.specs.Showing.{ends_of, ShowsCable, ShowsFabric}
 use Rattle.fabric_ports.proofs.DeviceLaws.{AreSameDevices, one_written, kinds_stay, firsts_stay, count_stays, has_port_still, had_port, endpoint_stays}
-use Rattle.fabric_ports.proofs.ShowLaws.{ArePorts, one_set}
+use Rattle.fabric_ports.proofs.ShowLaws.{lead_same, ArePorts, one_set}
 
 -- ---- registers
 
@@ -38,6 +38,7 @@ pub record IsServed (old new : Fabric) : Type 0 where
   pub firsts : new.firsts.items ≡ old.firsts.items
   pub count : length new.ports.items ≡ length old.ports.items
   pub cables : new.cables.items ≡ old.cables.items
+  pub cable_at : new.cable_at.items ≡ old.cable_at.items
 
 -- the wires stay as they were
 pub served_shows : (old new : Fabric) (s t : Seen) → ShowsFabric old s → IsServed old new
@@ -65,6 +66,8 @@ served_shows old new s t shows served ports wires links registers =
           ∙ ports p (had_port before after p.node p.port served.devices has);
       cables = rw served.cables cables;
       links = ap (map ends_of) served.cables ∙ shows.links ∙ sym links;
+      lead = lead_same s.network.links t.network.links old.firsts.items new.firsts.items
+          old.cable_at.items new.cable_at.items links served.firsts served.cable_at shows.lead;
       registers = registers;
       endpoints = λ n is.
           let kind : IsEndpoint s.network n =
@@ -83,6 +86,7 @@ pub record HasBoth (old new : Fabric) (n : ℕ) (next : Device) (p : PortRef) (y
   pub firsts : new.firsts.items ≡ old.firsts.items
   pub ports : new.ports.items ≡ slice_set old.ports.items (place_of old.firsts.items p) y
   pub cables : new.cables.items ≡ old.cables.items
+  pub cable_at : new.cable_at.items ≡ old.cable_at.items
 
 pub endpoint_port : (devices : List Device) (n : ℕ) → IsEndpointAt devices n
     → IsPortOf devices (port_of n)
@@ -106,6 +110,7 @@ port_shows old new s t n device next y shows at stands same has becomes others w
       count = ap (λ (l : List PortState). length l) has.ports
           ∙ length-set old.ports.items (place_of old.firsts.items (port_of n)) y;
       cables = has.cables;
+      cable_at = has.cable_at;
     })
     (rw has.ports ports) wires links
     (registers ∙ ap (λ (l : List Device). slice_set l n next) shows.registers ∙ sym has.devices)
@@ -128,6 +133,7 @@ with_both fabric n device place port = record {
   firsts = fabric.firsts;
   ports = with_item fabric.ports place port;
   cables = fabric.cables;
+  cable_at = fabric.cable_at;
 }
 
 pub has_both : (fabric : Fabric) (p : PortRef) (node n place : ℕ) (next : Device) (y : PortState)
@@ -138,6 +144,7 @@ has_both fabric p node n place next y is same = record {
   firsts = refl;
   ports = ap (λ i. slice_set fabric.ports.items i y) is;
   cables = refl;
+  cable_at = refl;
 }
 
 -- the fabric with this port at a place
@@ -147,6 +154,7 @@ with_port fabric place port = record {
   firsts = fabric.firsts;
   ports = with_item fabric.ports place port;
   cables = fabric.cables;
+  cable_at = fabric.cable_at;
 }
 
 pub has_port : (fabric : Fabric) (p : PortRef) (n place : ℕ) (device : Device) (y : PortState)
@@ -157,6 +165,7 @@ has_port fabric p n place device y is stands = record {
   firsts = refl;
   ports = ap (λ i. slice_set fabric.ports.items i y) is;
   cables = refl;
+  cable_at = refl;
 }
 
 -- the fabric with these ports, and this device at a place
@@ -166,4 +175,5 @@ with_ports fabric n device ports = record {
   firsts = fabric.firsts;
   ports = with_items fabric.ports ports;
   cables = fabric.cables;
+  cable_at = fabric.cable_at;
 }

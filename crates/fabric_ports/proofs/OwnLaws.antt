@@ -73,6 +73,7 @@ with_registers fabric place device = record {
   firsts = fabric.firsts;
   ports = fabric.ports;
   cables = fabric.cables;
+  cable_at = fabric.cable_at;
 }
 
 stays_within : (device : Device) (offset value : ℕ) → IsWithin device → value < 0x100000000
@@ -122,7 +123,13 @@ module _ (from : Seen) (lines : List TraceLine) (fabric : Fabric) (node place : 
         made = Done refl;
         sent = stands.sent;
         shows = served_shows fabric (with_registers fabric place next) s t stands.shows
-            (record { devices = devices; firsts = refl; count = refl; cables = refl })
+            (record {
+              devices = devices;
+              firsts = refl;
+              count = refl;
+              cables = refl;
+              cable_at = refl;
+            })
             stands.shows.ports refl refl registers;
       }
 

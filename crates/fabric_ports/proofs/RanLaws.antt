@@ -47,8 +47,14 @@ pub both_as : (P Q R : Kind) (s : Seen) (lines : List TraceLine)
     → ((t : Seen) (rest : List TraceLine) → t.unfaithful ≡ None → Q t rest → R t rest)
     → Both P Q s lines → Both P R s lines
 both_as P Q R s lines turns both =
-    let t = seen s both.0 in
-    (both.0, both.1, both.2, both.3, follows_as t.unfaithful (Q t) (R t) both.1 (turns t both.1) both.4)
+    let t = seen s both.0 in (
+      both.0,
+      both.1,
+      both.2,
+      both.3,
+      follows_as t.unfaithful (Q t) (R t) both.1 (turns t both.1)
+          both.4,
+    )
 
 -- nothing behind
 pub both_nothing : (P : Kind) (s : Seen) (lines : List TraceLine) → P s lines
@@ -61,7 +67,8 @@ pub nothing_both : (Q : Kind) (s : Seen) (lines : List TraceLine) → s.unfaithf
     → Both Nothing Q s lines → Q s lines
 nothing_both Q s lines still both =
     let first = both.3 in
-    let rest = subst (λ (l : List TraceLine). Follows (seen s l).unfaithful (Q (seen s l)) NamesNothing
+    let rest =
+    subst (λ (l : List TraceLine). Follows (seen s l).unfaithful (Q (seen s l)) NamesNothing
     both.1) first both.4 in
     let own = subst (λ (f : Option Found). Follows f (Q s) NamesNothing both.1) still rest in
     subst (Q s) (sym (both.2 ∙ ap (λ (l : List TraceLine). l ++ both.1) first)) own
@@ -72,7 +79,8 @@ assoc_behind : (Q R : Kind) (t : Seen) (found : Option Found) (second rest : Lis
     → Follows found (Both Q R t) NamesNothing (second ++ rest)
 assoc_behind Q R t None second rest is own more = (second, rest, refl, own, more)
 assoc_behind Q R t (Some found) second rest is none more =
-    let behind = subst (λ (l : List TraceLine). Follows (seen t l).unfaithful (R (seen t l)) NamesNothing
+    let behind =
+    subst (λ (l : List TraceLine). Follows (seen t l).unfaithful (R (seen t l)) NamesNothing
     rest) none more in
     let empty : rest ≡ [] =
     subst (λ (f : Option Found). Follows f (R t) NamesNothing rest) is behind in
@@ -136,7 +144,8 @@ module _ {K : Type 0} (written : K → Option (List ℕ)) (faults : K → ℕ) (
       → Writes written faults a c (trace_text names (front ++ more))
   lines_written a b c front more first second =
       subst (Writes written faults a c)
-      (sym (flat_map-append (λ (line : TraceLine). trace_line_text names line ++ 10 ∷ []) front more))
+      (sym (flat_map-append (λ (line : TraceLine). trace_line_text names line ++ 10 ∷ []) front
+      more))
       (Writes-then _ _ first second)
 
   pub ran_nothing : (out : Outbox K) (from : Seen) (lines : List TraceLine) (fabric : Fabric)
@@ -188,7 +197,8 @@ module _ {K : Type 0} (written : K → Option (List ℕ)) (faults : K → ℕ) (
   pub ran_as : (P Q : Kind) (a b : Outbox K) (from : Seen) (lines : List TraceLine) (new : Fabric)
       → ((block : List TraceLine) → P (seen from lines) block
       → Q (seen from lines) block)
-      → Ran P names written faults a b from lines new → Ran Q names written faults a b from lines new
+      → Ran P names written faults a b from lines new → Ran Q names written faults a b from lines
+      new
   ran_as P Q a b from lines new turns ran = record {
     block = ran.block;
     prints = ran.prints;

@@ -1,6 +1,6 @@
 -- Switches that are served one after another, and rounds.
 use Rattle.fabric_trace.specs.Known.{Seen}
-use Rattle.std.proofs.Common.{◌≡◌, ℕ, zero, suc, ◌+◌, ◌<◌, Bool, true, false, List, [], ◌∷◌, ◌++◌, length, take, get_or, slice_get, Option, Some, None, Result, Ok, Err, OnOk, IfErr, MatchBool, option_map, refl, sym, ap, ◌∙◌, subst, arith}
+use Rattle.std.proofs.Common.{◌≡◌, ℕ, zero, suc, ◌+◌, ◌<◌, Bool, true, false, List, [], ◌∷◌, ◌++◌, length, take, get_or, slice_get, Option, Some, None, MatchBool, option_map, refl, sym, ap, ◌∙◌, subst, arith}
 use Rattle.std.proofs.lemmas.Option.{slice_get-get_or}
 use Rattle.rio_chars.specs.declared.outbox.Outbox.{Outbox}
 use Rattle.maint_registers.specs.Devices.{Device, is_switch}
@@ -195,7 +195,8 @@ round_made : (from : Seen) → IsReady from → IsMade from (Round IsSettle)
 round_made from ready lines block made sent own =
     let s = seen from lines in
     made-append made
-    (round_come IsSettle IsSettle settles_come move_made s block (good_behind ready made) sent own).0
+    (round_come IsSettle IsSettle settles_come move_made s block (good_behind ready made) sent
+    own).0
 
 switches_go_on : (from : Seen) → IsReady from → GoesOn from SwitchesServe
 switches_go_on from ready lines made sent =
@@ -224,7 +225,8 @@ module _ {K : Type 0} (written : K → Option (List ℕ)) (faults : K → ℕ) (
       ran_as written faults names (Both (Rounds IsSettle k) (Rounds IsSettle 1))
       (Rounds IsSettle (k + 1)) a d from lines new
       (λ block both. rounds_append k 1 (seen from lines) block stands.sent both)
-      (ran_both written faults names (Rounds IsSettle k) (Rounds IsSettle 1) a b d from lines mid new
+      (ran_both written faults names (Rounds IsSettle k) (Rounds IsSettle 1) a b d from lines mid
+      new
       first one)
 
   -- the links of a round did not all settle
@@ -246,7 +248,8 @@ module _ {K : Type 0} (written : K → Option (List ℕ)) (faults : K → ℕ) (
       (Rounds IsSettle n) a c from lines end
       (λ block both. subst (λ m. Rounds IsSettle m (seen from lines) block) left.1
       (rounds_append k (suc left.0) (seen from lines) block stands.sent both))
-      (ends_second written faults names (Rounds IsSettle k) (Rounds IsSettle (suc left.0)) a b c from
+      (ends_second written faults names (Rounds IsSettle k) (Rounds IsSettle (suc left.0)) a b c
+      from
       lines mid end first more)
     where
       rounds_left : (k n : ℕ) → k < n → (m : ℕ) × (k + suc m ≡ n)
@@ -267,7 +270,7 @@ module _ {K : Type 0} (written : K → Option (List ℕ)) (faults : K → ℕ) (
 
 module _ {K : Type 0} (written : K → Option (List ℕ)) (faults : K → ℕ) (names : List (List ℕ))
     (a b : Outbox K) (n : ℕ) (old new : Fabric) where
-  run_blocked : (from : Seen) (lines : List TraceLine) → Stands from lines old
+  pub run_blocked : (from : Seen) (lines : List TraceLine) → Stands from lines old
       → Ran (Rounds IsSettle n) names written faults a b from lines new
       → Blocked (Run n) names written faults a b from lines new
   run_blocked from lines stands ran =
@@ -281,15 +284,7 @@ module _ {K : Type 0} (written : K → Option (List ℕ)) (faults : K → ℕ) (
             (subst (ShowsFabric new) joined ran.stands.shows);
       }
 
-  pub run_done : (acted : Result (Unit {0}) EventEnd)
-      → OnOk acted ((from : Seen) (lines : List TraceLine) → Stands from lines old
-      → Ran (Rounds IsSettle n) names written faults a b from lines new)
-      → OnOk acted ((from : Seen) (lines : List TraceLine) → Stands from lines old
-      → Blocked (Run n) names written faults a b from lines new)
-  run_done (Ok done) ran = λ from lines stands. run_blocked from lines stands (ran from lines stands)
-  run_done (Err end) ran = tt
-
-  run_ends : (from : Seen) (lines : List TraceLine) (end : EventEnd)
+  pub run_ends : (from : Seen) (lines : List TraceLine) (end : EventEnd)
       → RanEnds (Rounds IsSettle n) names written faults a b from lines end
       → BlockEnds (Run n) names written faults a b from lines end
   run_ends from lines (Undetected port event) ends =
@@ -312,11 +307,3 @@ module _ {K : Type 0} (written : K → Option (List ℕ)) (faults : K → ℕ) (
     is = ends.is;
     whole = ends.whole;
   }
-
-  pub run_ended : (acted : Result (Unit {0}) EventEnd)
-      → IfErr acted (λ end. (from : Seen) (lines : List TraceLine) → Stands from lines old
-      → RanEnds (Rounds IsSettle n) names written faults a b from lines end)
-      → IfErr acted (λ end. (from : Seen) (lines : List TraceLine) → Stands from lines old
-      → BlockEnds (Run n) names written faults a b from lines end)
-  run_ended (Ok done) ends = tt
-  run_ended (Err end) ends = λ from lines stands. run_ends from lines end (ends from lines stands)

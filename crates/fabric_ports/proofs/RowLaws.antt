@@ -1,4 +1,5 @@
--- The ports of one device stand in a row, apart from those of all others; and lists of which such a row was replaced.
+-- The ports of one device stand in a row, apart from those of all others; and lists of which such a
+-- row was replaced.
 use Rattle.std.proofs.Common.{◌≡◌, ◌≢◌, ◌⊎◌, inl, inr, ℕ, zero, suc, ◌+◌, ◌-◌, ◌<◌, ◌≤◌, Option, None, List, [], ◌∷◌, ◌++◌, length, take, drop, Some, slice_get, slice_index_or, refl, sym, ap, ◌∙◌, subst, arith, length-append, length-take, length-drop}
 use Rattle.std.proofs.lemmas.Bool.{cases_lt, cases_eq}
 use Rattle.std.proofs.lemmas.List.{take-append-drop, get_or_default}
@@ -91,21 +92,24 @@ module _ {X : Type 0} (all own : List X) (first count : ℕ) (within : first + c
       let whole = length-append (take first all) (own ++ drop (first + count) all) in
       omega (arith, within, many, front, back, mid, whole)
 
-  pub get-replaced : (j : ℕ) → j < count → slice_get (replaced all own first count) (first + j) ≡ slice_get own j
+  pub get-replaced : (j : ℕ) → j < count → slice_get (replaced all own first count) (first + j)
+      ≡ slice_get own j
   get-replaced j below =
       let front = front_length in
       get-behind (take first all) (own ++ drop (first + count) all) (first + j) j
       (omega (arith, front))
       ∙ get-append own (drop (first + count) all) j (omega (arith, below, many))
 
-  pub get-before : (k : ℕ) → k < first → slice_get (replaced all own first count) k ≡ slice_get all k
+  pub get-before : (k : ℕ) → k < first → slice_get (replaced all own first count) k
+      ≡ slice_get all k
   get-before k below =
       let front = front_length in
       get-append (take first all) (own ++ drop (first + count) all) k (omega (arith, below, front))
       ∙ sym (get-append (take first all) (drop first all) k (omega (arith, below, front)))
       ∙ ap (λ l. slice_get l k) (take-append-drop first all)
 
-  pub get-past : (k i : ℕ) → k ≡ first + count + i → slice_get (replaced all own first count) k ≡ slice_get all k
+  pub get-past : (k i : ℕ) → k ≡ first + count + i → slice_get (replaced all own first count) k
+      ≡ slice_get all k
   get-past k i is =
       let front = front_length in
       let cut = length-take (first + count) all in
@@ -140,7 +144,8 @@ own-length all first count within =
 -- ---- ports
 
 -- a port of another device stands before the row of this one, or behind it
-apart_from_row : (devices : List Device) (firsts : List ℕ) (node : ℕ) (device : Device) (q : PortRef)
+apart_from_row : (devices : List Device) (firsts : List ℕ) (node : ℕ) (device : Device)
+    (q : PortRef)
     → AreFirsts 0 devices firsts → slice_get devices node ≡ Some device → IsPortOf devices q
     → q.node ≢ node → (place_of firsts q < slice_index_or firsts node 0)
     ⊎ (slice_index_or firsts node 0 + device.ports ≤ place_of firsts q)

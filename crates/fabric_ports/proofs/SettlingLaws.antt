@@ -1,6 +1,7 @@
 -- What stays of a fabric, and links that settle one after another.
-use Rattle.fabric_trace.specs.Known.{Seen}
-use Rattle.std.proofs.Common.{◌≡◌, ℕ, zero, suc, ◌+◌, ◌<◌, List, [], ◌∷◌, ◌++◌, length, map, take, drop, get_or, slice_get, Option, Some, None, IsSome, option_map, refl, sym, ap, ◌∙◌, subst, arith}
+use Rattle.fabric_trace.specs.Known.{Seen, link_at}
+use Rattle.link_law.specs.Resting.{has_no_work}
+use Rattle.std.proofs.Common.{◌≡◌, ℕ, zero, suc, ◌+◌, ◌<◌, true, List, [], ◌∷◌, ◌++◌, length, map, take, drop, get_or, slice_get, Option, Some, None, IsSome, option_map, refl, sym, ap, ◌∙◌, subst, arith}
 use Rattle.std.proofs.lemmas.List.{length-map, take-append-drop, take_more, drop_more}
 use Rattle.std.proofs.lemmas.Option.{slice_get-map, slice_get-get_or}
 use Rattle.rio_chars.specs.declared.outbox.Outbox.{Outbox}
@@ -35,7 +36,8 @@ use Rattle.fabric_ports.specs.declared.fabric.Fabric.{Fabric}
 use Rattle.fabric_ports.proofs.Cables.{seen_links}
 use Rattle.fabric_ports.proofs.EndLaws.{links_stand}
 use Rattle.fabric_ports.proofs.EventLaws.{switch_of}
-use Rattle.fabric_ports.proofs.RanLaws.{Both, both_as, both_nothing, nothing_both, both_assoc, GoesOn, IsMade, ran_both, ran_as, ends_as, ends_first, ends_second}
+use Rattle.fabric_ports.proofs.IdleLinks.{idle_block}
+use Rattle.fabric_ports.proofs.RanLaws.{Both, Nothing, ran_nothing, both_as, both_nothing, nothing_both, both_assoc, GoesOn, IsMade, ran_both, ran_as, ends_as, ends_first, ends_second}
 
 -- ---- what stays of a fabric
 
@@ -125,7 +127,8 @@ cable_link (c ∷ cables) (suc k) cable at within =
 pub record IsNext (from : Seen) (k : ℕ) (link : PortRef × PortRef) : Type 0 where
   pub found : link_in from.network.links link.0 ≡ Some link
   pub more : take (k + 1) from.network.links ≡ take k from.network.links ++ link ∷ []
-  pub whole : take k from.network.links ++ link ∷ drop (k + 1) from.network.links ≡ from.network.links
+  pub whole : take k from.network.links ++ link ∷ drop (k + 1) from.network.links
+      ≡ from.network.links
 
 -- the ends of the link at a place
 pub ends_at : (cables : List Cable) (k : ℕ) (cable : Cable) → k < length cables
@@ -148,11 +151,14 @@ next_link {from} {lines} {fabric} k cable stands at within =
     ∙ length-map fabric.cables.items ends_of in
     let inside : k < length from.network.links = omega (arith, many, within) in
     record {
-      found = found_at from.network.links from.network.links k link (all_found from.network.links stands.ready.proper) here
+      found = found_at from.network.links from.network.links k link
+          (all_found from.network.links stands.ready.proper) here
           inside;
       more = take_more from.network.links k link inside
           ∙ ap (λ (l : PortRef × PortRef). take k from.network.links ++ l ∷ []) (sym here);
-      whole = ap (λ (l : PortRef × PortRef). take k from.network.links ++ l ∷ drop (k + 1) from.network.links) here
+      whole = ap
+          (λ (l : PortRef × PortRef). take k from.network.links ++ l
+          ∷ drop (k + 1) from.network.links) here
           ∙ ap (λ (l : List (PortRef × PortRef)). take k from.network.links ++ l)
           (sym (drop_more from.network.links k link inside))
           ∙ take-append-drop k from.network.links;
@@ -169,6 +175,13 @@ is_linked {from} {lines} {fabric} k link stands next =
       stands = stands;
       linked = subst (λ (o : Option PortRef). IsSome o) (sym peers.there) refl;
     }
+
+-- a cable stands at a place of its list
+pub cable_there : (cables : List Cable) (k : ℕ) → k < length cables
+    → (cable : Cable) × (cable ≡ get_or cables k cable)
+cable_there [] k within = absurd (omega (arith, within))
+cable_there (c ∷ cables) zero within = (c, refl)
+cable_there (c ∷ cables) (suc k) within = cable_there cables k (omega (arith, within))
 
 -- ---- the lines of a link that settles
 
@@ -202,7 +215,8 @@ settles_made from link ready found lines block made sent own =
 
 module _ {K : Type 0} (written : K → Option (List ℕ)) (faults : K → ℕ) (names : List (List ℕ)) where
   pub settle_ran : (a b : Outbox K) (from : Seen) (lines : List TraceLine) (old new : Fabric)
-      (link : PortRef × PortRef) → Stands from lines old → link_in from.network.links link.0 ≡ Some link
+      (link : PortRef × PortRef) → Stands from lines old → link_in from.network.links link.0
+      ≡ Some link
       → Blocked (Settle link.0) names written faults a b from lines new
       → Ran (Settles link) names written faults a b from lines new
   settle_ran a b from lines old new link stands found blocked =
@@ -229,7 +243,8 @@ module _ {K : Type 0} (written : K → Option (List ℕ)) (faults : K → ℕ) (
     block = ends.block;
     prints = ends.prints;
     is = settle_is from lines ends.block link found ends.is;
-    found = sym (ap (λ (t : Seen). t.unfaithful) (unbegun from lines ends.block link.0)) ∙ ends.found;
+    found = sym (ap (λ (t : Seen). t.unfaithful) (unbegun from lines ends.block link.0))
+        ∙ ends.found;
   }
   settle_ends a b from lines link NoMemory found ends = record {
     block = ends.block;
@@ -241,17 +256,18 @@ module _ {K : Type 0} (written : K → Option (List ℕ)) (faults : K → ℕ) (
   }
 
   -- one link more has settled
-  pub settled_more : (a b c : Outbox K) (from : Seen) (lines : List TraceLine)
+  settled_next : (a b c : Outbox K) (from : Seen) (lines : List TraceLine)
       (old mid new : Fabric) (k : ℕ) (link : PortRef × PortRef) → Stands from lines old
       → IsNext from k link
-      → (first : Ran (SettleAll IsSettle (take k from.network.links)) names written faults a b from lines mid)
-      → Blocked (Settle link.0) names written faults b c from (lines ++ first.block) new
-      → Ran (SettleAll IsSettle (take (k + 1) from.network.links)) names written faults a c from lines new
-  settled_more a b c from lines old mid new k link stands next first blocked =
+      → (first : Ran (SettleAll IsSettle (take k from.network.links)) names written faults a b from
+      lines mid)
+      → Ran (Settles link) names written faults b c from (lines ++ first.block) new
+      → Ran (SettleAll IsSettle (take (k + 1) from.network.links)) names written faults a c from
+      lines new
+  settled_next a b c from lines old mid new k link stands next first ran =
       let one = ran_as written faults names (Settles link) (SettleAll IsSettle (link ∷ [])) b c from
       (lines ++ first.block) new
-      (λ block own. settle_one link (seen from (lines ++ first.block)) block own)
-      (settle_ran b c from (lines ++ first.block) mid new link first.stands next.found blocked) in
+      (λ block own. settle_one link (seen from (lines ++ first.block)) block own) ran in
       ran_as written faults names
       (Both (SettleAll IsSettle (take k from.network.links)) (SettleAll IsSettle (link ∷ [])))
       (SettleAll IsSettle (take (k + 1) from.network.links)) a c from lines new
@@ -262,11 +278,39 @@ module _ {K : Type 0} (written : K → Option (List ℕ)) (faults : K → ℕ) (
       (ran_both written faults names (SettleAll IsSettle (take k from.network.links))
       (SettleAll IsSettle (link ∷ [])) a b c from lines mid new first one)
 
+  pub settled_more : (a b c : Outbox K) (from : Seen) (lines : List TraceLine)
+      (old mid new : Fabric) (k : ℕ) (link : PortRef × PortRef) → Stands from lines old
+      → IsNext from k link
+      → (first : Ran (SettleAll IsSettle (take k from.network.links)) names written faults a b from
+      lines mid)
+      → Blocked (Settle link.0) names written faults b c from (lines ++ first.block) new
+      → Ran (SettleAll IsSettle (take (k + 1) from.network.links)) names written faults a c from
+      lines new
+  settled_more a b c from lines old mid new k link stands next first blocked =
+      settled_next a b c from lines old mid new k link stands next first
+      (settle_ran b c from (lines ++ first.block) mid new link first.stands next.found blocked)
+
+  -- one that has nothing to do settles by nothing
+  pub settled_idle : (a b : Outbox K) (from : Seen) (lines : List TraceLine) (old mid : Fabric)
+      (k : ℕ) (link : PortRef × PortRef) → Stands from lines old → IsNext from k link
+      → (first : Ran (SettleAll IsSettle (take k from.network.links)) names written faults a b from
+      lines mid)
+      → has_no_work (link_at (seen from (lines ++ first.block)) link.0 link.1) ≡ true
+      → Ran (SettleAll IsSettle (take (k + 1) from.network.links)) names written faults a b from
+      lines mid
+  settled_idle a b from lines old mid k link stands next first idle =
+      let s = seen from (lines ++ first.block) in
+      settled_next a b b from lines old mid mid k link stands next first
+      (ran_as written faults names Nothing (Settles link) b b from (lines ++ first.block) mid
+      (λ block none. subst (Settles link s) (sym none) (idle_block s link.0 link.1 idle))
+      (ran_nothing written faults names b from (lines ++ first.block) mid first.stands))
+
   -- a link did not come to its end
   pub settled_short : (a b c : Outbox K) (from : Seen) (lines : List TraceLine)
       (old mid : Fabric) (k : ℕ) (link : PortRef × PortRef) (end : EventEnd)
       → Stands from lines old → IsNext from k link
-      → (first : Ran (SettleAll IsSettle (take k from.network.links)) names written faults a b from lines mid)
+      → (first : Ran (SettleAll IsSettle (take k from.network.links)) names written faults a b from
+      lines mid)
       → BlockEnds (Settle link.0) names written faults b c from (lines ++ first.block) end
       → RanEnds LinksSettle names written faults a c from lines end
   settled_short a b c from lines old mid k link end stands next first ends =
@@ -274,7 +318,8 @@ module _ {K : Type 0} (written : K → Option (List ℕ)) (faults : K → ℕ) (
       let on : GoesOn from (SettleAll IsSettle rest) =
       λ more made sent. (let own = settles_from rest from.network.links (seen from more)
       (good_behind stands.ready made) sent (seen_links from more)
-      (found_drop from.network.links from.network.links (k + 1) (all_found from.network.links stands.ready.proper)) in
+      (found_drop from.network.links from.network.links (k + 1)
+      (all_found from.network.links stands.ready.proper)) in
       (own.lines, own.is)) in
       let own = ends_first written faults names (Settles link) (SettleAll IsSettle rest) b c from
       (lines ++ first.block) mid end (settles_made from link stands.ready next.found) on

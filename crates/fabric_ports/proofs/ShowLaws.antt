@@ -7,6 +7,7 @@ use Rattle.fabric_model.proofs.Peers.{port_is}
 use Rattle.maint_registers.specs.Devices.{Device}
 use Rattle.fabric_trace.specs.Known.{Seen, port_at}
 use Rattle.fabric_ports.specs.Places.{AreFirsts, port_count, IsPortOf, place_of}
+use Rattle.fabric_ports.specs.Showing.{LeadToLinks}
 use Rattle.fabric_ports.proofs.PlaceLaws.{place_within, places_apart}
 
 -- ---- lists
@@ -24,6 +25,16 @@ get_other (y ∷ ys) zero zero x apart = absurd (apart refl)
 get_other (y ∷ ys) zero (suc j) x apart = refl
 get_other (y ∷ ys) (suc i) zero x apart = refl
 get_other (y ∷ ys) (suc i) (suc j) x apart = get_other ys i j x (λ same. apart (ap suc same))
+
+-- ---- links
+
+pub lead_same : (links links2 : List (PortRef × PortRef)) (firsts firsts2 numbers numbers2 : List ℕ)
+    → links2 ≡ links → firsts2 ≡ firsts → numbers2 ≡ numbers → LeadToLinks links firsts numbers
+    → LeadToLinks links2 firsts2 numbers2
+lead_same links links2 firsts firsts2 numbers numbers2 l f n lead =
+    subst (λ (x : List (PortRef × PortRef)). LeadToLinks x firsts2 numbers2) (sym l)
+    (subst (λ (x : List ℕ). LeadToLinks links x numbers2) (sym f)
+    (subst (λ (x : List ℕ). LeadToLinks links firsts x) (sym n) lead))
 
 -- ---- ports
 

@@ -232,6 +232,7 @@ pub record HasStepped (old new : Fabric) (node first : ℕ) (device next : Devic
   pub devices : new.devices.items ≡ slice_set old.devices.items node next
   pub firsts : new.firsts.items ≡ old.firsts.items
   pub cables : new.cables.items ≡ old.cables.items
+  pub cable_at : new.cable_at.items ≡ old.cable_at.items
 
 module _ (s : Seen) (old new : Fabric) (node first : ℕ) (device next : Device) (step : switch.Step)
     (shows : ShowsFabric old s) (by : ByPriority s.network) (switches : is_switch device ≡ true)
@@ -311,6 +312,7 @@ module _ (s : Seen) (old new : Fabric) (node first : ℕ) (device next : Device)
         count = ap (λ l. length l) has.made.ports
             ∙ length-replaced old.ports.items has.made.own first device.ports within many;
         cables = has.cables;
+        cable_at = has.cable_at;
       })
       (rw all ports) refl (links_stay s.network node step)
       (step_registers s.network node device step known

@@ -40,8 +40,10 @@ pub record CanAsk (host : ℕ) (from : Seen) (lines : List TraceLine) (fabric : 
 abbrev pub Returns : Network → ℕ → Request → PortRef → Type 0
 Returns net host request at = IsRoundTrip net.registers net.links host request at
 
--- The lines of an ask were written. By the tables the request goes to the device of a port, and this
--- is the response of that device as it comes back. The fabric stands for the lines with those of the
+-- The lines of an ask were written. By the tables the request goes to the device of a port, and
+-- this
+-- is the response of that device as it comes back. The fabric stands for the lines with those of
+-- the
 -- ask, and the host may ask again. The host's own registers answered nothing.
 pub record Replied (names : List (List ℕ)) (written written_after : Option (List ℕ)) (host : ℕ)
     (request : Request) (noise : List Edit) (from : Seen) (lines : List TraceLine)

@@ -1,8 +1,9 @@
 -- Which link of a fabric a port has.
-use Rattle.std.specs.Prelude.{◌≡◌, ◌≢◌, ◌<◌, ℕ, List, length, Some, map, slice_get}
+use Rattle.std.specs.Prelude.{◌≡◌, ◌≢◌, ◌<◌, ℕ, List, length, Some, map, slice_get, if◌then◌else◌}
 use Rattle.link_watch.specs.declared.side.Side.{Side}
+use Rattle.link_watch.specs.declared.side.Side.TheVariants.{A, B}
 use Rattle.fabric_script.specs.declared.ports.PortRef.{PortRef}
-use Rattle.fabric_model.specs.Network.{link_in}
+use Rattle.fabric_model.specs.Network.{same_port, link_in}
 use Rattle.fabric_trace.specs.Blocks.{port_at_side}
 use Rattle.fabric_trace.specs.Events.{HasLink}
 use Rattle.fabric_trace.specs.Known.{Seen}
@@ -20,6 +21,10 @@ pub record IsLinked (fabric : Fabric) (port : PortRef) : Type 0 where
   pub lines : List TraceLine
   pub stands : Stands from lines fabric
   pub linked : HasLink from.network port
+
+-- which end of its link a port is, whose first end is this one
+abbrev pub side_in : PortRef → PortRef → Side
+side_in a port = if same_port a port then A else B
 
 -- the link of a port stands at this place, and the port is this end of it
 pub record IsEndOf (cables : List Cable) (port : PortRef) (place : ℕ) (side : Side) : Type 0 where

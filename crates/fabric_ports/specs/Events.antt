@@ -1,5 +1,5 @@
 -- What an event of a script needs of a fabric, and what it did.
-use Rattle.std.specs.Prelude.{◌≡◌, ◌≢◌, ◌≤◌, ℕ, Bool, true, false, List, [], ◌∷◌, ◌++◌, length, Option, Some, None, Result, Ok, Err}
+use Rattle.std.specs.Prelude.{◌≡◌, ◌≢◌, ◌≤◌, ℕ, Bool, true, false, List, [], ◌∷◌, ◌++◌, length, Option, Some, None}
 use Rattle.rio_chars.specs.Written.{Writes}
 use Rattle.rio_chars.specs.declared.outbox.Outbox.{Outbox}
 use Rattle.rio_packets.specs.Fields.{body_of}
@@ -126,11 +126,6 @@ happened (Read16 node prio dest hop tid offset) block = taken block
 happened (Write16 node prio dest hop tid offset value) block = taken block
 happened (Collect node) block = collected block
 happened _ block = Other
-
--- by what was done at a link
-abbrev pub other_of : Result (Unit {0}) EventEnd → Result Happened EventEnd
-other_of (Ok done) = Ok Other
-other_of (Err end) = Err end
 
 -- A call wrote lines which are such, and the fabric shows what is known after them. `s` is what was
 -- known before.

@@ -43,7 +43,8 @@ RoundsLeave host rounds noise left s lines =
     AskRounds host rounds noise s lines × Leaves host left lines
 
 abbrev pub AskLeaves : ℕ → Request → List Edit → Option (List ℕ) → Kind
-AskLeaves host request noise left s lines = IsAsk host request noise s lines × Leaves host left lines
+AskLeaves host request noise left s lines = IsAsk host request noise s lines
+    × Leaves host left lines
 
 -- ---- what is answered
 

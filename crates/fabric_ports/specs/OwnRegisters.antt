@@ -26,7 +26,8 @@ device_with device offset value = unwrap_or (written_at device offset value) dev
 abbrev pub seen_with : ℕ → Device → ℕ → ℕ → Seen → Seen
 seen_with node device offset value s = with_own node (device_with device offset value) s
 
--- An endpoint wrote one of its registers, if a register stands there that can be written. The fabric
+-- An endpoint wrote one of its registers, if a register stands there that can be written. The
+-- fabric
 -- stands from what was known, with these registers, and a host may ask if it might before.
 pub record OwnWritten (node : ℕ) (device : Device) (offset value : ℕ) (from : Seen)
     (lines : List TraceLine) (old new : Fabric) (answer : Bool) : Type 0 where

@@ -26,8 +26,15 @@ pub record ShowsCable (devices : List Device) (s : Seen) (cable : Cable) : Type 
 abbrev pub AreRegisters : Network → List Device → Type 0
 AreRegisters net devices = net.registers ≡ devices
 
+-- At the place of each end of a link stands the number of that link.
+abbrev pub LeadToLinks : List (PortRef × PortRef) → List ℕ → List ℕ → Type 0
+LeadToLinks links firsts numbers = (k : ℕ) (link : PortRef × PortRef)
+    → slice_get links k ≡ Some link
+    → (slice_get numbers (place_of firsts link.0) ≡ Some k)
+    × (slice_get numbers (place_of firsts link.1) ≡ Some k)
+
 -- Each port of the fabric is what the step tables see there; its links, wires and registers are
--- those that are known.
+-- those that are known. The numbers that it keeps lead from the ports to their links.
 pub record ShowsFabric (fabric : Fabric) (s : Seen) : Type 0 where
   pub firsts : AreFirsts 0 fabric.devices.items fabric.firsts.items
   pub count : length fabric.ports.items ≡ port_count fabric.devices.items
@@ -35,5 +42,6 @@ pub record ShowsFabric (fabric : Fabric) (s : Seen) : Type 0 where
       → slice_get fabric.ports.items (place_of fabric.firsts.items p) ≡ Some (port_at s p)
   pub cables : All (ShowsCable fabric.devices.items s) fabric.cables.items
   pub links : map ends_of fabric.cables.items ≡ s.network.links
+  pub lead : LeadToLinks s.network.links fabric.firsts.items fabric.cable_at.items
   pub registers : AreRegisters s.network fabric.devices.items
   pub endpoints : (n : ℕ) → IsEndpoint s.network n → IsEndpointAt fabric.devices.items n

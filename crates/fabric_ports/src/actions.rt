@@ -6,7 +6,6 @@ ghost use Rattle.fabric_trace.specs.Blocks.{port_at_side};
 ghost use Rattle.fabric_trace.specs.Known.{Seen};
 ghost use Rattle.fabric_trace.specs.Lines.{TraceLine};
 ghost use Rattle.fabric_trace.specs.Text.{trace_text};
-ghost use Rattle.link_law.specs.Does.{end_of};
 ghost use Rattle.link_machine.specs.Sound.{IsSoundLink};
 ghost use Rattle.link_machine.specs.States.{link};
 ghost use Rattle.link_port.specs.Ports.{PortState};
@@ -21,7 +20,7 @@ use crate::fabric::Fabric;
 use fabric_script::{Name, PortRef};
 use link_law::{Fired, Link, LinkEnd};
 use link_port::Port;
-use link_watch::{NoteEnd, Side, Watch};
+use link_watch::{Side, Watch};
 use link_wires::Edited;
 use rio_chars::{Outbox, Sink};
 use std::alloc::Global;
@@ -138,34 +137,22 @@ fn act_at<W: Watch>(
         ≡ answer_of side action (link wires.old a.old b.old)) }
 {
     match action {
-        Action::Pump(turns) => match wires.pump(alloc, side, turns, a, b, watch) {
-            Ok(()) => Ok(Acted::Done),
-            Err(end) => Err(given_up(end)),
+        Action::Pump(turns) => {
+            wires.pump(alloc, side, turns, a, b, watch)?;
+            Ok(Acted::Done)
+        }
+        Action::Deliver(count) => match wires.deliver(alloc, side, count, a, b, watch)? {
+            Edited::Done => Ok(Acted::Done),
+            Edited::Short => Ok(Acted::Short),
         },
-        Action::Deliver(count) => match wires.deliver(alloc, side, count, a, b, watch) {
-            Ok(Edited::Done) => Ok(Acted::Done),
-            Ok(Edited::Short) => Ok(Acted::Short),
-            Err(end) => Err(end),
+        Action::TimeOut => match wires.time_out(alloc, side, a, b, watch)? {
+            Fired::Done => Ok(Acted::Done),
+            Fired::Early => Ok(Acted::Early),
         },
-        Action::TimeOut => match wires.time_out(alloc, side, a, b, watch) {
-            Ok(Fired::Done) => Ok(Acted::Done),
-            Ok(Fired::Early) => Ok(Acted::Early),
-            Err(end) => Err(given_up(end)),
-        },
-        Action::Settle => match wires.settle(alloc, a, b, watch) {
-            Ok(()) => Ok(Acted::Done),
-            Err(end) => Err(end),
-        },
-    }
-}
-
-/// Why a call ended, if a note was not taken in.
-fn given_up(end: NoteEnd) -> LinkEnd
-    ensures { result ≡ end_of end }
-{
-    match end {
-        NoteEnd::Failed => LinkEnd::Failed,
-        NoteEnd::NoMemory => LinkEnd::NoMemory,
+        Action::Settle => {
+            wires.settle(alloc, a, b, watch)?;
+            Ok(Acted::Done)
+        }
     }
 }
 

@@ -1,6 +1,6 @@
 //! What an event answers.
 use fabric_script::PortRef;
-use link_model::Event;
+use link_wires::Unsent;
 use rio_packets::Packet;
 
 /// What an event did.
@@ -25,7 +25,7 @@ pub enum Happened {
 #[derive(Debug, Drop)]
 pub enum EventEnd {
     /// The port acted on an event that was not sent: a corruption that no check has found.
-    Undetected { port: PortRef, event: Event },
+    Undetected { port: PortRef, event: Unsent },
     /// Memory was wanted and not given.
     NoMemory,
 }

@@ -237,7 +237,10 @@ fn answer(told: Result<Option<Packet>, EventEnd>) -> Result<Response, AskEnd>
 {
     match told {
         Ok(left) => response_in(left).ok_or(AskEnd::Unanswered),
-        Err(EventEnd::Undetected { port, event }) => Err(AskEnd::Undetected { port, event }),
+        Err(EventEnd::Undetected { port, event }) => {
+            let event = event.event().copy();
+            Err(AskEnd::Undetected { port, event })
+        }
         Err(EventEnd::NoMemory) => Err(AskEnd::NoMemory),
     }
 }

@@ -1,9 +1,8 @@
 //! Where a port's link stands, and the two ports that it joins.
-ghost use Rattle.std.specs.Prelude.{◌≡◌, ◌≢◌, ◌<◌, length, slice_get, slice_set, map, Some, None, MatchOption};
+ghost use Rattle.std.specs.Prelude.{◌≡◌, ◌≢◌, ◌<◌, length, slice_get, slice_set, map, Some};
 ghost use Rattle.std.specs.Borrow.{sem, LendsBoth, Array};
 ghost use Rattle.link_port.specs.contracts.port.Port.{the_row};
-ghost use Rattle.fabric_model.specs.Network.{link_in};
-ghost use Rattle.fabric_ports.specs.Ends.{IsLinked, IsEndOf, IsPlaceOf};
+ghost use Rattle.fabric_ports.specs.Ends.{IsLinked, IsPlaceOf, side_in};
 ghost use Rattle.fabric_ports.specs.Showing.{ends_of, ShowsFabric};
 ghost use Rattle.fabric_script.specs.declared.ports.PortRef.{PortRef};
 ghost use Rattle.fabric_trace.specs.Known.{Seen, link_at};
@@ -29,13 +28,11 @@ impl Fabric {
         requires { IsLinked self.now port }
         ensures { IsPlaceOf self.now port result }
     {
-        let Some((place, side)) = end_of(&self.cables, port) else {
-            unreachable!();
-        };
-        let cable = &self.cables[place];
+        let number = self.cable_at[self.place(port)];
+        let cable = &self.cables[number];
         LinkPlace {
-            cable: place,
-            side,
+            cable: number,
+            side: side_of(cable, port),
             a: self.place(cable.a),
             b: self.place(cable.b),
         }
@@ -56,20 +53,11 @@ impl Fabric {
     }
 }
 
-/// Finds the first link that has a port, and which end of it the port is.
-fn end_of(cables: &[Cable], port: PortRef) -> Option<(usize, Side)>
-    ensures { MatchOption result (link_in (map ends_of cables.now) port ≡ None)
-        (λ end. IsEndOf cables.now port end.0 end.1) }
+/// Which end of its link a port is.
+fn side_of(cable: &Cable, port: PortRef) -> Side
+    ensures { result ≡ side_in cable.now.a port }
 {
-    for (place, cable) in cables.iter().enumerate() {
-        if cable.a == port {
-            return Some((place, Side::A));
-        }
-        if cable.b == port {
-            return Some((place, Side::B));
-        }
-    }
-    None
+    if cable.a == port { Side::A } else { Side::B }
 }
 
 /// Two ports, by where they stand.

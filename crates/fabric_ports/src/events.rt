@@ -6,7 +6,7 @@ ghost use Rattle.fabric_model.specs.Network.{Network, sender_id};
 ghost use Rattle.fabric_trace.specs.Events.{IsInRange, IsDataLength};
 ghost use Rattle.fabric_trace.specs.Known.{Seen};
 ghost use Rattle.fabric_trace.specs.Lines.{TraceLine};
-ghost use Rattle.fabric_ports.specs.Events.{MayFollow, Evented, EventEnds, taker, IsAsk, IsLargeAsk, body_in, other_of};
+ghost use Rattle.fabric_ports.specs.Events.{MayFollow, Evented, EventEnds, taker, IsAsk, IsLargeAsk, body_in};
 ghost use Rattle.fabric_ports.specs.Standing.{Stands};
 
 use crate::answers::{EventEnd, Happened};
@@ -54,9 +54,15 @@ impl Fabric {
                 Ok(Happened::Other)
             }
             Line::Collect { node } => Ok(self.collect(names, *node, outbox)),
-            Line::Run { n } => other(self.run(alloc, names, *n, outbox)),
+            Line::Run { n } => {
+                self.run(alloc, names, *n, outbox)?;
+                Ok(Happened::Other)
+            }
             // Any other event is one at a link.
-            _ => other(self.at_link(alloc, names, line, outbox)),
+            _ => {
+                self.at_link(alloc, names, line, outbox)?;
+                Ok(Happened::Other)
+            }
         }
     }
 }
@@ -224,15 +230,5 @@ fn large_asked(line: &Line, device: &Registers) -> Packet
             offset: *offset,
         }),
         _ => unreachable!(),
-    }
-}
-
-/// What an event answers that takes no packet in or out.
-fn other(acted: Result<(), EventEnd>) -> Result<Happened, EventEnd>
-    ensures { result ≡ other_of acted }
-{
-    match acted {
-        Ok(()) => Ok(Happened::Other),
-        Err(end) => Err(end),
     }
 }

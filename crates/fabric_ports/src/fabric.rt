@@ -28,6 +28,9 @@ pub struct Fabric {
     pub(crate) firsts: Vec<usize>,
     pub(crate) ports: Vec<Port>,
     pub(crate) cables: Vec<Cable>,
+    /// The number of each port's cable, by the place of the port. A port without one has a 0 there,
+    /// which is never read.
+    pub(crate) cable_at: Vec<usize>,
 }
 
 impl Fabric {

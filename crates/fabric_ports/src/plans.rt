@@ -1,14 +1,16 @@
 //! What lines of set-up make: first the devices and the links, and then the ports.
-ghost use Rattle.std.specs.Prelude.{◌≡◌, ℕ, ◌<◌, true, false, None, [], ◌∷◌, ◌++◌, All, map, length, replicate, IfOk};
+ghost use Rattle.std.specs.Prelude.{◌≡◌, ◌≤◌, ℕ, ◌<◌, true, false, None, [], ◌∷◌, ◌++◌, All, map, length, replicate, IfOk};
 ghost use Rattle.link_machine.specs.States.{empty_wires};
-ghost use Rattle.maint_registers.specs.Devices.{with_link};
+ghost use Rattle.maint_registers.specs.Devices.{new_endpoint, new_switch, with_link};
+ghost use Rattle.fabric_model.specs.Laws.Proper.{AreProper};
 ghost use Rattle.fabric_model.specs.Network.{Network};
 ghost use Rattle.fabric_script.specs.Scripts.{Passes};
 ghost use Rattle.fabric_trace.specs.Events.{ArePorts, counts_after};
 ghost use Rattle.fabric_trace.specs.Runs.{bare, set_up, set_up_all, begins};
 ghost use Rattle.fabric_trace.specs.SetUps.{MaySetUp};
 ghost use Rattle.fabric_ports.specs.Places.{IsPortOf, place_of};
-ghost use Rattle.fabric_ports.specs.Plans.{IsPlan, PlansFor, MayAdd, HasBuffers, plain_port, planned_port, with_port, counts_of, with_end_at, is_new};
+ghost use Rattle.fabric_ports.specs.Plans.{IsPlan, IsNewCable, PlansFor, MayAdd, HasBuffers, plain_port, planned_port, with_port, counts_of, with_end_at, is_new};
+ghost use Rattle.fabric_ports.specs.Showing.{ends_of, LeadToLinks};
 ghost use Rattle.fabric_ports.specs.Standing.{Stands};
 
 use crate::fabric::{Cable, Fabric};
@@ -41,11 +43,13 @@ impl Fabric {
             plan.add(alloc, &numbered.line)?;
         }
         let ports = make_ports(alloc, &plan.ports)?;
+        let cable_at = plan.number_cables(alloc)?;
         Ok(Fabric {
             devices: plan.devices,
             firsts: plan.firsts,
             ports,
             cables: plan.cables,
+            cable_at,
         })
     }
 }
@@ -90,14 +94,42 @@ impl Plan {
             ≡ counts_after (counts_of self.old.devices.items) line.now) }
     {
         match line {
-            Line::Endpoint { id, .. } => self.add_device(Registers::endpoint(*id, false)),
-            Line::Switch { ports, .. } => self.add_device(Registers::switch(*ports, 0)),
+            Line::Endpoint { id, .. } => self.add_endpoint(*id),
+            Line::Switch { ports, .. } => self.add_switch(*ports),
             Line::Link { a, b } => self.add_cable(alloc, *a, *b),
             _ => {
                 self.set(line);
                 Ok(())
             }
         }
+    }
+
+    /// Adds an endpoint. Registers are large, so no other line has room made for them.
+    fn add_endpoint(&mut self, id: u8) -> Result<(), AllocError>
+        ensures devices { IfOk result (λ _. self.new.devices.items
+            ≡ self.old.devices.items ++ new_endpoint id false ∷ []) }
+        ensures firsts { IfOk result (λ _. self.new.firsts.items
+            ≡ self.old.firsts.items ++ length self.old.ports.items ∷ []) }
+        ensures ports { IfOk result (λ _. self.new.ports.items
+            ≡ self.old.ports.items ++ replicate (new_endpoint id false).ports plain_port) }
+        ensures cables { self.new.cables ≡ self.old.cables }
+    {
+        self.add_device(Registers::endpoint(id, false))
+    }
+
+    /// Adds a switch of so many ports.
+    fn add_switch(&mut self, ports: u8) -> Result<(), AllocError>
+        requires least { 2 ≤ ports }
+        requires most { ports ≤ 16 }
+        ensures devices { IfOk result (λ _. self.new.devices.items
+            ≡ self.old.devices.items ++ new_switch ports 0 ∷ []) }
+        ensures firsts { IfOk result (λ _. self.new.firsts.items
+            ≡ self.old.firsts.items ++ length self.old.ports.items ∷ []) }
+        ensures ports { IfOk result (λ _. self.new.ports.items
+            ≡ self.old.ports.items ++ replicate (new_switch ports 0).ports plain_port) }
+        ensures cables { self.new.cables ≡ self.old.cables }
+    {
+        self.add_device(Registers::switch(ports, 0))
     }
 
     /// Adds a device and its ports.
@@ -189,6 +221,22 @@ impl Plan {
     {
         let place = self.place(port);
         self.ports[place].tells = true;
+    }
+
+    /// The number of each port's cable, by the place of the port.
+    fn number_cables(&self, alloc: Global) -> Result<Vec<usize>, AllocError>
+        requires plan { IsPlan self.now }
+        requires cables { All (IsNewCable self.now.devices.items) self.now.cables.items }
+        requires proper { AreProper (map ends_of self.now.cables.items) }
+        ensures { IfOk result (λ numbers. LeadToLinks (map ends_of self.now.cables.items)
+            self.now.firsts.items numbers.items) }
+    {
+        let mut numbers = vec![in alloc; 0; self.ports.len()]?;
+        for (number, cable) in self.cables.iter().enumerate() {
+            numbers[self.place(cable.a)] = number;
+            numbers[self.place(cable.b)] = number;
+        }
+        Ok(numbers)
     }
 
     /// The place of a port among all ports.

@@ -43,7 +43,7 @@ impl Fabric {
         Ok(())
     }
 
-    /// Every link settles, in the order of the links.
+    /// Every link settles, in the order of the links. One that has nothing to do is passed by.
     fn settle_all<K: Sink>(
         &mut self,
         alloc: Global,
@@ -60,6 +60,9 @@ impl Fabric {
             K.written K.faults outbox.old outbox.new from lines end) }
     {
         for place in 0..self.cables.len() {
+            if self.is_idle(place) {
+                continue;
+            }
             let port = self.cables[place].a;
             self.act(alloc, names, port, Action::Settle, outbox)?;
         }

@@ -1,23 +1,26 @@
 //! The step of a switch.
-ghost use Rattle.std.specs.Prelude.{◌≡◌, ◌<◌, ◌+◌, ◌≤◌, length, true, None, IsTrue};
-ghost use Rattle.rio_chars.specs.Written.{Writes};
-ghost use Rattle.maint_registers.specs.Devices.{is_switch};
+ghost use Rattle.std.specs.Prelude.{◌≡◌, ◌<◌, ◌+◌, ◌≤◌, length, true, None};
+ghost use Rattle.link_port.specs.Ports.{AreAlike as IsAlike};
+ghost use Rattle.maint_registers.specs.Devices.{IsSameDevice};
+ghost use Rattle.switch_core.specs.Faces.{AreAlike};
+ghost use Rattle.switch_core.specs.Goings.{Goes};
+ghost use Rattle.switch_core.specs.SwitchSteps.{step_of, faces_after, device_after};
 ghost use Rattle.fabric_model.specs.Laws.Priorities.{ByPriority};
 ghost use Rattle.fabric_trace.specs.Known.{Seen};
 ghost use Rattle.fabric_trace.specs.Served.{IsMove};
-ghost use Rattle.fabric_trace.specs.Text.{trace_text};
 ghost use Rattle.fabric_ports.specs.Events.{Did, IsStep};
 ghost use Rattle.fabric_ports.specs.Places.{IsSwitchAt};
 ghost use Rattle.fabric_ports.specs.Showing.{ShowsFabric};
-ghost use Rattle.fabric_ports.specs.Switching.{MadeStep, AreForms, is_step, written_lines};
+ghost use Rattle.fabric_ports.specs.Switching.{MadeStep, Wrote, faces_at, own_ports};
 
 use crate::fabric::Fabric;
 use crate::nodes::show_form;
 use fabric_script::{Name, PortRef};
 use link_port::Port;
+use maint_packets::Next;
 use maint_registers::Registers;
 use rio_chars::{Outbox, Sink};
-use switch_core::{Step, switch_step};
+use switch_core::{Going, first_going};
 use trace_lines::{write_answer, write_drop, write_move, write_none};
 
 impl Fabric {
@@ -48,58 +51,99 @@ impl Fabric {
     {
         let first = self.firsts[usize::from(node)];
         let registers = &mut self.devices[usize::from(node)];
-        let step = step_from(&mut self.ports, first, registers);
-        write_step(outbox, names, node, &step)
+        step_from(&mut self.ports, first, registers, names, node, outbox)
     }
 }
 
-/// The step of a switch whose ports stand in a list from this place on.
-fn step_from(ports: &mut [Port], first: usize, registers: &mut Registers) -> Step
-    requires switch { IsTrue (is_switch registers.old) }
+/// The step of a switch whose ports stand in a list from this place on, which is written. Returns
+/// whether there is one.
+fn step_from<K: Sink>(
+    ports: &mut [Port],
+    first: usize,
+    registers: &mut Registers,
+    names: &[Name],
+    node: u8,
+    outbox: &mut Outbox<K>,
+) -> bool
     requires within { first + registers.old.ports ≤ length ports.old }
-    ensures { MadeStep first registers.old registers.new ports.old ports.new result }
+    requires named { node < length names.now }
+    ensures made { MadeStep first registers.old registers.new ports.old ports.new
+        (step_of registers.old (faces_at (own_ports ports.old first registers.old.ports))) }
+    ensures wrote { Wrote names.now node
+        (step_of registers.old (faces_at (own_ports ports.old first registers.old.ports)))
+        K.written K.faults outbox.old outbox.new result }
 {
     let count = usize::from(registers.ports());
     let (_, rest) = ports.split_at_mut(first);
     let (own, _) = rest.split_at_mut(count);
-    switch_step(own, registers)
+    step_own(own, registers, names, node, outbox)
 }
 
-/// Writes a step, and returns whether there is one.
-fn write_step<K: Sink>(outbox: &mut Outbox<K>, names: &[Name], node: u8, step: &Step) -> bool
-    requires { node < length names.now }
-    ensures told { result ≡ is_step step.now }
-    ensures forms { AreForms step.now }
-    ensures prints { Writes K.written K.faults outbox.old outbox.new
-        (trace_text names.now (written_lines node step.now)) }
+/// The step of a switch with these ports, which is written. Returns whether there is one.
+fn step_own<K: Sink>(
+    own: &mut [Port],
+    registers: &mut Registers,
+    names: &[Name],
+    node: u8,
+    outbox: &mut Outbox<K>,
+) -> bool
+    requires ports { length own.old ≡ registers.old.ports }
+    requires named { node < length names.now }
+    ensures lists { faces_at own.new
+        ≡ faces_after (faces_at own.old) (step_of registers.old (faces_at own.old)) }
+    ensures registers { registers.new
+        ≡ device_after registers.old (step_of registers.old (faces_at own.old)) }
+    ensures same { IsSameDevice registers.old registers.new }
+    ensures alike { AreAlike IsAlike own.old own.new }
+    ensures wrote { Wrote names.now node (step_of registers.old (faces_at own.old))
+        K.written K.faults outbox.old outbox.new result }
 {
-    match step {
-        Step::Moved { from, to, packet } => {
-            show_form(packet);
-            write_move(
-                outbox,
-                names,
-                port_at(node, *from),
-                port_at(node, *to),
-                packet,
-            );
-        }
-        Step::Dropped { from, packet } => {
-            show_form(packet);
-            write_drop(outbox, names, port_at(node, *from), packet);
-        }
-        Step::Answered {
-            port,
-            request,
-            response,
-        } => {
-            show_form(request);
-            show_form(response);
-            write_answer(outbox, names, port_at(node, *port), request, response);
-        }
-        Step::Nothing => return false,
-    }
+    let Some(going) = first_going(own, registers) else {
+        return false;
+    };
+    make_step(own, registers, going, names, node, outbox);
     true
+}
+
+/// The step of the packet that goes. It is written of the packet as it stands at its port.
+fn make_step<K: Sink>(
+    own: &mut [Port],
+    registers: &mut Registers,
+    going: Going,
+    names: &[Name],
+    node: u8,
+    outbox: &mut Outbox<K>,
+)
+    requires named { node < length names.now }
+    requires goes { Goes registers.old (faces_at own.old) going }
+    ensures lists { faces_at own.new
+        ≡ faces_after (faces_at own.old) (step_of registers.old (faces_at own.old)) }
+    ensures registers { registers.new
+        ≡ device_after registers.old (step_of registers.old (faces_at own.old)) }
+    ensures same { IsSameDevice registers.old registers.new }
+    ensures alike { AreAlike IsAlike own.old own.new }
+    ensures wrote { Wrote names.now node (step_of registers.old (faces_at own.old))
+        K.written K.faults outbox.old outbox.new true }
+{
+    let from = port_at(node, going.port);
+    let packet = going.packet(own);
+    show_form(packet);
+    match going.next {
+        Next::Nowhere => {
+            write_drop(outbox, names, from, packet);
+            going.pass_on(own);
+        }
+        Next::Port(to) => {
+            write_move(outbox, names, from, port_at(node, to), packet);
+            going.pass_on(own);
+        }
+        Next::RegisterUnit => {
+            let request = packet.copy();
+            let response = going.answer(own, registers);
+            show_form(&response);
+            write_answer(outbox, names, from, &request, &response);
+        }
+    }
 }
 
 /// A port of a node.

@@ -21,7 +21,8 @@ pub record Going {K : Type 0} (written : K → Option (List ℕ)) (faults : K �
   pub blocks : BlocksFrom (start script) (take count script) lines
   pub stands : Stands (start script) lines fabric
 
--- A write failed in the last of the first so many events, and in none before. Their blocks were told,
+-- A write failed in the last of the first so many events, and in none before. Their blocks were
+-- told,
 -- and nothing of an event behind them.
 pub record ToldUntil {K : Type 0} (written : K → Option (List ℕ)) (faults : K → ℕ)
     (begun out : Outbox K) (names : List (List ℕ)) (script : List Numbered) : Type 0 where

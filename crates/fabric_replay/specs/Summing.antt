@@ -41,7 +41,8 @@ pub record Summed (script : List Numbered) (counts : Counts) : Type 0 where
 
 -- The script has one trace, which ends with this event: the port acted on it, in the event of this
 -- line of the script, and it was not sent.
-pub record SummedUnsent (script : List Numbered) (line : ℕ) (port : PortRef) (event : Event) : Type 0
+pub record SummedUnsent (script : List Numbered) (line : ℕ) (port : PortRef) (event : Event) : Type
+    0
   where
     pub lines : List TraceLine
     pub runs : Runs script lines

@@ -159,7 +159,8 @@ fn tell_end<K: Sink>(names: &[Name], line: u32, end: EventEnd, outbox: &mut Outb
 {
     match end {
         EventEnd::Undetected { port, event } => {
-            write_undetected(outbox, names, line, port, &event);
+            write_undetected(outbox, names, line, port, event.event());
+            let event = event.event().copy();
             ReplayEnd::Undetected { line, port, event }
         }
         EventEnd::NoMemory => ReplayEnd::NoMemory,

@@ -15,8 +15,8 @@ use Rattle.fabric_script.specs.declared.lines.Numbered.{Numbered}
 use Rattle.fabric_model.specs.Network.{Network, IsEndpoint}
 use Rattle.fabric_trace.specs.Known.{Seen}
 use Rattle.fabric_trace.specs.Lines.{TraceLine}
-use Rattle.fabric_trace.specs.Runs.{bare, set_up, set_up_all, start, BlocksFrom, BlockThen, NamesNothing}
-use Rattle.fabric_trace.proofs.SettingUp.{made_by, set_up-kinds}
+use Rattle.fabric_trace.specs.Runs.{bare, set_up_all, start, BlocksFrom, BlockThen, NamesNothing}
+use Rattle.fabric_trace.proofs.SettingUp.{made_by, set_up-kinds, set_up_all-append}
 use Rattle.fabric_ports.specs.Standing.{Stands}
 use Rattle.io_packets.specs.Forms.{IsGood}
 use Rattle.io_packets.specs.Writing.{type_of, behind_ids}
@@ -205,11 +205,6 @@ endpoint_is (d ∷ devices) (suc i) within is = endpoint_is devices i (omega (ar
 
 -- ---- whether each node is a switch
 
-set_up_joined : (net : Network) (lines more : List Numbered)
-    → set_up_all net (lines ++ more) ≡ set_up_all (set_up_all net lines) more
-set_up_joined net [] more = refl
-set_up_joined net (line ∷ lines) more = set_up_joined (set_up net line.line) lines more
-
 -- the kinds of the nodes of the first lines
 abbrev pub kinds_in : List Numbered → List Bool
 kinds_in lines = map is_switch (start lines).network.registers
@@ -222,7 +217,7 @@ kinds_more lines i item within is =
     ap kinds_in (take_more lines i item within)
     ∙ ap (λ x. kinds_in (take i lines ++ x ∷ [])) (sym is)
     ∙ ap (λ (n : Network). map is_switch n.registers)
-    (set_up_joined bare (take i lines) (item ∷ []))
+    (set_up_all-append bare (take i lines) (item ∷ []))
     ∙ set_up-kinds (set_up_all bare (take i lines)) item.line
 
 kinds_made : (line : Line) → map is_switch (made_by line) ≡ kinds_of line

@@ -1,11 +1,8 @@
 -- In events without edits nothing that was not sent is acted on.
-use Rattle.std.proofs.Common.{◌≡◌, ℕ, zero, suc, Bool, true, false, List, [], ◌∷◌, Option, Some, None, refl, sym, ap, ◌∙◌, subst, if◌then◌else◌}
+use Rattle.std.proofs.Common.{◌≡◌, ℕ, zero, suc, Bool, true, false, List, [], ◌∷◌, Some, None, refl, sym, ap, ◌∙◌, subst, if◌then◌else◌}
 use Rattle.link_machine.specs.States.{link}
 use Rattle.link_rest.specs.Calm.{IsCalm}
-use Rattle.link_rest.proofs.Calming.{calm_round, acts_calm, new_calm}
-use Rattle.link_model.specs.Places.{place_after, at_rest}
-use Rattle.link_model.specs.Said.{said}
-use Rattle.link_wires.specs.Kept.{IsSubsequence}
+use Rattle.link_rest.proofs.Calming.{acts_calm, new_calm}
 use Rattle.fabric_script.specs.declared.ports.PortRef.{PortRef}
 use Rattle.fabric_script.specs.declared.lines.Line.{Line}
 use Rattle.fabric_script.specs.declared.lines.Line.TheVariants.{Send, Run, Collect}
@@ -13,14 +10,12 @@ use Rattle.switch_core.specs.declared.endpoint.Collected.{Collected}
 use Rattle.switch_core.specs.declared.endpoint.Collected.TheVariants as Collects
 use Rattle.switch_core.specs.EndpointSteps.{collected}
 use Rattle.rio_packets.specs.Fields.{prio_of}
-use Rattle.fabric_model.specs.Network.{Network, same_port, port_of, peer_in, link_in, room_out}
+use Rattle.fabric_model.specs.Network.{Network, port_of, peer_in, link_in, room_out}
 use Rattle.fabric_model.specs.Steps.{Take, AtNode}
-use Rattle.fabric_model.specs.Laws.Proper.{AreProper}
-use Rattle.fabric_model.proofs.Peers.{ArePeers, port_is, link_peers, peer_back, same_port-refl}
+use Rattle.fabric_model.proofs.Peers.{ArePeers, link_peers}
 use Rattle.fabric_trace.specs.Blocks.{takes, IsSettle, IsBlock}
 use Rattle.fabric_trace.specs.Fold.{seen_line, seen}
-use Rattle.fabric_trace.specs.Known.{Wire, Seen, link_at, kept_of}
-use Rattle.fabric_trace.specs.Views.{Half}
+use Rattle.fabric_trace.specs.Known.{Seen, link_at}
 use Rattle.fabric_trace.specs.Lines.{Full, TraceLine, Begun, Stepped, Signed, Lacked, Ended, Undetected}
 use Rattle.fabric_trace.specs.Parts.{Made, Done}
 use Rattle.fabric_trace.specs.Rounds.{Follows, NamesNothing, SettleAll, ServeNodes, Round, Rounds}
@@ -29,10 +24,10 @@ use Rattle.fabric_trace.specs.Served.{face_in, collect_lines}
 use Rattle.fabric_trace.proofs.Boards.{seen_board}
 use Rattle.fabric_trace.proofs.Folding.{seen-append}
 use Rattle.fabric_trace.proofs.Keeping.{IsGood, made_keeps}
-use Rattle.fabric_trace.proofs.Making.{AreOthers, made-append, made_by}
+use Rattle.fabric_trace.proofs.Making.{made-append, made_by}
 use Rattle.fabric_trace.proofs.Rounds.{AreFound, all_found}
 use Rattle.fabric_trace.proofs.Running.{acts_reach}
-use Rattle.fabric_ask.proofs.Calming.{steps_still, serve_made}
+use Rattle.fabric_ask.proofs.Calming.{steps_still, serve_made, after_link}
 use Rattle.fabric_ask.proofs.Quieting.{OnlySteps, serve_steps}
 use Rattle.io_rounds.specs.Calm.{LinksAreCalm}
 use Rattle.io_rounds.specs.Course.{IsIoEvent}
@@ -71,68 +66,6 @@ calm_steps s lines only none calm =
 
 -- ---- a link settles
 
-some_is : {X : Type 0} (o : Option X) (x y : X) → o ≡ Some x → o ≡ Some y → x ≡ y
-some_is None x y first second = absurd cc
-some_is (Some z) x y first second = cc
-
--- what is known of two ports is the same
-like_calm : (s t : Seen) (a b : PortRef) → t.wires a ≡ s.wires a → t.halves a ≡ s.halves a
-    → t.wires b ≡ s.wires b → t.halves b ≡ s.halves b → IsCalm (link_at s a b)
-    → IsCalm (link_at t a b)
-like_calm s t a b wire_a half_a wire_b half_b calm = record {
-  to_b = record {
-    rests = (λ i. at_rest (place_after (half_b i).place (wire_a i).chars)) ∙ calm.to_b.rests;
-    found = subst (λ (x : Half × Wire). IsSubsequence (said x.0.place x.1.chars) (kept_of x.1))
-        (λ i. (sym half_b i, sym wire_a i)) calm.to_b.found;
-  };
-  to_a = record {
-    rests = (λ i. at_rest (place_after (half_a i).place (wire_b i).chars)) ∙ calm.to_a.rests;
-    found = subst (λ (x : Half × Wire). IsSubsequence (said x.0.place x.1.chars) (kept_of x.1))
-        (λ i. (sym half_a i, sym wire_b i)) calm.to_a.found;
-  };
-}
-
--- all links are calm if the one on which something was done is
-others_calm : (s t : Seen) (a b : PortRef) → AreProper s.network.links
-    → ArePeers s.network.links a b → AreOthers s t a b → IsCalm (link_at t a b)
-    → LinksAreCalm s → LinksAreCalm t
-others_calm s t a b proper peers others own all c d peer =
-    by_ends (same_port c a) (same_port c b) refl refl
-  where
-    there : peer_in s.network.links c ≡ Some d
-    there = ap (λ l. peer_in l c) (sym others.links) ∙ peer
-
-    back : peer_in s.network.links d ≡ Some c
-    back = peer_back s.network.links d c proper there
-
-    apart : (e f : PortRef) → peer_in s.network.links e ≡ Some f → same_port c f ≡ false
-        → same_port d e ≡ false
-    apart e f is other = elim (same_port d e) as (λ x. same_port d e ≡ x → x ≡ false) [
-      | true ↦ λ (same : same_port d e ≡ true).
-          let one : c ≡ f = some_is (peer_in s.network.links d) c f back
-          (ap (peer_in s.network.links) (port_is d e same) ∙ is) in
-          absurd (cc (same_port-refl f, subst (λ x. same_port x f ≡ false) one other))
-      | false ↦ λ (away : same_port d e ≡ false). refl
-    ] refl
-
-    by_ends : (x y : Bool) → same_port c a ≡ x → same_port c b ≡ y → IsCalm (link_at t c d)
-    by_ends true y first second =
-        let one = port_is c a first in
-        let two : d ≡ b = some_is (peer_in s.network.links c) d b there
-        (ap (peer_in s.network.links) one ∙ peers.there) in
-        subst (λ x. IsCalm (link_at t x d)) (sym one)
-        (subst (λ x. IsCalm (link_at t a x)) (sym two) own)
-    by_ends false true first second =
-        let one = port_is c b second in
-        let two : d ≡ a = some_is (peer_in s.network.links c) d a there
-        (ap (peer_in s.network.links) one ∙ peers.back) in
-        subst (λ x. IsCalm (link_at t x d)) (sym one)
-        (subst (λ x. IsCalm (link_at t b x)) (sym two) (calm_round own))
-    by_ends false false first second =
-        let at_c = others.untouched c first second in
-        let at_d = others.untouched d (apart a b peers.there second) (apart b a peers.back first) in
-        like_calm s t c d at_c.wire at_c.half at_d.wire at_d.half (all c d there)
-
 -- lines that were made, behind which nothing was found and all links are calm
 record SettlesCalm (s : Seen) (lines : List TraceLine) : Type 0 where
   made : Made s lines
@@ -152,7 +85,7 @@ settle_calm s a b block good none peers calm settles =
       links = r.others.links;
       stays = record {
         still = there.0;
-        calm = others_calm s _ a b good.proper peers r.others (subst IsCalm (sym there.1) own.calm)
+        calm = after_link s _ a b good.proper peers r.others (subst IsCalm (sym there.1) own.calm)
             calm;
       };
     })

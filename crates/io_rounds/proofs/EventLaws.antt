@@ -23,7 +23,9 @@ use Rattle.fabric_trace.specs.Served.{face_in, collect_lines, IsCollect}
 use Rattle.fabric_trace.proofs.Boards.{happens_still}
 use Rattle.fabric_trace.proofs.Folding.{seen-append}
 use Rattle.fabric_ask.proofs.Gathering.{stays_endpoint, collected_fewer}
-use Rattle.fabric_ports.specs.Events.{MayFollow, Evented, Exposed, collected}
+use Rattle.fabric_ports.specs.Events.{MayFollow, Evented, Exposed, EventEnds, collected}
+use Rattle.fabric_ports.specs.declared.answers.EventEnd.{EventEnd}
+use Rattle.fabric_ports.specs.declared.answers.EventEnd.TheVariants as Ends
 use Rattle.fabric_ports.specs.declared.answers.Happened.{Happened}
 use Rattle.fabric_ports.specs.declared.answers.Happened.TheVariants as Answers
 use Rattle.fabric_ports.proofs.GatherLaws.{held_at}
@@ -73,7 +75,7 @@ stays_calm names script events trace block stations course line holds kind is =
     event_calm (seen (start script) trace) line block kind
     (good_behind holds.stands.ready holds.stands.made) holds.stands.sent holds.calm is
 
-pub nothing_unsent : (names : List (List ℕ)) (course : Course) (line : Line) {K : Type 0}
+nothing_unsent : (names : List (List ℕ)) (course : Course) (line : Line) {K : Type 0}
     (written : K → Option (List ℕ)) (faults : K → ℕ) (old new : Outbox K) (port : PortRef)
     (event : Event) (may : MayAct names course line)
     → Exposed line names written faults old new (start may.script) may.trace port event → ⊥
@@ -94,6 +96,16 @@ nothing_unsent names course line written faults old new port event may exposed =
     none_some : (o : Option Found) (x : Found) → o ≡ None → o ≡ Some x → ⊥
     none_some None x none some = absurd cc
     none_some (Some y) x none some = absurd cc
+
+-- so only memory can be wanting
+pub only_memory : (names : List (List ℕ)) (course : Course) (line : Line) {K : Type 0}
+    (written : K → Option (List ℕ)) (faults : K → ℕ) (old new : Outbox K) (end : EventEnd)
+    (may : MayAct names course line)
+    → EventEnds line names written faults old new (start may.script) may.trace end
+    → end ≡ Ends.NoMemory
+only_memory names course line written faults old new (Ends.Undetected port event) may ends =
+    absurd (nothing_unsent names course line written faults old new port event may ends)
+only_memory names course line written faults old new Ends.NoMemory may ends = refl
 
 pub acted : (names : List (List ℕ)) (script events : List Numbered) (trace : List TraceLine)
     (stations : List Station) (line : Line) (old new : Course) (what : Happened) {K : Type 0}

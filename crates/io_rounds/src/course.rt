@@ -64,9 +64,18 @@ impl<'a> Course<'a> {
     {
         match self.fabric.event(alloc, names, line, &mut self.trace) {
             Ok(what) => Ok(what),
-            Err(EventEnd::NoMemory) => Err(NoMemory),
-            Err(EventEnd::Undetected { .. }) => unreachable!(),
+            Err(end) => Err(want_of(end)),
         }
+    }
+}
+
+/// What was wanting to an event that sent all that was acted on.
+fn want_of(end: EventEnd) -> NoMemory
+    requires { end ≡ EventEnd.NoMemory }
+{
+    match end {
+        EventEnd::NoMemory => NoMemory,
+        EventEnd::Undetected { .. } => unreachable!(),
     }
 }
 

@@ -48,14 +48,17 @@ module _ {K : Type 0} (written : K → Option (List ℕ)) (faults : K → ℕ) (
         text = h.text ++ more;
         taken = now;
         last = [];
-        answers = with_answer written faults begun left read_faults pending line read_faults_now a.outcome h a.reads;
+        answers = with_answer written faults begun left read_faults pending line read_faults_now
+            a.outcome h a.reads;
         trace = goes_trace going live_next now a.goes;
         closes = inl refl;
         serves =
-            with_nothing written faults begun left read_faults next ends_with.WriteFault (h.lines ++ line ∷ []) (h.text ++ more)
+            with_nothing written faults begun left read_faults next ends_with.WriteFault
+            (h.lines ++ line ∷ []) (h.text ++ more)
             (Going-fault written faults begun left read_faults (2 ^ 32 - 1) pending_next
             read_faults_next (h.lines ++ line ∷ []) (h.text ++ more)
-            (line_told written faults begun left read_faults pending pending_next line taken more read_faults_now read_faults_next h
+            (line_told written faults begun left read_faults pending pending_next line taken more
+            read_faults_now read_faults_next h
             read is good a.told same)
             clear fresh failed);
       }
@@ -81,14 +84,17 @@ module _ {K : Type 0} (written : K → Option (List ℕ)) (faults : K → ℕ) (
         text = h.text ++ more;
         taken = after h.taken (count + 1) line a.outcome;
         last = [];
-        answers = with_answer written faults begun left read_faults pending line read_faults_now a.outcome h a.reads;
+        answers = with_answer written faults begun left read_faults pending line read_faults_now
+            a.outcome h a.reads;
         trace = a.goes.0;
         closes = (a.goes.1, refl);
         serves =
-            with_nothing written faults begun left read_faults next ends_with.Undetected (h.lines ++ line ∷ []) (h.text ++ more)
+            with_nothing written faults begun left read_faults next ends_with.Undetected
+            (h.lines ++ line ∷ []) (h.text ++ more)
             (Going-undetected written faults begun left read_faults (2 ^ 32 - 1) pending_next
             read_faults_next (h.lines ++ line ∷ []) (h.text ++ more)
-            (line_told written faults begun left read_faults pending pending_next line taken more read_faults_now read_faults_next h
+            (line_told written faults begun left read_faults pending pending_next line taken more
+            read_faults_now read_faults_next h
             read is good a.told same)
             clear fine empty);
       }

@@ -78,7 +78,8 @@ ReadsEvent taken line (Happened event block) =
 ReadsEvent taken line (Refused reason) = IsRefused (for_event taken.known) line reason
 
 -- Before the first event a line is one of set-up if it can be. If it is out of place among those,
--- for which the reason is 12, it is to be an event. More than so many bytes are too much, reason 14.
+-- for which the reason is 12, it is to be an event. More than so many bytes are too much, reason
+-- 14.
 abbrev pub ReadsFirst : Taken → List ℕ → Outcome → Type 0
 ReadsFirst taken line Passed = ⊥
 ReadsFirst taken line (SetUp lines known) = SetsUp taken line lines known

@@ -15,7 +15,8 @@ abbrev pub IsCut : Taken → ℕ → List ℕ → Type 0
 IsCut taken number text = IsSent taken × ((line : List ℕ) × IsCutOf taken number line text)
 
 -- What is written behind the answers, by how it ended: `end` if the input ended, and if memory ran
--- out within an event, a front of its answer. It ends with `Undetected` exactly behind an event that
+-- out within an event, a front of its answer. It ends with `Undetected` exactly behind an event
+-- that
 -- was acted on and not sent.
 abbrev pub Closes : Status → Taken → ℕ → List ℕ → Type 0
 Closes Done taken number text = IsSent taken × (text ≡ codes "end\n")

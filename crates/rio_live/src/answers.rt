@@ -78,7 +78,7 @@ fn happen<K: Sink>(
             Ok(Going::On)
         }
         Err(EventEnd::Undetected { port, event }) => {
-            write_undetected(outbox, names, number, port, &event);
+            write_undetected(outbox, names, number, port, event.event());
             Ok(Going::Undetected)
         }
         Err(EventEnd::NoMemory) => Err(NoMemory),

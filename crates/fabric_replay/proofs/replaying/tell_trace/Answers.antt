@@ -10,9 +10,15 @@ pub event-requires : goal.event-requires
 event-requires g c =
     let names = c.args.script.now.names.items in
     let script = c.args.script.now.lines.items in
-    let is = item_of script _ c.loop-numbered.numbered-index c.numbered-item.result c.deref-numbered-items.ensures.value c.numbered-item.is c.loop-numbered-test.true in
-    let follows = may_follow names script _ c.numbered-item.result c.loop-numbered.invariant.lines c.loop-numbered.fabric c.requires.passes is (sym c.is_event.ensures ∙ c.if-is_event.true) c.loop-numbered.invariant.stands in
-    record { may = subst (λ n. MayFollow c.loop-numbered.fabric n c.numbered-item.result.line) (sym c.deref.ensures.value) follows }
+    let is = item_of script _ c.loop-numbered.numbered-index c.numbered-item.result
+    c.deref-numbered-items.ensures.value c.numbered-item.is c.loop-numbered-test.true in
+    let follows = may_follow names script _ c.numbered-item.result c.loop-numbered.invariant.lines
+    c.loop-numbered.fabric c.requires.passes is
+    (sym c.is_event.ensures ∙ c.if-is_event.true) c.loop-numbered.invariant.stands in
+    record {
+      may = subst (λ n. MayFollow c.loop-numbered.fabric n c.numbered-item.result.line)
+          (sym c.deref.ensures.value) follows;
+    }
 
 pub tell_end-requires : goal.tell_end-requires
 tell_end-requires g c =
@@ -20,8 +26,11 @@ tell_end-requires g c =
     let script = c.args.script.now.lines.items in
     let h = c.loop-numbered.invariant in
     let line = c.numbered-item.result.line in
-    let ends = EventEnds-names line c.deref.result.now names _ _ _ _ (start script) h.lines c.in-Err.end c.deref.ensures.value (c.in-Err.ensures.ended (start script) h.lines h.stands) in
-    end_named names _ script _ _ _ _ h.lines line c.loop-numbered.fabric c.in-Err.end c.requires.passes c.deref-in-Err.ensures.value h.stands ends
+    let ends = EventEnds-names line c.deref.result.now names _ _ _ _ (start script) h.lines
+    c.in-Err.end c.deref.ensures.value
+    (c.in-Err.ensures.ended (start script) h.lines h.stands) in
+    end_named names _ script _ _ _ _ h.lines line c.loop-numbered.fabric c.in-Err.end
+    c.requires.passes c.deref-in-Err.ensures.value h.stands ends
 
 pub returns-in-Err-clause-front : goal.returns-in-Err-clause-front
 returns-in-Err-clause-front g c =
@@ -30,10 +39,15 @@ returns-in-Err-clause-front g c =
     let begun = c.args.outbox.now in
     let h = c.loop-numbered.invariant in
     let line = c.numbered-item.result.line in
-    let is = item_of script _ c.loop-numbered.numbered-index c.numbered-item.result c.deref-numbered-items.ensures.value c.numbered-item.is c.loop-numbered-test.true in
+    let is = item_of script _ c.loop-numbered.numbered-index c.numbered-item.result
+    c.deref-numbered-items.ensures.value c.numbered-item.is c.loop-numbered-test.true in
     let block = sym c.is_event.ensures ∙ c.if-is_event.true in
-    let ends = EventEnds-names line c.deref.result.now names _ _ _ _ (start script) h.lines c.in-Err.end c.deref.ensures.value (c.in-Err.ensures.ended (start script) h.lines h.stands) in
-    ended_front _ _ begun names script _ c.tell_end.result (Going-ended _ _ begun names script _ _ c.numbered-item.result _ _ _ _ c.in-Err.end c.tell_end.result c.deref-in-Err.ensures.value is block h ends c.tell_end.ensures)
+    let ends = EventEnds-names line c.deref.result.now names _ _ _ _ (start script) h.lines
+    c.in-Err.end c.deref.ensures.value
+    (c.in-Err.ensures.ended (start script) h.lines h.stands) in
+    ended_front _ _ begun names script _ c.tell_end.result
+    (Going-ended _ _ begun names script _ _ c.numbered-item.result _ _ _ _ c.in-Err.end
+    c.tell_end.result c.deref-in-Err.ensures.value is block h ends c.tell_end.ensures)
 
 pub returns-in-Err-clause-undetected : goal.returns-in-Err-clause-undetected
 returns-in-Err-clause-undetected g c =
@@ -42,33 +56,45 @@ returns-in-Err-clause-undetected g c =
     let begun = c.args.outbox.now in
     let h = c.loop-numbered.invariant in
     let line = c.numbered-item.result.line in
-    let is = item_of script _ c.loop-numbered.numbered-index c.numbered-item.result c.deref-numbered-items.ensures.value c.numbered-item.is c.loop-numbered-test.true in
+    let is = item_of script _ c.loop-numbered.numbered-index c.numbered-item.result
+    c.deref-numbered-items.ensures.value c.numbered-item.is c.loop-numbered-test.true in
     let block = sym c.is_event.ensures ∙ c.if-is_event.true in
-    let ends = EventEnds-names line c.deref.result.now names _ _ _ _ (start script) h.lines c.in-Err.end c.deref.ensures.value (c.in-Err.ensures.ended (start script) h.lines h.stands) in
-    ended_whole _ _ begun names script _ c.tell_end.result (Going-ended _ _ begun names script _ _ c.numbered-item.result _ _ _ _ c.in-Err.end c.tell_end.result c.deref-in-Err.ensures.value is block h ends c.tell_end.ensures)
+    let ends = EventEnds-names line c.deref.result.now names _ _ _ _ (start script) h.lines
+    c.in-Err.end c.deref.ensures.value
+    (c.in-Err.ensures.ended (start script) h.lines h.stands) in
+    ended_whole _ _ begun names script _ c.tell_end.result
+    (Going-ended _ _ begun names script _ _ c.numbered-item.result _ _ _ _ c.in-Err.end
+    c.tell_end.result c.deref-in-Err.ensures.value is block h ends c.tell_end.ensures)
 
 pub returns-then-failed-clause-front : goal.returns-then-failed-clause-front
 returns-then-failed-clause-front g c =
     let names = c.args.script.now.names.items in
     let script = c.args.script.now.lines.items in
     let h = c.loop-numbered.invariant in
-    let is = item_of script _ c.loop-numbered.numbered-index c.numbered-item.result c.deref-numbered-items.ensures.value c.numbered-item.is c.loop-numbered-test.true in
+    let is = item_of script _ c.loop-numbered.numbered-index c.numbered-item.result
+    c.deref-numbered-items.ensures.value c.numbered-item.is c.loop-numbered-test.true in
     let block = sym c.is_event.ensures ∙ c.if-is_event.true in
-    let done = Evented-names c.numbered-item.result.line _ names c.deref.ensures.value (c.in_default.ensures.done (start script) h.lines h.stands) in
-    Going-failed _ _ c.args.outbox.now names script _ c.numbered-item.result _ _ _ _ _ is block h done
+    let done = Evented-names c.numbered-item.result.line _ names c.deref.ensures.value
+    (c.in_default.ensures.done (start script) h.lines h.stands) in
+    Going-failed _ _ c.args.outbox.now names script _ c.numbered-item.result _ _ _ _ _ is block h
+    done
 
 pub returns-then-failed-clause-write_fault : goal.returns-then-failed-clause-write_fault
 returns-then-failed-clause-write_fault g c = λ fault.
     let names = c.args.script.now.names.items in
     let script = c.args.script.now.lines.items in
     let h = c.loop-numbered.invariant in
-    let is = item_of script _ c.loop-numbered.numbered-index c.numbered-item.result c.deref-numbered-items.ensures.value c.numbered-item.is c.loop-numbered-test.true in
+    let is = item_of script _ c.loop-numbered.numbered-index c.numbered-item.result
+    c.deref-numbered-items.ensures.value c.numbered-item.is c.loop-numbered-test.true in
     let block = sym c.is_event.ensures ∙ c.if-is_event.true in
-    let done = Evented-names c.numbered-item.result.line _ names c.deref.ensures.value (c.in_default.ensures.done (start script) h.lines h.stands) in
-    Going-until _ _ c.args.outbox.now names script _ c.numbered-item.result _ _ _ _ _ is block h (sym c.failed.ensures ∙ c.if-failed.true) done
+    let done = Evented-names c.numbered-item.result.line _ names c.deref.ensures.value
+    (c.in_default.ensures.done (start script) h.lines h.stands) in
+    Going-until _ _ c.args.outbox.now names script _ c.numbered-item.result _ _ _ _ _ is block h
+    (sym c.failed.ensures ∙ c.if-failed.true) done
 
 pub loop-numbered-init : goal.loop-numbered-init
-loop-numbered-init g c = Going-begin _ _ c.args.outbox.now c.args.script.now.names.items c.args.script.now.lines.items c.args.fabric.now c.requires.fine c.requires.stands
+loop-numbered-init g c = Going-begin _ _ c.args.outbox.now c.args.script.now.names.items
+    c.args.script.now.lines.items c.args.fabric.now c.requires.fine c.requires.stands
 
 pub loop-numbered-preserved : goal.loop-numbered-preserved
 loop-numbered-preserved g c =
@@ -76,12 +102,19 @@ loop-numbered-preserved g c =
     let script = c.args.script.now.lines.items in
     let begun = c.args.outbox.now in
     let h = c.loop-numbered.invariant in
-    let is = item_of script _ c.loop-numbered.numbered-index c.numbered-item.result c.deref-numbered-items.ensures.value c.numbered-item.is c.loop-numbered-test.true in
+    let is = item_of script _ c.loop-numbered.numbered-index c.numbered-item.result
+    c.deref-numbered-items.ensures.value c.numbered-item.is c.loop-numbered-test.true in
     elim c.if-is_event.branch [
       | then-is_event+in_default+else-failed w ↦
-          let done = Evented-names c.numbered-item.result.line _ names w.deref.ensures.value (w.in_default.ensures.done (start script) h.lines h.stands) in
-          rw (w.outbox-is, w.fabric-is) (Going-event _ _ begun names script _ c.numbered-item.result _ _ _ _ _ is (sym c.is_event.ensures ∙ w.if-is_event.true) h (sym w.failed.ensures ∙ w.if-failed.false) done)
-      | else-is_event w ↦ rw (w.outbox-is, w.fabric-is) (Going-skip _ _ begun names script _ c.numbered-item.result _ _ is (sym c.is_event.ensures ∙ w.if-is_event.false) h)
+          let done = Evented-names c.numbered-item.result.line _ names w.deref.ensures.value
+          (w.in_default.ensures.done (start script) h.lines h.stands) in
+          rw (w.outbox-is, w.fabric-is)
+          (Going-event _ _ begun names script _ c.numbered-item.result _ _ _ _ _ is
+          (sym c.is_event.ensures ∙ w.if-is_event.true) h
+          (sym w.failed.ensures ∙ w.if-failed.false) done)
+      | else-is_event w ↦ rw (w.outbox-is, w.fabric-is)
+          (Going-skip _ _ begun names script _ c.numbered-item.result _ _ is
+          (sym c.is_event.ensures ∙ w.if-is_event.false) h)
     ]
 
 pub returns-clause-front : goal.returns-clause-front
@@ -89,13 +122,26 @@ returns-clause-front g c =
     let names = c.args.script.now.names.items in
     let script = c.args.script.now.lines.items in
     let begun = c.args.outbox.now in
-    let whole : length script ≤ c.loop-numbered.numbered-index = omega (arith, ap length c.deref-numbered-items.ensures.value, c.loop-numbered-test.false) in
-    whole_front _ _ begun names script _ Ended None (Going-end _ _ begun names script c.loop-numbered.numbered-index _ _ _ whole c.loop-numbered.invariant c.write_end.ensures)
+    let whole : length script ≤ c.loop-numbered.numbered-index =
+    omega (
+      arith,
+      ap length c.deref-numbered-items.ensures.value,
+      c.loop-numbered-test.false,
+    ) in
+    whole_front _ _ begun names script _ Ended None
+    (Going-end _ _ begun names script c.loop-numbered.numbered-index _ _ _ whole
+    c.loop-numbered.invariant c.write_end.ensures)
 
 pub returns-clause-done : goal.returns-clause-done
 returns-clause-done g c =
     let names = c.args.script.now.names.items in
     let script = c.args.script.now.lines.items in
     let begun = c.args.outbox.now in
-    let whole : length script ≤ c.loop-numbered.numbered-index = omega (arith, ap length c.deref-numbered-items.ensures.value, c.loop-numbered-test.false) in
-    Going-end _ _ begun names script c.loop-numbered.numbered-index _ _ _ whole c.loop-numbered.invariant c.write_end.ensures
+    let whole : length script ≤ c.loop-numbered.numbered-index =
+    omega (
+      arith,
+      ap length c.deref-numbered-items.ensures.value,
+      c.loop-numbered-test.false,
+    ) in
+    Going-end _ _ begun names script c.loop-numbered.numbered-index _ _ _ whole
+    c.loop-numbered.invariant c.write_end.ensures

@@ -11,9 +11,11 @@ returns-then-failed-clause-write_fault g c =
     let names = c.args.script.now.names.items in
     let script = c.args.script.now.lines.items in
     let begun = c.args.outbox.now in
-    let front = Fronts-flushed _ _ begun names script _ _ c.flush.ensures.written c.tell_trace-end.ensures.front in
+    let front = Fronts-flushed _ _ begun names script _ _ c.flush.ensures.written
+    c.tell_trace-end.ensures.front in
     λ is. (
-      Writes-rose _ _ begun _ (trace_text names front.lines) c.requires.fine front.told (sym c.failed.ensures ∙ c.if-failed.true),
+      Writes-rose _ _ begun _ (trace_text names front.lines) c.requires.fine front.told
+          (sym c.failed.ensures ∙ c.if-failed.true),
       written_front _ _ begun names script _ c.requires.passes c.requires.empty front,
     )
 
@@ -24,7 +26,10 @@ returns-clause-done g c =
     let begun = c.args.outbox.now in
     let fine = sym c.failed.ensures ∙ c.if-failed.false in
     on_ok c.tell_trace-end.result
-    (λ whole. written_done _ _ begun names script _ c.requires.passes c.requires.empty fine c.flush.ensures.empty (Wholes-flushed _ _ begun names script _ _ Ended None c.flush.ensures.written whole)) c.tell_trace-end.ensures.done
+    (λ whole. written_done _ _ begun names script _ c.requires.passes c.requires.empty fine
+    c.flush.ensures.empty
+    (Wholes-flushed _ _ begun names script _ _ Ended None c.flush.ensures.written whole))
+    c.tell_trace-end.ensures.done
 
 pub returns-clause-undetected : goal.returns-clause-undetected
 returns-clause-undetected g c =
@@ -33,8 +38,10 @@ returns-clause-undetected g c =
     let begun = c.args.outbox.now in
     let fine = sym c.failed.ensures ∙ c.if-failed.false in
     λ line port event is.
-    written_unsent _ _ begun names script _ line port event c.requires.passes c.requires.empty fine c.flush.ensures.empty
-    (Wholes-flushed _ _ begun names script _ _ (Undetected line port event) _ c.flush.ensures.written (c.tell_trace-end.ensures.undetected line port event is))
+    written_unsent _ _ begun names script _ line port event c.requires.passes c.requires.empty fine
+    c.flush.ensures.empty
+    (Wholes-flushed _ _ begun names script _ _ (Undetected line port event) _
+    c.flush.ensures.written (c.tell_trace-end.ensures.undetected line port event is))
 
 pub returns-clause-write_fault : goal.returns-clause-write_fault
 returns-clause-write_fault g c = λ is.
@@ -46,4 +53,6 @@ returns-clause-no_memory g c = λ is.
     let names = c.args.script.now.names.items in
     let script = c.args.script.now.lines.items in
     let begun = c.args.outbox.now in
-    written_front _ _ begun names script _ c.requires.passes c.requires.empty (Fronts-flushed _ _ begun names script _ _ c.flush.ensures.written c.tell_trace-end.ensures.front)
+    written_front _ _ begun names script _ c.requires.passes c.requires.empty
+    (Fronts-flushed _ _ begun names script _ _ c.flush.ensures.written
+    c.tell_trace-end.ensures.front)

@@ -1,4 +1,4 @@
-use Rattle.std.proofs.Common.{◌<◌, ◌++◌, List, ℕ, length, codes, sym, ap, subst}
+use Rattle.std.proofs.Common.{◌≡◌, ◌<◌, ◌++◌, List, ℕ, length, codes, sym, ap, subst}
 use Rattle.rio_chars.specs.Written.{Writes}
 use Rattle.fabric_trace.specs.Lines.{Undetected}
 use Rattle.fabric_trace.specs.Runs.{start}
@@ -83,11 +83,17 @@ returns-in-Err-Undetected-clause-happens g c = λ taken line holds spells.
     subst (λ n. Exposed c.args.event.now n g.K.Sink.written g.K.Sink.faults
     c.args.outbox.now c.event.new.outbox (start taken.set_up) taken.trace
     c.in-Err-Undetected.port c.in-Err-Undetected.event) named ends in
+    let told : c.event-in-Err-Undetected-2.result.now ≡ c.in-Err-Undetected.event =
+    c.event-in-Err-Undetected-2.ensures in
     let last =
     subst (λ n. Writes g.K.Sink.written g.K.Sink.faults c.event.new.outbox
     c.write_undetected.new.outbox
     (trace_line_text n (Undetected c.args.number c.in-Err-Undetected.port
-    c.in-Err-Undetected.event) ++ codes "\n")) named c.write_undetected.ensures in
+    c.in-Err-Undetected.event) ++ codes "\n")) named
+    (subst (λ event. Writes g.K.Sink.written g.K.Sink.faults c.event.new.outbox
+    c.write_undetected.new.outbox
+    (trace_line_text c.names-names.result.now (Undetected c.args.number
+    c.in-Err-Undetected.port event) ++ codes "\n")) told c.write_undetected.ensures) in
     happens_unsent g.K.Sink.written g.K.Sink.faults taken line c.args.event.now
     c.args.outbox.now c.event.new.outbox c.write_undetected.new.outbox c.args.number
     c.args.live.now c.take_fabric.new.self c.in_ok-fabric.fabric c.in-Err-Undetected.port

@@ -8,7 +8,8 @@ pub returns-then-failed-clause-ended : goal.returns-then-failed-clause-ended
 returns-then-failed-clause-ended g c = λ from lines can.
     front_told c.args.names.now g.K.Sink.written g.K.Sink.faults c.args.outbox.now
     c.tell_ask-told.new.outbox c.flush.new.self c.args.host c.args.request.now
-    (g.N.Noise.edits c.args.noise.now) c.args.self.now c.tell_ask-told.new.self c.tell_ask-told.result
+    (g.N.Noise.edits c.args.noise.now) c.args.self.now c.tell_ask-told.new.self
+    c.tell_ask-told.result
     (is_told c.args.names.now g.K.Sink.written g.K.Sink.faults c.args.outbox.now
     c.tell_ask-told.new.outbox c.args.host c.args.request.now (g.N.Noise.edits c.args.noise.now)
     c.args.self.now c.tell_ask-told.new.self c.tell_ask-told.result c.tell_ask-told.ensures.done
@@ -24,7 +25,8 @@ returns-clause-replied g c =
     (λ from lines can.
     all_told c.args.names.now g.K.Sink.written g.K.Sink.faults c.args.outbox.now
     c.tell_ask-told.new.outbox c.flush.new.self c.args.host c.args.request.now
-    (g.N.Noise.edits c.args.noise.now) c.args.self.now c.tell_ask-told.new.self c.tell_ask-told.result
+    (g.N.Noise.edits c.args.noise.now) c.args.self.now c.tell_ask-told.new.self
+    c.tell_ask-told.result
     (is_told c.args.names.now g.K.Sink.written g.K.Sink.faults c.args.outbox.now
     c.tell_ask-told.new.outbox c.args.host c.args.request.now (g.N.Noise.edits c.args.noise.now)
     c.args.self.now c.tell_ask-told.new.self c.tell_ask-told.result c.tell_ask-told.ensures.done
@@ -41,7 +43,8 @@ returns-clause-ended g c =
     (λ from lines can.
     all_told c.args.names.now g.K.Sink.written g.K.Sink.faults c.args.outbox.now
     c.tell_ask-told.new.outbox c.flush.new.self c.args.host c.args.request.now
-    (g.N.Noise.edits c.args.noise.now) c.args.self.now c.tell_ask-told.new.self c.tell_ask-told.result
+    (g.N.Noise.edits c.args.noise.now) c.args.self.now c.tell_ask-told.new.self
+    c.tell_ask-told.result
     (is_told c.args.names.now g.K.Sink.written g.K.Sink.faults c.args.outbox.now
     c.tell_ask-told.new.outbox c.args.host c.args.request.now (g.N.Noise.edits c.args.noise.now)
     c.args.self.now c.tell_ask-told.new.self c.tell_ask-told.result c.tell_ask-told.ensures.done

@@ -1,4 +1,4 @@
-use Rattle.std.proofs.Common.{◌++◌, ◌∷◌, [], List, IfOk, IfErr, refl, sym, ap, subst, ◌∙◌}
+use Rattle.std.proofs.Common.{◌++◌, ◌∷◌, [], List, rules, refl, sym, ap, subst, ◌∙◌}
 use Rattle.rio_chars.specs.Written.{Writes}
 use Rattle.fabric_script.specs.declared.lines.Line.{Line}
 use Rattle.fabric_script.specs.declared.lines.Line.TheVariants.{Move, Collect, Run}
@@ -8,10 +8,11 @@ use Rattle.fabric_trace.specs.Lines.{TraceLine, Begun}
 use Rattle.fabric_trace.specs.Text.{trace_line_text}
 use Rattle.fabric_ports.specs.Events.{Evented, EventEnds}
 use Rattle.fabric_ports.specs.Standing.{Stands}
-use Rattle.fabric_ports.proofs.RoundLaws.{run_done, run_ended}
+use Rattle.fabric_ports.proofs.RanLaws.{handed_on}
+use Rattle.fabric_ports.proofs.RoundLaws.{run_blocked, run_ends}
 use Rattle.fabric_ports.specs.declared.answers.Happened.TheVariants.{Other}
 use Rattle.fabric_trace.proofs.Existing.{ready_on}
-use Rattle.fabric_ports.proofs.EventLaws.{end_of, ids_are, is_taken, sent_block, evented, linked_done, linked_ended, none_of, at_link_is, other_happened}
+use Rattle.fabric_ports.proofs.EventLaws.{end_of, ids_are, is_taken, sent_block, evented, linked_evented, ends_on, none_of, at_link_is, other_happened}
 use Rattle.fabric_ports.proofs.fabric.Fabric.event.Goals as goal
 
 pub returns-in-Move-clause-done : goal.returns-in-Move-clause-done
@@ -44,47 +45,67 @@ returns-in-Collect-clause-done g c = λ from lines stands.
     c.collect.new.self c.collect.result _ refl stands begun
     (c.collect.ensures s stands.shows stands.sent by) (λ block is. is))
 
-pub returns-in_default-line : goal.returns-in_default-line
-returns-in_default-line g c =
+pub returns-in_ok-at_link-in_default-line : goal.returns-in_ok-at_link-in_default-line
+returns-in_ok-at_link-in_default-line g c =
     let link = at_link_is c.args.line.now c.requires.may.event
-    (sym c.taker.ensures ∙ none_of c.taker.result c.in_default.not-Some) c.in_default-line.not-Move c.in_default-line.not-Collect
-    c.in_default-line.not-Run in
+    (sym c.taker.ensures ∙ none_of c.taker.result c.in_default.not-Some)
+    c.in_default-line.not-Move c.in_default-line.not-Collect c.in_default-line.not-Run in
     record {
-      done = linked_done c.args.line.now c.args.names.now _ _ _ _ _ c.args.self.now
-          c.at_link.new.self
-          c.at_link.result c.other-in_default-line.result (other_happened c.args.line.now link)
-          c.write_begun.ensures c.at_link.ensures.done c.other-in_default-line.ensures;
-      ended = linked_ended c.args.line.now c.args.names.now _ _ _ _ _ c.args.self.now
-          c.at_link.result c.other-in_default-line.result c.write_begun.ensures c.at_link.ensures.ended
-          c.other-in_default-line.ensures;
+      done = λ from lines stands. linked_evented c.args.line.now c.args.names.now _ _ _ _ _ from
+          lines c.at_link.new.self (other_happened c.args.line.now link) c.write_begun.ensures
+          (c.in_ok-at_link-in_default-line.ensures.done from lines stands);
+      ended = tt;
     }
 
-pub returns-in-Run : goal.returns-in-Run
-returns-in-Run g c =
-    let n = c.in-Run.n in
+pub returns-in_err-at_link-in_default-line : goal.returns-in_err-at_link-in_default-line
+returns-in_err-at_link-in_default-line g c = record {
+  done = search rules;
+  ended = handed_on c.from_residual-in_err-at_link-in_default-line.result
+      c.in_err-at_link-in_default-line.field-0.0
+      (λ end. (from : Seen) (lines : List TraceLine) → Stands from lines c.args.self.now
+      → EventEnds c.args.line.now c.args.names.now g.K.Sink.written g.K.Sink.faults
+      c.args.outbox.now c.at_link.new.outbox from lines end)
+      c.from_residual-in_err-at_link-in_default-line.ensures.1
+      (λ from lines stands. ends_on c.args.line.now c.args.names.now g.K.Sink.written
+      g.K.Sink.faults c.args.outbox.now c.write_begun.new.outbox c.at_link.new.outbox from lines
+      c.in_err-at_link-in_default-line.field-0.0 c.write_begun.ensures
+      (c.in_err-at_link-in_default-line.ensures.ended from lines stands));
+}
+
+pub returns-in_ok-run-in-Run-clause-done : goal.returns-in_ok-run-in-Run-clause-done
+returns-in_ok-run-in-Run-clause-done g c = λ from lines stands.
     let begun = subst
     (λ (l : Line). Writes g.K.Sink.written g.K.Sink.faults c.args.outbox.now
     c.write_begun.new.outbox (trace_line_text c.args.names.now (Begun l) ++ 10 ∷ []))
     c.in-Run.is c.write_begun.ensures in
-    let done = run_done g.K.Sink.written g.K.Sink.faults c.args.names.now c.write_begun.new.outbox
-    c.run.new.outbox n c.args.self.now c.run.new.self c.run.result c.run.ensures.done in
-    let ended = run_ended g.K.Sink.written g.K.Sink.faults c.args.names.now
-    c.write_begun.new.outbox c.run.new.outbox n c.args.self.now c.run.new.self c.run.result
-    c.run.ensures.ended in
-    record {
-      done = subst (λ (l : Line). IfOk c.other.result (λ answer. (from : Seen)
-          (lines : List TraceLine) → Stands from lines c.args.self.now → Evented l c.args.names.now
-          g.K.Sink.written g.K.Sink.faults c.args.outbox.now c.run.new.outbox from lines
-          c.run.new.self answer)) (sym c.in-Run.is)
-          (linked_done (Run n) c.args.names.now _ _ _ _ _ c.args.self.now c.run.new.self
-          c.run.result c.other.result (λ block. refl) begun done c.other.ensures);
-      ended = subst (λ (l : Line). IfErr c.other.result (λ end. (from : Seen)
-          (lines : List TraceLine) → Stands from lines c.args.self.now → EventEnds l
-          c.args.names.now g.K.Sink.written g.K.Sink.faults c.args.outbox.now c.run.new.outbox from
-          lines end)) (sym c.in-Run.is)
-          (linked_ended (Run n) c.args.names.now _ _ _ _ _ c.args.self.now c.run.result
-          c.other.result begun ended c.other.ensures);
-    }
+    subst (λ (l : Line). Evented l c.args.names.now g.K.Sink.written g.K.Sink.faults
+    c.args.outbox.now c.run.new.outbox from lines c.run.new.self Other) (sym c.in-Run.is)
+    (linked_evented (Run c.in-Run.n) c.args.names.now _ _ _ _ _ from lines c.run.new.self
+    (λ block. refl) begun
+    (run_blocked g.K.Sink.written g.K.Sink.faults c.args.names.now c.write_begun.new.outbox
+    c.run.new.outbox c.in-Run.n c.args.self.now c.run.new.self from lines stands
+    (c.in_ok-run-in-Run.ensures.done from lines stands)))
+
+pub returns-in_err-run-in-Run-clause-ended : goal.returns-in_err-run-in-Run-clause-ended
+returns-in_err-run-in-Run-clause-ended g c =
+    let begun = subst
+    (λ (l : Line). Writes g.K.Sink.written g.K.Sink.faults c.args.outbox.now
+    c.write_begun.new.outbox (trace_line_text c.args.names.now (Begun l) ++ 10 ∷ []))
+    c.in-Run.is c.write_begun.ensures in
+    handed_on c.from_residual.result c.in_err-run-in-Run.field-0.0
+    (λ end. (from : Seen) (lines : List TraceLine) → Stands from lines c.args.self.now
+    → EventEnds c.args.line.now c.args.names.now g.K.Sink.written g.K.Sink.faults
+    c.args.outbox.now c.run.new.outbox from lines end)
+    c.from_residual.ensures.1
+    (λ from lines stands. subst (λ (l : Line). EventEnds l c.args.names.now g.K.Sink.written
+    g.K.Sink.faults c.args.outbox.now c.run.new.outbox from lines c.in_err-run-in-Run.field-0.0)
+    (sym c.in-Run.is)
+    (ends_on (Run c.in-Run.n) c.args.names.now g.K.Sink.written g.K.Sink.faults
+    c.args.outbox.now c.write_begun.new.outbox c.run.new.outbox from lines
+    c.in_err-run-in-Run.field-0.0 begun
+    (run_ends g.K.Sink.written g.K.Sink.faults c.args.names.now c.write_begun.new.outbox
+    c.run.new.outbox c.in-Run.n c.args.self.now c.run.new.self from lines
+    c.in_err-run-in-Run.field-0.0 (c.in_err-run-in-Run.ensures.ended from lines stands))))
 
 pub returns-in-Some-clause-done : goal.returns-in-Some-clause-done
 returns-in-Some-clause-done g c = λ from lines stands.

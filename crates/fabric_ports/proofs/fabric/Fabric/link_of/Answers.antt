@@ -1,64 +1,74 @@
-use Rattle.std.proofs.Common.{◌≡◌, ◌<◌, ℕ, List, map, None, sym, subst}
+use Rattle.std.proofs.Common.{◌<◌, sym, subst, rules, arith, length}
 use Rattle.std.proofs.lemmas.Option.{slice_get_within}
-use Rattle.fabric_model.specs.Network.{link_in}
-use Rattle.fabric_ports.specs.Ends.{IsEndOf}
 use Rattle.fabric_ports.specs.Places.{IsPortOf}
-use Rattle.fabric_ports.specs.Showing.{ends_of}
 use Rattle.fabric_ports.specs.declared.fabric.Cable.{Cable}
-use Rattle.fabric_ports.proofs.EndLaws.{linked_found, cable_shown, cable_is, places_found}
+use Rattle.fabric_ports.proofs.EndLaws.{cable_of, linked_port, number_at, number_is, cable_read, end_read, cable_shown, places_found}
 use Rattle.fabric_ports.proofs.fabric.Fabric.link_of.Goals as goal
-
-found : (c : goal.After-place-arg-1)
-    → IsEndOf c.args.self.now.cables.items c.args.port c.in-Some.place c.in-Some.side
-found c = subst (λ (l : List Cable). IsEndOf l c.args.port c.in-Some.place c.in-Some.side)
-    c.deref.ensures.value c.in-Some.ensures
-
-pub unreachable-requires : goal.unreachable-requires
-unreachable-requires c =
-    linked_found c.args.self.now c.args.port c.requires
-    (subst (λ (l : List Cable). link_in (map ends_of l) c.args.port ≡ None) c.deref.ensures.value
-    c.in_default.ensures)
-
-pub index-cable-requires : goal.index-cable-requires
-index-cable-requires c =
-    let e = c.in-Some.ensures in
-    subst (λ (n : ℕ). c.in-Some.place < n) c.deref.ensures.len
-    (slice_get_within c.deref.result.now c.in-Some.place e.cable e.at)
-
-pub place-requires-clause-port : goal.place-requires-clause-port
-place-requires-clause-port c =
-    let e = found c in
-    let same = cable_is c.args.self.now.cables.items c.args.port c.in-Some.place c.in-Some.side e
-    c.index-cable.result.now c.index-cable.ensures in
-    subst (λ (d : Cable). IsPortOf c.args.self.now.devices.items d.a) (sym same)
-    (cable_shown c.in-Some.place e.cable c.requires.stands e.at).port_a
 
 pub place-requires-clause-shown : goal.place-requires-clause-shown
 place-requires-clause-shown c = (_, c.requires.stands.shows)
 
-pub place-requires-2-clause-port : goal.place-requires-2-clause-port
-place-requires-2-clause-port c =
-    let e = subst (λ (l : List Cable). IsEndOf l c.args.port c.in-Some.place c.in-Some.side)
-    c.deref.ensures.value c.in-Some.ensures in
-    let same = cable_is c.args.self.now.cables.items c.args.port c.in-Some.place c.in-Some.side e
-    c.index-cable.result.now c.index-cable.ensures in
-    subst (λ (d : Cable). IsPortOf c.args.self.now.devices.items d.b) (sym same)
-    (cable_shown c.in-Some.place e.cable c.requires.stands e.at).port_b
+pub place-requires-clause-port : goal.place-requires-clause-port
+place-requires-clause-port c = linked_port c.args.self.now c.args.port c.requires
+
+pub index-number-requires : goal.index-number-requires
+index-number-requires c =
+    let own = cable_of c.args.self.now c.args.port c.requires in
+    let at = slice_get_within c.args.self.now.cable_at.items _ own.place
+    (number_at c.args.self.now c.args.port c.requires) in
+    let same = c.place.ensures.place in
+    let here : c.place.result < length c.args.self.now.cable_at.items =
+    omega (arith, at, same) in
+    search rules
+
+pub index-cable-requires : goal.index-cable-requires
+index-cable-requires c =
+    let own = cable_of c.args.self.now c.args.port c.requires in
+    let at = slice_get_within c.args.self.now.cables.items own.place own.cable own.at in
+    let number = number_is c.args.self.now c.args.port c.requires c.place.result
+    c.index-number.result.now c.place.ensures.place c.index-number.ensures in
+    let here : c.index-number.result.now < length c.args.self.now.cables.items =
+    omega (arith, at, number) in
+    search rules
 
 pub place-requires-2-clause-shown : goal.place-requires-2-clause-shown
 place-requires-2-clause-shown c = (_, c.requires.stands.shows)
 
+pub place-requires-2-clause-port : goal.place-requires-2-clause-port
+place-requires-2-clause-port c =
+    let own = cable_of c.args.self.now c.args.port c.requires in
+    let number = number_is c.args.self.now c.args.port c.requires c.place.result
+    c.index-number.result.now c.place.ensures.place c.index-number.ensures in
+    let same = cable_read c.args.self.now c.args.port c.requires c.index-number.result.now
+    c.index-cable.result.now number c.index-cable.ensures in
+    subst (λ (d : Cable). IsPortOf c.args.self.now.devices.items d.a) (sym same)
+    (cable_shown own.place own.cable c.requires.stands own.at).port_a
+
+pub place-requires-3-clause-shown : goal.place-requires-3-clause-shown
+place-requires-3-clause-shown c = (_, c.requires.stands.shows)
+
+pub place-requires-3-clause-port : goal.place-requires-3-clause-port
+place-requires-3-clause-port c =
+    let own = cable_of c.args.self.now c.args.port c.requires in
+    let number = number_is c.args.self.now c.args.port c.requires c.place.result
+    c.index-number.result.now c.place.ensures.place c.index-number.ensures in
+    let same = cable_read c.args.self.now c.args.port c.requires c.index-number.result.now
+    c.index-cable.result.now number c.index-cable.ensures in
+    subst (λ (d : Cable). IsPortOf c.args.self.now.devices.items d.b) (sym same)
+    (cable_shown own.place own.cable c.requires.stands own.at).port_b
+
 pub returns : goal.returns
 returns c =
-    let e = subst (λ (l : List Cable). IsEndOf l c.args.port c.in-Some.place c.in-Some.side)
-    c.deref.ensures.value c.in-Some.ensures in
+    let number = number_is c.args.self.now c.args.port c.requires c.place.result
+    c.index-number.result.now c.place.ensures.place c.index-number.ensures in
     places_found c.args.self.now c.args.port
     (record {
-      cable = c.in-Some.place;
-      side = c.in-Some.side;
-      a = c.place.result;
-      b =
-          c.place-2.result;
-    }) c.index-cable.result.now c.requires e
-    c.index-cable.ensures c.place.ensures.place c.place-2.ensures.place c.place.ensures.within
-    c.place-2.ensures.within
+      cable = c.index-number.result.now;
+      side = c.side_of.result;
+      a = c.place-2.result;
+      b = c.place-3.result;
+    }) c.index-cable.result.now c.requires
+    (end_read c.args.self.now c.args.port c.requires c.index-number.result.now
+    c.index-cable.result.now c.side_of.result number c.index-cable.ensures c.side_of.ensures)
+    c.index-cable.ensures c.place-2.ensures.place c.place-3.ensures.place c.place-2.ensures.within
+    c.place-3.ensures.within

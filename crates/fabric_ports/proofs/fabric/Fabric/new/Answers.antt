@@ -3,7 +3,7 @@ use Rattle.std.proofs.lemmas.List.{take_all}
 use Rattle.fabric_trace.specs.Events.{port_counts}
 use Rattle.fabric_trace.specs.Runs.{bare, set_up_all}
 use Rattle.fabric_ports.specs.Plans.{PlansFor, counts_of, planned_port}
-use Rattle.fabric_ports.proofs.NewLaws.{devices_named, new_stands, next_ports, next_may, next_plan}
+use Rattle.fabric_ports.proofs.NewLaws.{devices_named, new_stands, plan_proper, next_ports, next_may, next_plan}
 use Rattle.fabric_ports.proofs.fabric.Fabric.new.Goals as goal
 
 pub add-requires-clause-ports : goal.add-requires-clause-ports
@@ -37,6 +37,15 @@ loop-numbered-preserved c =
     c.loop-numbered.invariant
     c.in_ok-add.ensures.plans c.in_ok-add.ensures.counts
 
+pub number_cables-requires-clause-proper : goal.number_cables-requires-clause-proper
+number_cables-requires-clause-proper c =
+    let script = c.args.script.now in
+    let plan = c.loop-numbered.plan in
+    let all : take c.loop-numbered.numbered-index script.lines.items ≡ script.lines.items =
+    take_all c.loop-numbered.numbered-index script.lines.items (omega arith) in
+    plan_proper script.names.items script.lines.items plan c.requires.passes
+    (subst (λ lines. PlansFor plan (set_up_all bare lines)) all c.loop-numbered.invariant.plans)
+
 pub returns-clause-stands : goal.returns-clause-stands
 returns-clause-stands c =
     let script = c.args.script.now in
@@ -51,10 +60,11 @@ returns-clause-stands c =
       ports =
           c.in_ok-ports.ports;
       cables = plan.cables;
+      cable_at = c.in_ok-cable_at.cable_at;
     }) c.requires.passes
     (subst (λ lines. PlansFor plan (set_up_all bare lines)) all c.loop-numbered.invariant.plans)
     refl refl refl
-    (c.in_ok-ports.ensures ∙ ap (map planned_port) ports)
+    (c.in_ok-ports.ensures ∙ ap (map planned_port) ports) c.in_ok-cable_at.ensures
 
 pub returns-clause-named : goal.returns-clause-named
 returns-clause-named c =

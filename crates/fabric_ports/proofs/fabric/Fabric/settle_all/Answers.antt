@@ -1,5 +1,6 @@
 use Rattle.std.proofs.Common.{◌≡◌, ◌<◌, ◌++◌, List, length, take, rules, arith, vec_len, sym, ap, ◌∙◌}
 use Rattle.std.proofs.lemmas.List.{take_all, length-map}
+use Rattle.fabric_trace.specs.Fold.{seen}
 use Rattle.fabric_trace.specs.Known.{Seen}
 use Rattle.fabric_trace.specs.Lines.{TraceLine}
 use Rattle.fabric_ports.specs.Ran.{RanEnds, LinksSettle}
@@ -7,7 +8,7 @@ use Rattle.fabric_ports.specs.Showing.{ends_of}
 use Rattle.fabric_ports.specs.Standing.{Stands}
 use Rattle.fabric_ports.proofs.EndLaws.{links_stand}
 use Rattle.fabric_ports.proofs.RanLaws.{handed_on}
-use Rattle.fabric_ports.proofs.SettlingLaws.{devices_stay, cables_stay, next_link, is_linked, settled_more, settled_short, settled_all}
+use Rattle.fabric_ports.proofs.SettlingLaws.{devices_stay, cables_stay, ends_at, next_link, is_linked, cable_there, settled_more, settled_idle, settled_short, settled_all}
 use Rattle.fabric_ports.proofs.fabric.Fabric.settle_all.Goals as goal
 
 pub index-requires : goal.index-requires
@@ -77,6 +78,40 @@ loop-place-preserved g c = λ from lines stands.
     (next_link c.loop-place.place c.index.result.now ran.stands c.index.ensures
     (omega (arith, same, end, test, counted))) ran
     (c.in_ok-act.ensures.done from (lines ++ ran.block) ran.stands)
+
+pub loop-place-preserved-then-is_idle : goal.loop-place-preserved-then-is_idle
+loop-place-preserved-then-is_idle g c = λ from lines stands.
+    let ran = c.loop-place.invariant from lines stands in
+    let same = cables_stay stands ran.stands in
+    let end = c.len-place-end.ensures in
+    let test = c.loop-place-test.true in
+    let counted : vec_len c.args.self.now.cables ≡ length c.args.self.now.cables.items =
+    search rules in
+    let cables = c.loop-place.self.cables.items in
+    let here : c.loop-place.place < length cables = omega (arith, same, end, test, counted) in
+    let cable = cable_there cables c.loop-place.place here in
+    settled_idle g.K.Sink.written g.K.Sink.faults c.args.names.now c.args.outbox.now
+    c.loop-place.outbox from lines c.args.self.now c.loop-place.self c.loop-place.place
+    (ends_of cable.0) stands
+    (next_link c.loop-place.place cable.0 ran.stands cable.1 here) ran
+    (sym (c.is_idle.ensures (seen from (lines ++ ran.block)) cable.0.a cable.0.b ran.stands.shows
+    (ends_at cables c.loop-place.place cable.0 here cable.1))
+    ∙ c.if-is_idle.true)
+
+pub is_idle-requires-clause-shown : goal.is_idle-requires-clause-shown
+is_idle-requires-clause-shown g c =
+    let known = c.requires.stands in
+    (_, (c.loop-place.invariant known.0 known.1 known.2).stands.shows)
+
+pub is_idle-requires-clause-within : goal.is_idle-requires-clause-within
+is_idle-requires-clause-within g c =
+    let known = c.requires.stands in
+    let same = cables_stay known.2 (c.loop-place.invariant known.0 known.1 known.2).stands in
+    let end = c.len-place-end.ensures in
+    let test = c.loop-place-test.true in
+    let counted : vec_len c.args.self.now.cables ≡ length c.args.self.now.cables.items =
+    search rules in
+    omega (arith, same, end, test, counted)
 
 pub returns-clause-done : goal.returns-clause-done
 returns-clause-done g c = λ from lines stands.

@@ -1,7 +1,8 @@
 use Rattle.std.proofs.Common.{◌<◌, ◌≤◌, ◌+◌, List, length, slice_set, refl, rules, subst, sym, ap, arith}
 use Rattle.std.proofs.lemmas.Option.{slice_get_within}
 use Rattle.link_port.specs.Ports.{PortState}
-use Rattle.fabric_ports.specs.Switching.{MadeStep}
+use Rattle.switch_core.specs.SwitchSteps.{step_of}
+use Rattle.fabric_ports.specs.Switching.{faces_at, own_ports, MadeStep, Wrote}
 use Rattle.fabric_ports.proofs.DeviceLaws.{switch_read}
 use Rattle.fabric_ports.proofs.NodeLaws.{device_read, with_ports}
 use Rattle.fabric_ports.proofs.RowLaws.{first_read, row_within}
@@ -28,16 +29,8 @@ index_mut-registers-requires g c =
     let here : c.from-2.result < length c.args.self.now.devices.items = omega (arith, at, same) in
     search rules
 
-pub step_from-step-requires-clause-switch : goal.step_from-step-requires-clause-switch
-step_from-step-requires-clause-switch g c =
-    switch_read c.args.self.now.devices.items c.args.node c.index_mut-registers.result.now
-    c.requires.switch
-    (device_read c.args.self.now.devices.items c.args.node c.from-2.result
-    c.requires.switch.device c.index_mut-registers.result.now c.requires.switch.stands
-    c.from-2.ensures c.index_mut-registers.ensures.value)
-
-pub step_from-step-requires-clause-within : goal.step_from-step-requires-clause-within
-step_from-step-requires-clause-within g c =
+pub step_from-requires-clause-within : goal.step_from-requires-clause-within
+step_from-requires-clause-within g c =
     let shows = c.requires.shown.1 in
     let at = slice_get_within c.args.self.now.devices.items c.args.node c.requires.switch.device
     c.requires.switch.stands in
@@ -70,31 +63,38 @@ returns g c = λ s shows sent by.
     let count = shows.count in
     let within : c.index-first.result.now + c.index_mut-registers.result.now.ports
     ≤ length c.args.self.now.ports.items = omega (arith, first, row, count) in
+    let device = c.index_mut-registers.result.now in
+    let step = step_of device
+    (faces_at (own_ports c.args.self.now.ports.items c.index-first.result.now device.ports)) in
     let made = subst
-    (λ (l : List PortState). MadeStep c.index-first.result.now c.index_mut-registers.result.now
-    c.step_from-step.new.registers l c.step_from-step.new.ports c.step_from-step.result)
-    c.deref_mut.ensures.value c.step_from-step.ensures in
+    (λ (l : List PortState). MadeStep c.index-first.result.now device
+    c.step_from.new.registers l c.step_from.new.ports
+    (step_of device (faces_at (own_ports l c.index-first.result.now device.ports))))
+    c.deref_mut.ensures.value c.step_from.ensures.made in
+    let wrote = subst
+    (λ (l : List PortState). Wrote c.args.names.now c.args.node
+    (step_of device (faces_at (own_ports l c.index-first.result.now device.ports)))
+    g.K.Sink.written g.K.Sink.faults c.args.outbox.now c.step_from.new.outbox c.step_from.result)
+    c.deref_mut.ensures.value c.step_from.ensures.wrote in
     did_step c.args.names.now _ _ _ _ s c.args.self.now
-    (with_ports c.args.self.now c.from-2.result c.step_from-step.new.registers
-    c.step_from-step.new.ports)
-    c.args.node c.index-first.result.now
-    c.index_mut-registers.result.now c.step_from-step.new.registers c.step_from-step.result
-    c.write_step.result shows sent by
-    (switch_read c.args.self.now.devices.items c.args.node c.index_mut-registers.result.now
+    (with_ports c.args.self.now c.from-2.result c.step_from.new.registers
+    c.step_from.new.ports)
+    c.args.node c.index-first.result.now device c.step_from.new.registers step
+    c.step_from.result shows sent by
+    (switch_read c.args.self.now.devices.items c.args.node device
     c.requires.switch stands)
     (record {
       stands = stands;
       place = first;
       made = subst
-          (λ (l : List PortState). MadeStep c.index-first.result.now
-          c.index_mut-registers.result.now
-          c.step_from-step.new.registers c.args.self.now.ports.items l c.step_from-step.result)
-          (sym (ports_are c.args.self.now c.index-first.result.now
-          c.index_mut-registers.result.now c.step_from-step.new.registers
-          c.step_from-step.new.ports c.step_from-step.result within made)) made;
-      devices = ap (λ n. slice_set c.args.self.now.devices.items n c.step_from-step.new.registers)
+          (λ (l : List PortState). MadeStep c.index-first.result.now device
+          c.step_from.new.registers c.args.self.now.ports.items l step)
+          (sym (ports_are c.args.self.now c.index-first.result.now device
+          c.step_from.new.registers c.step_from.new.ports step within made)) made;
+      devices = ap (λ n. slice_set c.args.self.now.devices.items n c.step_from.new.registers)
           c.from-2.ensures;
       firsts = refl;
       cables = refl;
+      cable_at = refl;
     })
-    c.write_step.ensures.forms c.write_step.ensures.told c.write_step.ensures.prints
+    wrote.forms wrote.is wrote.prints

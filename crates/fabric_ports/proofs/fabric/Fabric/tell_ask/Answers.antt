@@ -14,7 +14,8 @@ use Rattle.fabric_ports.proofs.fabric.Fabric.tell_ask.Goals as goal
 
 pub send-requires-clause-named : goal.send-requires-clause-named
 send-requires-clause-named g c =
-    end_named c.args.self.now c.args.names.now c.args.host c.requires.named (host_at c.requires.can.2)
+    end_named c.args.self.now c.args.names.now c.args.host c.requires.named
+    (host_at c.requires.can.2)
 
 pub send-requires-clause-shown : goal.send-requires-clause-shown
 send-requires-clause-shown g c =

@@ -1,11 +1,10 @@
 use Rattle.std.proofs.Common.{◌≡◌, ℕ, false, List, refl, ap, ◌∙◌, sym, subst, arith}
 use Rattle.std.proofs.lemmas.Bool.{true≢false}
-use Rattle.maint_registers.specs.Devices.{Device, new_endpoint, new_switch}
+use Rattle.maint_registers.specs.Devices.{new_endpoint, new_switch}
 use Rattle.fabric_script.specs.declared.lines.Line.{Line}
 use Rattle.fabric_script.specs.declared.lines.Line.TheVariants.{Endpoint, Switch}
 use Rattle.fabric_trace.specs.Events.{ArePorts, counts_after}
 use Rattle.fabric_trace.specs.Runs.{set_up}
-use Rattle.fabric_trace.specs.Settings.{with_node}
 use Rattle.fabric_trace.specs.SetUps.{MaySetUp}
 use Rattle.fabric_ports.specs.Plans.{PlansFor, HasPorts, counts_of, with_end_at, is_new}
 use Rattle.fabric_ports.proofs.PlanLaws.{plan-device, plan-link, counts-device, counts-end, port_by_count, ok_from, ok_from_two, ok_from_three}
@@ -17,12 +16,12 @@ old_counts counts (Endpoint name id) old = absurd (true≢false old)
 old_counts counts (Switch name ports) old = absurd (true≢false old)
 old_counts counts _ old = refl
 
-pub switch-requires-clause-least : goal.switch-requires-clause-least
-switch-requires-clause-least c =
+pub add_switch-requires-clause-least : goal.add_switch-requires-clause-least
+add_switch-requires-clause-least c =
     (subst (MaySetUp c.requires.may.net) c.in-Switch.is c.requires.may.may).0
 
-pub switch-requires-clause-most : goal.switch-requires-clause-most
-switch-requires-clause-most c =
+pub add_switch-requires-clause-most : goal.add_switch-requires-clause-most
+add_switch-requires-clause-most c =
     (subst (MaySetUp c.requires.may.net) c.in-Switch.is c.requires.may.may).1
 
 pub add_cable-requires-clause-first : goal.add_cable-requires-clause-first
@@ -38,43 +37,40 @@ add_cable-requires-clause-second c =
 pub returns-in-Endpoint-clause-plans : goal.returns-in-Endpoint-clause-plans
 returns-in-Endpoint-clause-plans c =
     let old = c.args.self.now in
-    let new = c.add_device.new.self in
-    let e = c.add_device.ensures in
-    let one : HasPorts (new_endpoint c.in-Endpoint.id false) = omega arith in
-    ok_from_three c.add_device.result e.devices e.firsts e.ports (λ d f b net is may.
+    let new = c.add_endpoint.new.self in
+    let e = c.add_endpoint.ensures in
+    let device = new_endpoint c.in-Endpoint.id false in
+    let one : HasPorts device = omega arith in
+    ok_from_three c.add_endpoint.result e.devices e.firsts e.ports (λ d f b net is may.
     subst (λ line. PlansFor new (set_up net line)) (sym c.in-Endpoint.is)
-    (subst (λ device. PlansFor new (with_node net device)) c.endpoint.ensures
-    (plan-device old new net c.endpoint.result (subst HasPorts (sym c.endpoint.ensures) one) d f b
-    (ap (λ cables. cables.items) e.cables) is)))
+    (plan-device old new net device one d f b (ap (λ cables. cables.items) e.cables) is))
 
 pub returns-in-Endpoint-clause-counts : goal.returns-in-Endpoint-clause-counts
 returns-in-Endpoint-clause-counts c =
     let old = c.args.self.now.devices.items in
-    let new = c.add_device.new.self.devices.items in
-    ok_from c.add_device.result c.add_device.ensures.devices (λ d.
-    counts-device old new c.endpoint.result 1 d (ap (λ (x : Device). x.ports) c.endpoint.ensures)
+    let new = c.add_endpoint.new.self.devices.items in
+    ok_from c.add_endpoint.result c.add_endpoint.ensures.devices (λ d.
+    counts-device old new (new_endpoint c.in-Endpoint.id false) 1 d refl
     ∙ sym (ap (counts_after (counts_of old)) c.in-Endpoint.is))
 
 pub returns-in-Switch-clause-plans : goal.returns-in-Switch-clause-plans
 returns-in-Switch-clause-plans c =
     let old = c.args.self.now in
-    let new = c.add_device-in-Switch.new.self in
-    let e = c.add_device-in-Switch.ensures in
+    let new = c.add_switch.new.self in
+    let e = c.add_switch.ensures in
+    let device = new_switch c.in-Switch.ports 0 in
     let least = (subst (MaySetUp c.requires.may.net) c.in-Switch.is c.requires.may.may).0 in
-    let some : HasPorts (new_switch c.in-Switch.ports 0) = omega (arith, least) in
-    ok_from_three c.add_device-in-Switch.result e.devices e.firsts e.ports (λ d f b net is may.
+    let some : HasPorts device = omega (arith, least) in
+    ok_from_three c.add_switch.result e.devices e.firsts e.ports (λ d f b net is may.
     subst (λ line. PlansFor new (set_up net line)) (sym c.in-Switch.is)
-    (subst (λ device. PlansFor new (with_node net device)) c.switch.ensures
-    (plan-device old new net c.switch.result (subst HasPorts (sym c.switch.ensures) some) d f b
-    (ap (λ cables. cables.items) e.cables) is)))
+    (plan-device old new net device some d f b (ap (λ cables. cables.items) e.cables) is))
 
 pub returns-in-Switch-clause-counts : goal.returns-in-Switch-clause-counts
 returns-in-Switch-clause-counts c =
     let old = c.args.self.now.devices.items in
-    let new = c.add_device-in-Switch.new.self.devices.items in
-    ok_from c.add_device-in-Switch.result c.add_device-in-Switch.ensures.devices (λ d.
-    counts-device old new c.switch.result c.in-Switch.ports d
-    (ap (λ (x : Device). x.ports) c.switch.ensures)
+    let new = c.add_switch.new.self.devices.items in
+    ok_from c.add_switch.result c.add_switch.ensures.devices (λ d.
+    counts-device old new (new_switch c.in-Switch.ports 0) c.in-Switch.ports d refl
     ∙ sym (ap (counts_after (counts_of old)) c.in-Switch.is))
 
 pub returns-in-Link-clause-plans : goal.returns-in-Link-clause-plans

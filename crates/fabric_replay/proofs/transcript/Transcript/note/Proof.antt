@@ -77,7 +77,8 @@ module _ {M : Type 1} {𝓤 : Ura M} (𝓛 : Logic 𝓤) (at_mem : Memory → SP
       tt,
     )
 
-    exits : ent 𝓤 (sep 𝓤 (A.obs γ ((T.the_row).coded.code h')) (sep 𝓤 (A.bor κ (Body (mem T.the_row) b
+    exits : ent 𝓤
+        (sep 𝓤 (A.obs γ ((T.the_row).coded.code h')) (sep 𝓤 (A.bor κ (Body (mem T.the_row) b
         o γ)) (sep 𝓤 (A.lft κ q) (sep 𝓤 (types.Logic.sem 𝓛 rest) (sep 𝓤 (A.lft κ' q') (emp 𝓤))))))
         (Post vunit)
     exits =
@@ -90,14 +91,16 @@ module _ {M : Type 1} {𝓤 : Ura M} (𝓛 : Logic 𝓤) (at_mem : Memory → SP
         feq_i ! (List Val) (vunit ∷ []) (vunit ∷ []) refl $ move ! (1 ∷ 0 ∷ []) $ done !
 
     module _ (C : Calls 𝓤 H) (Λ : Loops 𝓤 H) where
-      walk : length s.now < 2 ^ 64 → ent 𝓤 (on_entry 𝓛 it.signature (κ, (κ', tt)) (q, (q', tt)) x at)
+      walk : length s.now < 2 ^ 64
+          → ent 𝓤 (on_entry 𝓛 it.signature (κ, (κ', tt)) (q, (q', tt)) x at)
           (WpFn 𝓤 H C Λ code.function (vptr b o ∷ slice_val s.ref_ptr (length s.now) ∷ []) Post)
       walk fs =
           qed 𝓛 ((‵ (flft κ q) ⊛ (‵ (flft κ' q') ⊛ ‵ ftrue)) ∷ ‵ (owns (MutRef (named 0) κ
           T.the_row ∷ ShrSlice (named 1) κ' u8 ∷ []) x at) ∷ []) ∵ split ! $ move ! (2 ∷ []) $
           fsplit ! $ fsplit3 ! $ drop ! $ move ! (0 ∷ 1 ∷ 3 ∷ []) $
           enter ! C Λ code.function (vptr b o ∷ slice_val s.ref_ptr (length s.now) ∷ []) _ $
-          alloc_all ! (λ l. pass_all ! refl ((tt, tt), ((tt, (tt, (record { fits = fs }, tt))), tt)) $
+          alloc_all !
+          (λ l. pass_all ! refl ((tt, tt), ((tt, (tt, (record { fits = fs }, tt))), tt)) $
           move ! (0 ∷ 1 ∷ 2 ∷ []) $ opens ! tt T.the_row {h = h} b o (λ vs.
           sets ! (of_opd ! (unit_lit !)) refl (tt, tt) $
           move ! (1 ∷ []) $ use1 𝓛 (‵ ((T.the_row).own_val h' vs)) (id⊢ 𝓤 _) $ move ! (1 ∷ 0 ∷ []) $

@@ -1,25 +1,19 @@
-use Rattle.std.proofs.Common.{None, refl, subst}
+use Rattle.std.proofs.Common.{None, refl}
 use Rattle.rio_chars.specs.declared.plain.PlainSink.{PlainSink}
 use Rattle.fabric_trace.specs.Runs.{start}
-use Rattle.fabric_ports.specs.Events.{EventEnds}
-use Rattle.io_rounds.proofs.EventLaws.{follows, nothing_unsent, acted}
+use Rattle.io_rounds.proofs.EventLaws.{follows, only_memory, acted}
 use Rattle.io_rounds.proofs.course.Course.act.Goals as goal
 
 pub event-requires : goal.event-requires
 event-requires c =
     record { may = follows c.args.names.now c.args.self.now c.args.line.now c.requires }
 
-pub unreachable-requires : goal.unreachable-requires
-unreachable-requires c =
-    let names = c.args.names.now in
-    let line = c.args.line.now in
+pub want_of-requires : goal.want_of-requires
+want_of-requires c =
     let may = c.requires in
-    nothing_unsent names c.args.self.now line (λ (s : PlainSink). None) (λ (s : PlainSink). 0)
-    c.args.self.now.trace c.event.new.outbox _ _ may
-    (subst (λ e. EventEnds line names (λ (s : PlainSink). None) (λ (s : PlainSink). 0)
-    c.args.self.now.trace c.event.new.outbox (start may.script) may.trace e)
-    c.in-Err-Undetected.field-0-is
-    (c.in-Err-Undetected.ensures.ended (start may.script) may.trace may.holds.stands))
+    only_memory c.args.names.now c.args.self.now c.args.line.now (λ (s : PlainSink). None)
+    (λ (s : PlainSink). 0) c.args.self.now.trace c.event.new.outbox c.in-Err.end may
+    (c.in-Err.ensures.ended (start may.script) may.trace may.holds.stands)
 
 pub returns-in-Ok : goal.returns-in-Ok
 returns-in-Ok c = λ script events trace stations holds.
