@@ -91,20 +91,29 @@ impl Capture {
     fn put_interfaces(&mut self, set_up: &SetUp, node: u8, ports: u8, out: &mut Text) {
         for port in 0..ports {
             let port = PortRef { node, port };
-            if let Some(place) = self.places.get_mut(port) {
-                *place = Some(self.count);
-                self.count = self.count.saturating_add(1);
-            }
-            self.block.clear();
-            put_long(&mut self.block, USER0);
-            put_long(&mut self.block, 0);
-            self.word.clear();
-            put_port(&mut self.word, set_up, port);
-            put_option(&mut self.block, NAME, self.word.as_slice());
-            put_option(&mut self.block, UNIT, &[0]);
-            put_long(&mut self.block, 0);
-            put_block(out, INTERFACE, self.block.as_slice());
+            self.number(port);
+            self.put_interface(set_up, port, out);
         }
+    }
+
+    /// The next interface is that of a port.
+    fn number(&mut self, port: PortRef) {
+        if let Some(place) = self.places.get_mut(port) {
+            *place = Some(self.count);
+            self.count = self.count.saturating_add(1);
+        }
+    }
+
+    /// A port as an interface.
+    fn put_interface(&mut self, set_up: &SetUp, port: PortRef, out: &mut Text) {
+        self.name(set_up, b"", port);
+        self.block.clear();
+        put_long(&mut self.block, USER0);
+        put_long(&mut self.block, 0);
+        put_option(&mut self.block, NAME, self.word.as_slice());
+        put_option(&mut self.block, UNIT, &[0]);
+        put_long(&mut self.block, 0);
+        put_block(out, INTERFACE, self.block.as_slice());
     }
 
     /// The packets of a step.
@@ -118,14 +127,24 @@ impl Capture {
                 self.put_at(seen, b"answer, the request, ", *port, request, out);
                 self.put_at(seen, b"answer, the response, ", *port, response, out);
             }
-            Step::Move(from, to, packet) => {
-                self.name(seen.set_up, b"move ", *from);
-                self.word.put(b" ");
-                put_port(&mut self.word, seen.set_up, *to);
-                self.put_packet(seen.number, *from, packet, out);
-            }
+            Step::Move(from, to, packet) => self.put_move(seen, *from, *to, packet, out),
             Step::Free(..) => {}
         }
+    }
+
+    /// A packet that goes from one port to another.
+    fn put_move(
+        &mut self,
+        seen: &Seen<'_>,
+        from: PortRef,
+        to: PortRef,
+        packet: &Packet,
+        out: &mut Text,
+    ) {
+        self.name(seen.set_up, b"move ", from);
+        self.word.put(b" ");
+        put_port(&mut self.word, seen.set_up, to);
+        self.put_packet(seen.number, from, packet, out);
     }
 
     /// A packet at an endpoint.
@@ -170,11 +189,10 @@ impl Capture {
         };
         let bytes = packet.bytes();
         self.block.clear();
-        put_long(&mut self.block, *place);
-        put_long(&mut self.block, 0);
-        put_long(&mut self.block, number);
-        put_long(&mut self.block, bytes.len() as u32);
-        put_long(&mut self.block, bytes.len() as u32);
+        let length = bytes.len() as u32;
+        for word in [*place, 0, number, length, length] {
+            put_long(&mut self.block, word);
+        }
         self.block.put(bytes);
         put_option(&mut self.block, COMMENT, self.word.as_slice());
         put_long(&mut self.block, 0);

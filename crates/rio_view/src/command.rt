@@ -29,6 +29,23 @@ pub enum Command {
     Help,
 }
 
+/// All events, and what comes before the first.
+const EVERYTHING: Range = Range {
+    from: 0,
+    to: u32::MAX,
+};
+
+/// What single words ask for.
+const COMMANDS: [(&[u8], Command); 7] = [
+    (b"words", Command::Words { flow: false }),
+    (b"counts", Command::Counts),
+    (b"ladder", Command::Ladder(EVERYTHING)),
+    (b"wave", Command::Wave),
+    (b"packets", Command::Packets),
+    (b"coverage", Command::Coverage),
+    (b"--help", Command::Help),
+];
+
 /// What the words ask for, if the program knows them.
 pub(crate) fn command_of(words: &[String]) -> Option<Command> {
     match words {
@@ -41,16 +58,12 @@ pub(crate) fn command_of(words: &[String]) -> Option<Command> {
 
 /// One word.
 fn single(word: &[u8]) -> Option<Command> {
-    match word {
-        b"words" => Some(Command::Words { flow: false }),
-        b"counts" => Some(Command::Counts),
-        b"ladder" => Some(Command::Ladder(everything())),
-        b"wave" => Some(Command::Wave),
-        b"packets" => Some(Command::Packets),
-        b"coverage" => Some(Command::Coverage),
-        b"--help" => Some(Command::Help),
-        _ => None,
+    for (name, command) in &COMMANDS {
+        if word == *name {
+            return Some(*command);
+        }
     }
+    None
 }
 
 /// A word and an option without a number.
@@ -64,22 +77,17 @@ fn with_option(word: &[u8], option: &[u8]) -> Option<Command> {
 
 /// The options of a ladder: the first event, the last event, or both.
 fn ladder_of(options: &[String]) -> Option<Command> {
-    let all = everything();
-    match options {
-        [name, number] => Some(Command::Ladder(bounded(all, name, number)?)),
-        [name, number, other, last] if name.as_str() != other.as_str() => {
-            let range = bounded(all, name, number)?;
-            Some(Command::Ladder(bounded(range, other, last)?))
-        }
-        _ => None,
-    }
+    Some(Command::Ladder(range_of(options)?))
 }
 
-/// All events, and what comes before the first.
-fn everything() -> Range {
-    Range {
-        from: 0,
-        to: u32::MAX,
+/// The range that options name.
+fn range_of(options: &[String]) -> Option<Range> {
+    match options {
+        [name, number] => bounded(EVERYTHING, name, number),
+        [name, number, other, last] if name.as_str() != other.as_str() => {
+            bounded(bounded(EVERYTHING, name, number)?, other, last)
+        }
+        _ => None,
     }
 }
 

@@ -234,6 +234,13 @@ impl Row<'_> {
         self.out.put(b" ");
         self.out.put_number_right(width, number);
     }
+
+    /// Puts the next numbers.
+    fn put_all(&mut self, numbers: &[u64]) {
+        for number in numbers {
+            self.put(*number);
+        }
+    }
 }
 
 /// What a port did.
@@ -253,13 +260,31 @@ fn put_done(sums: &Sums, row: &mut Row<'_>) {
 
 /// The symbols that a port sent, by what they tell the sender and the receiver of packets.
 fn put_symbols(sums: &Sums, row: &mut Row<'_>) {
-    for at in [0, 1, 2, 4, 6] {
-        row.put(sums.senders[at]);
-    }
-    row.put(sum(&[sums.senders[3], sums.senders[5], sums.senders[7]]));
-    for at in [0, 1, 2, 3, 4, 5, 7, 6] {
-        row.put(sums.receivers[at]);
-    }
+    let [
+        accepted,
+        retry,
+        refused,
+        third,
+        status,
+        fifth,
+        response,
+        seventh,
+    ] = sums.senders;
+    row.put_all(&[accepted, retry, refused, status, response]);
+    row.put(sum(&[third, fifth, seventh]));
+    let [
+        start,
+        stomp,
+        end,
+        restart,
+        request,
+        multicast,
+        reserved,
+        nop,
+    ] = sums.receivers;
+    row.put_all(&[
+        start, stomp, end, restart, request, multicast, nop, reserved,
+    ]);
     row.put(sums.bad);
 }
 

@@ -1,17 +1,18 @@
 //! Which entries of the step tables the ports of a trace met.
+ghost use Rattle.std.specs.Prelude.{◌≤◌};
 
-use crate::entries::{COUNT, ENTRIES};
+use crate::entries::{COUNT, entries};
 use crate::fabric::{Ports, port_of};
 use crate::heard::Ear;
 use crate::reading::ViewEnd;
-use crate::shadow::{Met, Shadow};
+use crate::shadow::{Came, Met, Shadow};
 use crate::status::Status;
 use crate::text::Text;
 use crate::view::{Seen, View};
 use fabric_script::{Line, PortRef, SetUp};
 use link_port::Port;
-use rio_packets::Packet;
-use std::alloc::Global;
+use rio_chars::NoMemory;
+use std::alloc::{AllocError, Global};
 use trace_check::{Step, TraceLine};
 
 /// The receive buffers of a port of which no line says another number.
@@ -45,60 +46,30 @@ impl Coverage {
 
 impl View for Coverage {
     fn begin(&mut self, set_up: &SetUp, _: &mut Text) -> Result<(), ViewEnd> {
-        let nodes = set_up.names().len();
-        self.shadows.fill(nodes)?;
-        self.buffers.fill(nodes)?;
-        self.tells.fill(nodes)?;
+        self.fill(set_up.names().len())?;
         for line in set_up.lines() {
             self.set_up(&line.line);
         }
         for line in set_up.lines() {
-            if let Line::Link { a, b } = &line.line {
-                self.add_port(*a)?;
-                self.add_port(*b)?;
-            }
+            self.add_ports(&line.line)?;
         }
         Ok(())
     }
 
     fn take(&mut self, seen: &Seen<'_>, _: &mut Text) -> Result<(), ViewEnd> {
-        match seen.line {
-            TraceLine::Sent(port, chars) => {
-                if let Some(Some(shadow)) = self.shadows.get_mut(*port) {
-                    shadow.send(chars.as_slice(), &mut self.met)?;
-                }
+        if let Some((port, came)) = came_of(seen.line) {
+            if let Some(Some(shadow)) = self.shadows.get_mut(port) {
+                shadow.follow(&came, &mut self.met)?;
             }
-            TraceLine::Got(port, chars) => {
-                if let Some(Some(shadow)) = self.shadows.get_mut(*port) {
-                    shadow.get(chars.as_slice(), &mut self.met);
-                }
-            }
-            TraceLine::Fired(port) => {
-                if let Some(Some(shadow)) = self.shadows.get_mut(*port) {
-                    shadow.fire(&mut self.met);
-                }
-            }
-            TraceLine::Stepped(step) => self.step(step),
-            TraceLine::Begun(_)
-            | TraceLine::Lacked(_)
-            | TraceLine::Ended
-            | TraceLine::Undetected(..) => {}
         }
         Ok(())
     }
 
     fn end(&mut self, _: &SetUp, out: &mut Text) -> Result<(), ViewEnd> {
-        let mut missed = 0u64;
-        for (count, entry) in self.met.counts.iter().zip(ENTRIES.iter()) {
-            out.put_number_right(WIDE, *count);
-            out.put(b"  ");
-            out.put(entry);
-            out.put(b"\n");
-            if *count == 0 {
-                missed = missed.saturating_add(1);
-            }
+        for (count, entry) in self.met.counts.iter().zip(entries().iter()) {
+            put_entry(out, *count, entry);
         }
-        out.put_number((COUNT as u64).saturating_sub(missed));
+        out.put_number(self.met.entries());
         out.put(b" of ");
         out.put_number(COUNT as u64);
         out.put(b" entries were met\n");
@@ -106,7 +77,22 @@ impl View for Coverage {
     }
 }
 
+/// How often an entry was met, and its words.
+fn put_entry(out: &mut Text, count: u64, entry: &[u8]) {
+    out.put_number_right(WIDE, count);
+    out.put(b"  ");
+    out.put(entry);
+    out.put(b"\n");
+}
+
 impl Coverage {
+    /// Keeps something for each port of so many nodes.
+    fn fill(&mut self, nodes: usize) -> Result<(), AllocError> {
+        self.shadows.fill(nodes)?;
+        self.buffers.fill(nodes)?;
+        self.tells.fill(nodes)
+    }
+
     /// Keeps what a line says of a port.
     fn set_up(&mut self, line: &Line) {
         match line {
@@ -124,17 +110,18 @@ impl Coverage {
         }
     }
 
+    /// Ports that follow the trace, if the line has a link.
+    fn add_ports(&mut self, line: &Line) -> Result<(), ViewEnd> {
+        if let Line::Link { a, b } = line {
+            self.add_port(*a)?;
+            self.add_port(*b)?;
+        }
+        Ok(())
+    }
+
     /// A port that follows the trace.
     fn add_port(&mut self, port: PortRef) -> Result<(), ViewEnd> {
-        let buffers = match self.buffers.get(port) {
-            Some(Some(buffers)) if 4 <= *buffers && *buffers <= 30 => *buffers,
-            _ => BUFFERS,
-        };
-        let made = match self.tells.get(port) {
-            Some(true) => Port::telling(self.alloc, buffers),
-            _ => Port::new(self.alloc, buffers),
-        };
-        let Ok(made) = made else {
+        let Ok(made) = self.make_port(port) else {
             return Err(ViewEnd::Ended(Status::NoMemory));
         };
         if let Some(shadow) = self.shadows.get_mut(port) {
@@ -146,20 +133,46 @@ impl Coverage {
         Ok(())
     }
 
-    /// A packet that was held goes on.
-    fn step(&mut self, step: &Step) {
-        match step {
-            Step::Leave(node, packet) => self.give(port_of(*node), packet),
-            Step::Move(port, _, packet) | Step::Drop(port, packet) => self.give(*port, packet),
-            Step::Answer(port, packet, _) => self.give(*port, packet),
-            Step::Hold(..) | Step::Free(..) | Step::Take(..) => {}
+    /// A port at rest, as the set-up lines have it.
+    fn make_port(&self, port: PortRef) -> Result<Port, NoMemory> {
+        let buffers = self.buffers_of(port);
+        match self.tells.get(port) {
+            Some(true) => Port::telling(self.alloc, buffers),
+            _ => Port::new(self.alloc, buffers),
         }
     }
 
-    /// A packet that a port held goes on.
-    fn give(&mut self, port: PortRef, packet: &Packet) {
-        if let Some(Some(shadow)) = self.shadows.get_mut(port) {
-            shadow.give(packet);
+    /// The receive buffers of a port.
+    fn buffers_of(&self, port: PortRef) -> u8
+        ensures least { 4 ≤ result }
+        ensures most { result ≤ 30 }
+    {
+        match self.buffers.get(port) {
+            Some(Some(buffers)) if 4 <= *buffers && *buffers <= 30 => *buffers,
+            _ => BUFFERS,
         }
+    }
+}
+
+/// What a line says that comes to a port, and to which.
+fn came_of(line: &TraceLine) -> Option<(PortRef, Came<'_>)> {
+    match line {
+        TraceLine::Sent(port, chars) => Some((*port, Came::Sent(chars.as_slice()))),
+        TraceLine::Got(port, chars) => Some((*port, Came::Got(chars.as_slice()))),
+        TraceLine::Fired(port) => Some((*port, Came::Fired)),
+        TraceLine::Stepped(step) => given_by(step),
+        TraceLine::Begun(_) | TraceLine::Lacked(_) | TraceLine::Ended | TraceLine::Undetected(..) =>
+            None,
+    }
+}
+
+/// The packet that goes on by a step, and the port that held it.
+fn given_by(step: &Step) -> Option<(PortRef, Came<'_>)> {
+    match step {
+        Step::Leave(node, packet) => Some((port_of(*node), Came::Given(packet))),
+        Step::Move(port, _, packet) | Step::Drop(port, packet) | Step::Answer(port, packet, _) => {
+            Some((*port, Came::Given(packet)))
+        }
+        Step::Hold(..) | Step::Free(..) | Step::Take(..) => None,
     }
 }

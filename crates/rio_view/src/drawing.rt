@@ -7,7 +7,7 @@ use crate::packets::{Asked, put_sent_packet};
 use crate::picture::{Arrow, ArrowKind, Picture, Row};
 use crate::symbols::{bad_words, is_delimiter, put_brief_symbol};
 use crate::text::Text;
-use rio_chars::{Char, char_text};
+use rio_chars::Char;
 use rio_packets::{Cause, Packet};
 use rio_symbols::Symbol;
 use rio_symbols::stype0::{LINK_RESPONSE, PACKET_NOT_ACCEPTED, PACKET_RETRY};
@@ -57,9 +57,7 @@ impl Draws<'_> {
             return Ok(());
         };
         for c in chars {
-            arrow.count = arrow.count.saturating_add(1);
-            arrow.tip.put(b" ");
-            arrow.tip.put(&char_text(*c));
+            arrow.add_char(*c);
         }
         Ok(())
     }
@@ -79,8 +77,14 @@ impl Draws<'_> {
         let (before, own) = chars.split_at(chars.len().saturating_sub(SYMBOL));
         self.lay(before, self.lane.open)?;
         if is_delimiter(symbol) && symbol.s1 == START_OF_PACKET {
-            return self.begin_packet(own);
+            self.begin_packet(own)
+        } else {
+            self.draw_own(own, symbol)
         }
+    }
+
+    /// The characters of a symbol that does not begin a packet.
+    fn draw_own(&mut self, own: &[Char], symbol: &Symbol) -> Result<(), AllocError> {
         if is_delimiter(symbol) && self.lane.open.is_some() {
             self.lay(own, self.lane.open)?;
         } else {
@@ -175,9 +179,7 @@ impl Hear for Takes<'_> {
             Heard::Symbol(symbol) => self.obey(symbol, changed),
             Heard::Packet(ack, packet, symbol) => {
                 if changed {
-                    let mut label = self.label();
-                    put_sent_packet(&mut label, self.asked, *ack, packet);
-                    self.notes.push((label, true))?;
+                    self.note_packet(*ack, packet)?;
                 }
                 self.obey(symbol, false)
             }
@@ -196,6 +198,14 @@ impl Takes<'_> {
         let mut label = Text::new(self.alloc);
         label.put(b"got ");
         label
+    }
+
+    /// A packet that was changed on its way.
+    fn note_packet(&mut self, ack: u8, packet: &Packet) -> Result<(), AllocError> {
+        let mut label = self.label();
+        put_sent_packet(&mut label, self.asked, ack, packet);
+        self.notes.push((label, true))?;
+        Ok(())
     }
 
     /// What is no packet or symbol.

@@ -10,7 +10,7 @@ use rio_symbols::{Symbol, cmd};
 pub(crate) const COUNT: usize = 43;
 
 /// The entries, in words: in which state, what comes, and what follows.
-pub(crate) const ENTRIES: [&[u8]; COUNT] = [
+const ENTRIES: [&[u8]; COUNT] = [
     b"output OK: packet-accepted of the oldest packet: OK",
     b"output OK: another packet-accepted: error-stopped",
     b"output OK: packet-retry of the oldest packet: retry-stopped",
@@ -55,6 +55,11 @@ pub(crate) const ENTRIES: [&[u8]; COUNT] = [
     b"any input: another stype1: nothing",
     b"any input: link-request with another cmd: nothing",
 ];
+
+/// The words of the entries.
+pub(crate) fn entries() -> &'static [&'static [u8]] {
+    &ENTRIES
+}
 
 /// The entry of a symbol in the output half, by the states before and behind it.
 pub(crate) fn of_sender(before: OutKind, asked: bool, s0: u8, behind: OutKind) -> usize {

@@ -12,6 +12,7 @@ use crate::text::Text;
 use crate::view::{Seen, View};
 use crate::words::put_event;
 use fabric_script::{Line, PortRef, SetUp};
+use link_model::Event;
 use rio_chars::Char;
 use rio_packets::Packet;
 use std::alloc::{AllocError, Global};
@@ -27,6 +28,18 @@ pub(crate) struct Lane {
     pub(crate) asks: bool,
     /// Where the lifeline is, and whether it is the left one of its link.
     pub(crate) life: Option<(u32, bool)>,
+}
+
+impl Lane {
+    /// Nothing stands on the wire.
+    fn new(alloc: Global) -> Lane {
+        Lane {
+            wire: Cells::new(alloc),
+            open: None,
+            asks: false,
+            life: None,
+        }
+    }
 }
 
 /// A change of what stands on the wire of a port.
@@ -77,12 +90,7 @@ impl View for Ladder {
         self.sending.fill(nodes)?;
         self.taking.fill(nodes)?;
         for _ in 0..nodes.saturating_mul(16) {
-            self.lanes.push(Lane {
-                wire: Cells::new(self.alloc),
-                open: None,
-                asks: false,
-                life: None,
-            })?;
+            self.lanes.push(Lane::new(self.alloc))?;
         }
         self.links = links_of(self.alloc, set_up)?;
         self.place_lives(set_up)?;
@@ -91,21 +99,7 @@ impl View for Ladder {
 
     fn take(&mut self, seen: &Seen<'_>, _: &mut Text) -> Result<(), ViewEnd> {
         self.make_edit(seen.line)?;
-        match seen.line {
-            TraceLine::Begun(line) => self.begin_event(seen, line)?,
-            TraceLine::Sent(port, chars) => self.draw_sent(*port, chars.as_slice())?,
-            TraceLine::Got(port, chars) => self.draw_got(*port, chars.as_slice())?,
-            TraceLine::Stepped(step) => self.draw_step(step)?,
-            TraceLine::Fired(port) => self.mark(*port, b"time-out", true, None)?,
-            TraceLine::Lacked(lack) => self.draw_lack(*lack),
-            TraceLine::Undetected(_, port, event) => {
-                let mut label = Text::new(self.alloc);
-                label.put(b"undetected: ");
-                put_event(&mut label, &mut self.asked, event);
-                self.mark(*port, label.as_slice(), true, None)?;
-            }
-            TraceLine::Ended => {}
-        }
+        self.draw_line(seen)?;
         Ok(())
     }
 
@@ -119,6 +113,23 @@ impl Ladder {
     /// Whether the event is drawn.
     fn is_shown(&self) -> bool {
         self.range.from <= self.event && self.event <= self.range.to
+    }
+
+    /// Draws what a line says.
+    fn draw_line(&mut self, seen: &Seen<'_>) -> Result<(), AllocError> {
+        match seen.line {
+            TraceLine::Begun(line) => self.begin_event(seen, line),
+            TraceLine::Sent(port, chars) => self.draw_sent(*port, chars.as_slice()),
+            TraceLine::Got(port, chars) => self.draw_got(*port, chars.as_slice()),
+            TraceLine::Stepped(step) => self.draw_step(step),
+            TraceLine::Fired(port) => self.mark(*port, b"time-out", true, None),
+            TraceLine::Undetected(_, port, event) => self.mark_undetected(*port, event),
+            TraceLine::Lacked(lack) => {
+                self.draw_lack(*lack);
+                Ok(())
+            }
+            TraceLine::Ended => Ok(()),
+        }
     }
 
     /// A lifeline for each port of each link.
@@ -141,12 +152,7 @@ impl Ladder {
     /// An event begins: its band, and the edit that it makes.
     fn begin_event(&mut self, seen: &Seen<'_>, line: &Line) -> Result<(), AllocError> {
         self.event = self.event.saturating_add(1);
-        self.pending = match line {
-            Line::Alter { port, place, .. } => Some((*port, Edit::Alter(*place))),
-            Line::Insert { port, place, .. } => Some((*port, Edit::Insert(*place))),
-            Line::Erase { port, place, n } => Some((*port, Edit::Erase(*place, *n))),
-            _ => None,
-        };
+        self.pending = edit_of(line);
         if self.is_shown() {
             let mut text = Text::new(self.alloc);
             text.put_number(u64::from(self.event));
@@ -165,6 +171,11 @@ impl Ladder {
         if let TraceLine::Lacked(Lack::Short) = line {
             return Ok(());
         }
+        self.edit(port, edit)
+    }
+
+    /// Makes an edit.
+    fn edit(&mut self, port: PortRef, edit: Edit) -> Result<(), AllocError> {
         let Some(lane) = self.lanes.get_mut(port) else {
             return Ok(());
         };
@@ -227,21 +238,33 @@ impl Ladder {
             return Ok(());
         };
         let mut asks = self.lanes.get(port).is_some_and(|lane| lane.asks);
+        self.take_from(port, peer, chars, &mut asks, notes)?;
+        if let Some(lane) = self.lanes.get_mut(port) {
+            lane.asks = asks;
+        }
+        Ok(())
+    }
+
+    /// The same, from the wire of this peer. It is told whether the port asks and has no answer.
+    fn take_from(
+        &mut self,
+        port: PortRef,
+        peer: PortRef,
+        chars: &[Char],
+        asks: &mut bool,
+        notes: &mut Vec<(Text, bool)>,
+    ) -> Result<(), AllocError> {
         let (Some(ear), Some(lane)) = (self.taking.get_mut(port), self.lanes.get_mut(peer)) else {
             return Ok(());
         };
         let mut takes = Takes {
             wire: &mut lane.wire,
-            asks: &mut asks,
+            asks,
             asked: &mut self.asked,
             notes,
             alloc: self.alloc,
         };
-        listen(ear, chars, &mut takes)?;
-        if let Some(lane) = self.lanes.get_mut(port) {
-            lane.asks = asks;
-        }
-        Ok(())
+        listen(ear, chars, &mut takes)
     }
 
     /// Where the lifeline of a port is, or 0 if it has none.
@@ -253,6 +276,14 @@ impl Ladder {
             },
             None => 0,
         }
+    }
+
+    /// A mark for what a port did not detect.
+    fn mark_undetected(&mut self, port: PortRef, event: &Event) -> Result<(), AllocError> {
+        let mut label = Text::new(self.alloc);
+        label.put(b"undetected: ");
+        put_event(&mut label, &mut self.asked, event);
+        self.mark(port, label.as_slice(), true, None)
     }
 
     /// A step of a packet.
@@ -338,5 +369,15 @@ impl Ladder {
         put_packet(tip, &mut self.asked, packet);
         tip.put(b" ");
         tip.put_hex(packet.bytes());
+    }
+}
+
+/// The edit that an event makes, and on the wire of which port.
+fn edit_of(line: &Line) -> Option<(PortRef, Edit)> {
+    match line {
+        Line::Alter { port, place, .. } => Some((*port, Edit::Alter(*place))),
+        Line::Insert { port, place, .. } => Some((*port, Edit::Insert(*place))),
+        Line::Erase { port, place, n } => Some((*port, Edit::Erase(*place, *n))),
+        _ => None,
     }
 }

@@ -74,21 +74,37 @@ fn place_of(large: bool, source: u16, tid: u8) -> usize {
 /// What a packet says, with its ackID in front if it has one.
 pub(crate) fn put_packet(out: &mut Text, asked: &mut Asked, packet: &Packet) {
     asked.note(packet);
-    let (Some(source), Some(dest)) = (packet.source(), packet.dest()) else {
-        out.put(b"priority ");
-        out.put_number(u64::from(packet.prio()));
+    if let (Some(source), Some(dest)) = (packet.source(), packet.dest()) {
+        put_ids(out, packet, source, dest);
+        put_priority(out, packet);
+        out.put(b", ");
+        put_body(out, asked, packet);
+    } else {
+        put_priority(out, packet);
         out.put(b", IDs of another width");
-        return;
-    };
+    }
+}
+
+/// The IDs of a packet.
+fn put_ids(out: &mut Text, packet: &Packet, source: u16, dest: u16) {
     out.put_number(u64::from(source));
     out.put(b" to ");
     out.put_number(u64::from(dest));
-    if packet.tt() == LARGE {
-        out.put(b" with 16-bit IDs");
-    }
-    out.put(b", priority ");
+    out.put(if packet.tt() == LARGE {
+        b" with 16-bit IDs, "
+    } else {
+        b", "
+    });
+}
+
+/// The priority of a packet.
+fn put_priority(out: &mut Text, packet: &Packet) {
+    out.put(b"priority ");
     out.put_number(u64::from(packet.prio()));
-    out.put(b", ");
+}
+
+/// What a packet asks for, answers or has.
+fn put_body(out: &mut Text, asked: &Asked, packet: &Packet) {
     if packet.hop().is_some() {
         put_maintenance(out, asked, packet);
     } else {

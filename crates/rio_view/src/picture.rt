@@ -1,6 +1,7 @@
 //! The rows of a ladder, and how they are drawn in SVG.
 
 use crate::text::Text;
+use rio_chars::{Char, char_text};
 use std::alloc::{AllocError, Global};
 
 /// How high a row is.
@@ -174,11 +175,7 @@ impl Picture {
 
     /// The whole picture.
     pub(crate) fn draw(&self, out: &mut Text) {
-        let mut wide = MARGIN;
-        for (at, _) in &self.lives {
-            wide = wide.max(*at);
-        }
-        let wide = u64::from(wide.saturating_add(MARGIN));
+        let wide = self.width();
         let high = TOP + HIGH * self.rows.len().min(1_000_000_000) as u64 + HIGH;
         draw_head(out, wide, high);
         for (at, name) in &self.lives {
@@ -186,13 +183,29 @@ impl Picture {
         }
         for (number, row) in self.rows.iter().enumerate() {
             let at = TOP + HIGH * number.min(1_000_000_000) as u64;
-            match row {
-                Row::Band(text, edit) => draw_band(out, wide, at, text, *edit),
-                Row::Arrow(arrow) => arrow.draw(out, at + HIGH / 2 + 6),
-                Row::Mark(mark) => mark.draw(out, at + HIGH / 2),
-            }
+            row.draw(out, wide, at);
         }
         out.put(b"</svg>\n");
+    }
+
+    /// How wide the picture is.
+    fn width(&self) -> u64 {
+        let mut last = MARGIN;
+        for (at, _) in &self.lives {
+            last = last.max(*at);
+        }
+        u64::from(last.saturating_add(MARGIN))
+    }
+}
+
+impl Row {
+    /// The row, from this height on.
+    fn draw(&self, out: &mut Text, wide: u64, at: u64) {
+        match self {
+            Row::Band(text, edit) => draw_band(out, wide, at, text, *edit),
+            Row::Arrow(arrow) => arrow.draw(out, at.saturating_add(HIGH / 2 + 6)),
+            Row::Mark(mark) => mark.draw(out, at.saturating_add(HIGH / 2)),
+        }
     }
 }
 
@@ -258,6 +271,13 @@ impl Arrow {
         let above = at.saturating_sub(4);
         put_text(out, b"label", (from + to) / 2, above, self.label.as_slice());
         out.put(b"</g>\n");
+    }
+
+    /// A character more.
+    pub(crate) fn add_char(&mut self, c: Char) {
+        self.count = self.count.saturating_add(1);
+        self.tip.put(b" ");
+        self.tip.put(&char_text(c));
     }
 
     /// Whether all its characters were lost.

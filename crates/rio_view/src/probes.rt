@@ -190,6 +190,17 @@ impl Hear for Completed {
     }
 }
 
+/// What a step changes at a port.
+#[derive(Clone, Copy)]
+pub(crate) enum Change {
+    /// A packet is held.
+    Hold,
+    /// A packet that was held goes on.
+    Give,
+    /// A packet is freed.
+    Free,
+}
+
 /// The signals of a port.
 #[derive(Default, Drop)]
 pub(crate) struct Station {
@@ -292,22 +303,17 @@ impl Station {
         self.taking.show(None, pen);
     }
 
-    /// A packet is held.
-    pub(crate) fn hold(&mut self, pen: &mut Pen<'_>) {
-        self.held = self.held.saturating_add(1);
+    /// A step changes what the port has.
+    pub(crate) fn change(&mut self, change: Change, pen: &mut Pen<'_>) {
+        match change {
+            Change::Hold => self.held = self.held.saturating_add(1),
+            Change::Give => self.held = self.held.saturating_sub(1),
+            Change::Free => {
+                self.frees = self.frees.saturating_add(1);
+                return self.put_outstanding(pen);
+            }
+        }
         self.put_held(pen);
-    }
-
-    /// A packet that was held goes on.
-    pub(crate) fn give(&mut self, pen: &mut Pen<'_>) {
-        self.held = self.held.saturating_sub(1);
-        self.put_held(pen);
-    }
-
-    /// A packet is freed.
-    pub(crate) fn free(&mut self, pen: &mut Pen<'_>) {
-        self.frees = self.frees.saturating_add(1);
-        self.put_outstanding(pen);
     }
 
     /// The time-out fires.

@@ -1,7 +1,7 @@
 //! The whole program, but for where its words and its streams come from.
 
 use crate::capture::Capture;
-use crate::command::{Command, command_of};
+use crate::command::{Command, Range, command_of};
 use crate::counts::Counts;
 use crate::coverage::Coverage;
 use crate::ladder::Ladder;
@@ -56,9 +56,9 @@ fn view<S: Source, K: Sink>(
     sink: &mut K,
 ) -> Result<(), ViewEnd> {
     match command {
-        Command::Words { flow } => show(alloc, Words::new(alloc, flow)?, source, sink),
+        Command::Words { flow } => show_words(alloc, flow, source, sink),
         Command::Counts => show(alloc, Counts::new(alloc), source, sink),
-        Command::Ladder(range) => show(alloc, Ladder::new(alloc, range)?, source, sink),
+        Command::Ladder(range) => show_ladder(alloc, range, source, sink),
         Command::Wave => show(alloc, Wave::new(alloc), source, sink),
         Command::Packets => show(alloc, Capture::new(alloc), source, sink),
         Command::Coverage => show(alloc, Coverage::new(alloc), source, sink),
@@ -67,4 +67,24 @@ fn view<S: Source, K: Sink>(
             Err(_) => Err(ViewEnd::Ended(Status::WriteFault)),
         },
     }
+}
+
+/// Writes what is read in words.
+fn show_words<S: Source, K: Sink>(
+    alloc: Global,
+    flow: bool,
+    source: &mut S,
+    sink: &mut K,
+) -> Result<(), ViewEnd> {
+    show(alloc, Words::new(alloc, flow)?, source, sink)
+}
+
+/// Writes what is read as a ladder.
+fn show_ladder<S: Source, K: Sink>(
+    alloc: Global,
+    range: Range,
+    source: &mut S,
+    sink: &mut K,
+) -> Result<(), ViewEnd> {
+    show(alloc, Ladder::new(alloc, range)?, source, sink)
 }

@@ -93,12 +93,28 @@ pub(crate) fn show<S: Source, K: Sink, V: View + Drop>(
     let mut lines = Lines::new(alloc)?;
     let mut out = Text::new(alloc);
     let (set_up, first) = read_front(alloc, &mut lines, source)?;
-    view.begin(&set_up, &mut out)?;
-    show_lines(
+    show_trace(
         alloc, &set_up, first, &mut lines, source, &mut view, &mut out, sink,
-    )?;
-    view.end(&set_up, &mut out)?;
-    write_out(&mut out, sink)
+    )
+}
+
+/// Shows a trace, of which the first line has this number.
+fn show_trace<S: Source, K: Sink, V: View>(
+    alloc: Global,
+    set_up: &SetUp,
+    first: u32,
+    lines: &mut Lines,
+    source: &mut S,
+    view: &mut V,
+    out: &mut Text,
+    sink: &mut K,
+) -> Result<(), ViewEnd>
+    requires { IsReady set_up.now.known }
+{
+    view.begin(set_up, out)?;
+    show_lines(alloc, set_up, first, lines, source, view, out, sink)?;
+    view.end(set_up, out)?;
+    write_out(out, sink)
 }
 
 /// Reads the set-up lines and the line `---`, and answers the number of the line that follows.
@@ -110,15 +126,30 @@ fn read_front<S: Source>(
     ensures { IfOk result (λ front. IsReady front.0.known) }
 {
     let mut script = Vec::new(alloc);
+    let (number, is_between) = read_script(&mut script, lines, source)?;
+    let set_up = set_up_of(alloc, script.as_slice())?;
+    if is_between {
+        Ok((set_up, number))
+    } else {
+        refused(number, Reason::NoTrace)
+    }
+}
+
+/// Reads the set-up lines, and answers the number of the line that follows, and whether the line
+/// `---` came.
+fn read_script<S: Source>(
+    script: &mut Vec<u8>,
+    lines: &mut Lines,
+    source: &mut S,
+) -> Result<(u32, bool), ViewEnd> {
     for number in 1..u32::MAX {
         if !lines.read(source)? {
-            set_up_of(alloc, script.as_slice())?;
-            return refused(number, Reason::NoTrace);
+            return Ok((number, false));
         }
         if lines.line() == BETWEEN {
-            return Ok((set_up_of(alloc, script.as_slice())?, number + 1));
+            return Ok((number + 1, true));
         }
-        add_line(&mut script, lines.line())?;
+        add_line(script, lines.line())?;
     }
     Err(ViewEnd::Ended(Status::TooLong))
 }
@@ -163,21 +194,24 @@ fn show_lines<S: Source, K: Sink, V: View>(
     let mut is_done = false;
     for number in first..u32::MAX {
         if !lines.read(source)? {
-            return if is_done {
-                Ok(())
-            } else {
-                refused(number, Reason::NoEnd)
-            };
+            return end_before(number, is_done);
         }
         if is_done {
             return refused(number, Reason::Behind);
         }
         is_done = show_line(alloc, set_up, number, lines.line(), view, out)?;
-        if out.len() >= ROOM {
-            write_out(out, sink)?;
-        }
+        make_room(out, sink)?;
     }
     Err(ViewEnd::Ended(Status::TooLong))
+}
+
+/// What it means that the line of this number does not come.
+fn end_before(number: u32, is_done: bool) -> Result<(), ViewEnd> {
+    if is_done {
+        Ok(())
+    } else {
+        refused(number, Reason::NoEnd)
+    }
 }
 
 /// Shows a line, and tells whether it is the last one.
@@ -204,6 +238,14 @@ fn show_line<V: View>(
     };
     view.take(&seen, out)?;
     Ok(matches!(line, TraceLine::Ended | TraceLine::Undetected(..)))
+}
+
+/// Writes what waits, if it is much.
+fn make_room<K: Sink>(out: &mut Text, sink: &mut K) -> Result<(), ViewEnd> {
+    if out.len() < ROOM {
+        return Ok(());
+    }
+    write_out(out, sink)
 }
 
 /// Writes what waits.

@@ -25,6 +25,24 @@ impl Met {
             *count = count.saturating_add(1);
         }
     }
+
+    /// How many entries were met.
+    pub(crate) fn entries(&self) -> u64 {
+        self.counts.iter().filter(|count| **count > 0).count() as u64
+    }
+}
+
+/// What a line of a trace says of a port.
+#[derive(Clone, Copy)]
+pub(crate) enum Came<'a> {
+    /// It sends these characters.
+    Sent(&'a [Char]),
+    /// It takes these characters.
+    Got(&'a [Char]),
+    /// Its time-out fires.
+    Fired,
+    /// This packet, which it held, goes on.
+    Given(&'a Packet),
 }
 
 /// A port that follows a trace.
@@ -43,6 +61,17 @@ struct Before {
 }
 
 impl Shadow {
+    /// The port does what a line says.
+    pub(crate) fn follow(&mut self, came: &Came<'_>, met: &mut Met) -> Result<(), AllocError> {
+        match *came {
+            Came::Sent(chars) => self.send(chars, met)?,
+            Came::Got(chars) => self.get(chars, met),
+            Came::Fired => self.fire(met),
+            Came::Given(packet) => self.give(packet),
+        }
+        Ok(())
+    }
+
     /// The states of the port.
     fn states(&self) -> Before {
         Before {
@@ -53,7 +82,7 @@ impl Shadow {
     }
 
     /// The port takes characters.
-    pub(crate) fn get(&mut self, chars: &[Char], met: &mut Met) {
+    fn get(&mut self, chars: &[Char], met: &mut Met) {
         for c in chars {
             let before = self.states();
             let mut freed = ArrayVec::new();
@@ -83,7 +112,7 @@ impl Shadow {
     }
 
     /// The port sends characters.
-    pub(crate) fn send(&mut self, chars: &[Char], met: &mut Met) -> Result<(), AllocError> {
+    fn send(&mut self, chars: &[Char], met: &mut Met) -> Result<(), AllocError> {
         let mut turns = Turns {
             port: &mut self.port,
             met,
@@ -92,13 +121,13 @@ impl Shadow {
     }
 
     /// The time-out fires.
-    pub(crate) fn fire(&mut self, met: &mut Met) {
+    fn fire(&mut self, met: &mut Met) {
         met.meet(of_time_out(self.port.out_kind()));
         self.port.time_out();
     }
 
     /// A packet that was held goes on.
-    pub(crate) fn give(&mut self, packet: &Packet) {
+    fn give(&mut self, packet: &Packet) {
         self.port.in_pop(packet.prio());
     }
 }

@@ -234,9 +234,12 @@ impl Sums {
     /// Adds the packets that were taken, answered, left and were dropped here.
     pub(crate) fn add_to(&self, total: &mut [u64; 4]) {
         let lines = &self.lines;
-        let counts = [lines.takes, lines.answers, lines.leaves, lines.drops];
-        for (sum, count) in total.iter_mut().zip(counts) {
-            *sum = sum.saturating_add(count);
-        }
+        let [taken, answered, gone, dropped] = *total;
+        *total = [
+            taken.saturating_add(lines.takes),
+            answered.saturating_add(lines.answers),
+            gone.saturating_add(lines.leaves),
+            dropped.saturating_add(lines.drops),
+        ];
     }
 }

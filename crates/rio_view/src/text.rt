@@ -66,18 +66,17 @@ impl Text {
     /// Puts spaces and then a number in decimal digits, so that both have a width, if the number is
     /// not longer.
     pub(crate) fn put_number_right(&mut self, width: usize, number: u64) {
-        let mut digits = [b'0'; 20];
-        let mut rest = number;
-        for digit in digits.iter_mut().rev() {
-            *digit = b'0' + (rest % 10) as u8;
-            rest /= 10;
-        }
+        let digits = digits_of(number);
         let begin = digits.iter().position(|digit| *digit != b'0').unwrap_or(19);
-        let digits = digits.get(begin..).unwrap_or(b"0");
-        for _ in digits.len()..width {
+        self.put_right(width, digits.get(begin..).unwrap_or(b"0"));
+    }
+
+    /// Puts spaces and then a text, so that both have a width, if the text is not longer.
+    fn put_right(&mut self, width: usize, text: &[u8]) {
+        for _ in text.len()..width {
             self.put(b" ");
         }
-        self.put(digits);
+        self.put(text);
     }
 
     /// Puts a text and then spaces, so that both have a width, if the text is not longer.
@@ -87,4 +86,15 @@ impl Text {
             self.put(b" ");
         }
     }
+}
+
+/// The decimal digits of a number, with zeros in front.
+fn digits_of(number: u64) -> [u8; 20] {
+    let mut digits = [b'0'; 20];
+    let mut rest = number;
+    for digit in digits.iter_mut().rev() {
+        *digit = b'0' + (rest % 10) as u8;
+        rest /= 10;
+    }
+    digits
 }

@@ -3,7 +3,7 @@
 
 use crate::fabric::{Ports, links_of, port_of, put_port};
 use crate::pen::Pen;
-use crate::probes::Station;
+use crate::probes::{Change, Station};
 use crate::reading::ViewEnd;
 use crate::text::Text;
 use crate::view::{Seen, View};
@@ -45,25 +45,9 @@ impl View for Wave {
         self.stations.fill(set_up.names().len())?;
         self.links = links_of(self.alloc, set_up)?;
         out.put(HEAD);
-        let mut first = 0;
-        for (a, b) in &self.links {
-            for port in [*a, *b] {
-                if let Some(station) = self.stations.get_mut(port) {
-                    put_scope(out, set_up, port);
-                    first = station.declare(first, out);
-                    out.put(b"$upscope $end\n");
-                }
-            }
-        }
+        self.declare(set_up, out);
         out.put(b"$upscope $end\n$enddefinitions $end\n");
-        let mut pen = Pen::new(out, 0, &mut self.written);
-        for (a, b) in &self.links {
-            for port in [*a, *b] {
-                if let Some(station) = self.stations.get(port) {
-                    station.put_all(&mut pen);
-                }
-            }
-        }
+        self.put_all(out);
         Ok(())
     }
 
@@ -101,6 +85,32 @@ fn put_scope(out: &mut Text, set_up: &SetUp, port: PortRef) {
 }
 
 impl Wave {
+    /// Declares the signals of each port of a link.
+    fn declare(&mut self, set_up: &SetUp, out: &mut Text) {
+        let mut first = 0;
+        for (a, b) in &self.links {
+            for port in [*a, *b] {
+                if let Some(station) = self.stations.get_mut(port) {
+                    put_scope(out, set_up, port);
+                    first = station.declare(first, out);
+                    out.put(b"$upscope $end\n");
+                }
+            }
+        }
+    }
+
+    /// Puts the first value of each signal.
+    fn put_all(&mut self, out: &mut Text) {
+        let mut pen = Pen::new(out, 0, &mut self.written);
+        for (a, b) in &self.links {
+            for port in [*a, *b] {
+                if let Some(station) = self.stations.get(port) {
+                    station.put_all(&mut pen);
+                }
+            }
+        }
+    }
+
     /// A port sends characters.
     fn send(&mut self, port: PortRef, chars: &[Char], out: &mut Text) -> Result<(), ViewEnd> {
         let Some(station) = self.stations.get_mut(port) else {
@@ -129,29 +139,11 @@ impl Wave {
 
     /// A step of a packet.
     fn step(&mut self, step: &Step, out: &mut Text) {
-        let mut pen = Pen::new(out, self.time, &mut self.written);
-        match step {
-            Step::Hold(port, _) => {
-                if let Some(station) = self.stations.get_mut(*port) {
-                    station.hold(&mut pen);
-                }
-            }
-            Step::Free(port, _) => {
-                if let Some(station) = self.stations.get_mut(*port) {
-                    station.free(&mut pen);
-                }
-            }
-            Step::Leave(node, _) => {
-                if let Some(station) = self.stations.get_mut(port_of(*node)) {
-                    station.give(&mut pen);
-                }
-            }
-            Step::Move(port, _, _) | Step::Drop(port, _) | Step::Answer(port, _, _) => {
-                if let Some(station) = self.stations.get_mut(*port) {
-                    station.give(&mut pen);
-                }
-            }
-            Step::Take(..) => {}
+        let Some((port, change)) = change_of(step) else {
+            return;
+        };
+        if let Some(station) = self.stations.get_mut(port) {
+            station.change(change, &mut Pen::new(out, self.time, &mut self.written));
         }
     }
 
@@ -160,5 +152,18 @@ impl Wave {
         if let Some(station) = self.stations.get_mut(port) {
             station.fire(&mut Pen::new(out, self.time, &mut self.written));
         }
+    }
+}
+
+/// What a step changes, and at which port.
+fn change_of(step: &Step) -> Option<(PortRef, Change)> {
+    match step {
+        Step::Hold(port, _) => Some((*port, Change::Hold)),
+        Step::Free(port, _) => Some((*port, Change::Free)),
+        Step::Leave(node, _) => Some((port_of(*node), Change::Give)),
+        Step::Move(port, _, _) | Step::Drop(port, _) | Step::Answer(port, _, _) => {
+            Some((*port, Change::Give))
+        }
+        Step::Take(..) => None,
     }
 }

@@ -75,16 +75,27 @@ impl Words {
                 let ear = self.taking.get_mut(*port);
                 put_chars(out, &mut self.asked, ear, chars.as_slice())?;
             }
+            line => self.put_words(out, line),
+        }
+        out.put(b"\n");
+        Ok(())
+    }
+
+    /// The words of a line that has no characters of a wire, if it has any.
+    fn put_words(&mut self, out: &mut Text, line: &TraceLine) {
+        match line {
             TraceLine::Stepped(step) => self.put_step(out, step),
             TraceLine::Undetected(_, _, event) => {
                 out.put(b"  # ");
                 put_event(out, &mut self.asked, event);
             }
-            TraceLine::Begun(_) | TraceLine::Fired(_) | TraceLine::Lacked(_) | TraceLine::Ended =>
-                {}
+            TraceLine::Begun(_)
+            | TraceLine::Sent(..)
+            | TraceLine::Got(..)
+            | TraceLine::Fired(_)
+            | TraceLine::Lacked(_)
+            | TraceLine::Ended => {}
         }
-        out.put(b"\n");
-        Ok(())
     }
 
     /// The words of the packets of a step.
@@ -109,22 +120,24 @@ impl Words {
     fn put_flow(&mut self, seen: &Seen<'_>, out: &mut Text) -> Result<(), AllocError> {
         match seen.line {
             TraceLine::Sent(port, chars) => {
-                self.put_transfers(out, seen, *port, chars.as_slice())?;
+                self.put_transfers(out, seen, *port, chars.as_slice())
             }
-            TraceLine::Got(port, chars) => {
-                self.put_faults(out, seen, *port, chars.as_slice())?;
+            TraceLine::Got(port, chars) => self.put_faults(out, seen, *port, chars.as_slice()),
+            _ => {
+                self.put_other(out, seen);
+                Ok(())
             }
+        }
+    }
+
+    /// The line of an event, and one line for what happens but on a wire.
+    fn put_other(&mut self, out: &mut Text, seen: &Seen<'_>) {
+        match seen.line {
             TraceLine::Stepped(step) => self.put_end(out, seen.set_up, step),
-            TraceLine::Fired(port) => {
-                out.put(b"  ");
-                put_port(out, seen.set_up, *port);
-                out.put(b": time-out\n");
-            }
+            TraceLine::Fired(port) => put_at(out, seen.set_up, *port, b": time-out\n"),
             TraceLine::Lacked(lack) => put_lack(out, *lack),
             TraceLine::Undetected(_, port, event) => {
-                out.put(b"  ");
-                put_port(out, seen.set_up, *port);
-                out.put(b": undetected: ");
+                put_at(out, seen.set_up, *port, b": undetected: ");
                 put_event(out, &mut self.asked, event);
                 out.put(b"\n");
             }
@@ -132,8 +145,8 @@ impl Words {
                 out.put(seen.text);
                 out.put(b"\n");
             }
+            TraceLine::Sent(..) | TraceLine::Got(..) => {}
         }
-        Ok(())
     }
 
     /// A line for each packet and symbol that a port sends.
@@ -350,14 +363,19 @@ struct Faults<'a> {
 impl Hear for Faults<'_> {
     fn hear(&mut self, _: &[Char], heard: &Heard) -> Result<(), AllocError> {
         if let Heard::Broken(cause, _) | Heard::Bad(cause) = heard {
-            self.out.put(b"  ");
-            put_port(self.out, self.set_up, self.port);
-            self.out.put(b": got ");
+            put_at(self.out, self.set_up, self.port, b": got ");
             self.out.put(bad_words(*cause));
             self.out.put(b"\n");
         }
         Ok(())
     }
+}
+
+/// The beginning of a line of a port.
+fn put_at(out: &mut Text, set_up: &SetUp, port: PortRef, words: &[u8]) {
+    out.put(b"  ");
+    put_port(out, set_up, port);
+    out.put(words);
 }
 
 /// Why nothing was done.
