@@ -13,8 +13,6 @@ mod accepting;
 mod ends;
 mod numbering;
 mod program;
-#[cfg(test)]
-mod tests;
 mod writing;
 
 pub use ends::{End, Status, status_number};

@@ -100,7 +100,8 @@ module _ (command : Command) (l l2 : Option (List ℕ)) (r r' : ℕ) (w : Option
   refuses Unlawful h bytes e fits never either free lawful calm calm2 =
       absurd
       (lawful
-      (subst (λ b. Declines Unlawful command b w w') (gave_all bytes h.bytes l l2 e h.gave) h.holds))
+      (subst (λ b. Declines Unlawful command b w w') (gave_all bytes h.bytes l l2 e h.gave)
+      h.holds))
 
   is_too_long : (bytes given : List ℕ) → l ≡ Some bytes → most_input < length bytes
       → Gave l l2 given → ⊥
@@ -123,7 +124,8 @@ module _ (command : Command) (l l2 : Option (List ℕ)) (r r' : ℕ) (w : Option
   lengthy Unlawful h bytes e long calm calm2 = absurd (is_too_long bytes h.bytes e long h.gave)
 
 -- memory ran out before anything was written, or while the input was carried out
-pub ran_out : (command : Command) (words : List (List ℕ)) (l l2 w w' : Option (List ℕ)) → Asks command words
+pub ran_out : (command : Command) (words : List (List ℕ)) (l l2 w w' : Option (List ℕ))
+    → Asks command words
     → Keeps w w' ⊎ OfInput l l2 (λ bytes. RunsOut command bytes w w')
     → Keeps w w' ⊎ ((k : Command) × Asks k words × OfInput l l2 (λ bytes. RunsOut k bytes w w'))
 ran_out command words l l2 w w' known (inl none) = inl none

@@ -211,7 +211,8 @@ unknown words replay decode check io none Decode is = decode is
 unknown words replay decode check io none Check is = check is
 unknown words replay decode check io none Io is = io is
 unknown words replay decode check io none (Enumerate node) is = none.0 node is
-unknown words replay decode check io none (Contest first second seed) is = none.1 first second seed is
+unknown words replay decode check io none (Contest first second seed) is =
+    none.1 first second seed is
 
 -- the words of a soak begin with their own letter
 pub reads_or_soaks : (command : Command) (seed : ℕ) (words : List (List ℕ)) → Asks command words

@@ -8,6 +8,7 @@ pub mod CommandLaws
 pub mod RefusalLaws
 pub mod LineLaws
 pub mod NumberLaws
+mod DigitTables
 pub mod WordLaws
 pub mod DecodeLaws
 pub mod SoakLaws

@@ -1,5 +1,5 @@
--- The digits of small numbers behind a space.
-use Rattle.std.proofs.Common.{◌≡◌, ◌<◌, ◌≤◌, ◌+◌, ◌/◌, ◌%◌, ℕ, [], ◌∷◌, ◌++◌, sym, ap, ◌∙◌, arith}
+-- The digits of small numbers, and the last two of greater ones.
+use Rattle.std.proofs.Common.{◌≡◌, ◌<◌, ◌≤◌, ◌+◌, ◌/◌, ◌%◌, ℕ, [], ◌∷◌, ◌++◌, sym, ap, ◌∙◌, ◌^◌, arith, append_assoc}
 use Rattle.std.specs.Fmt.{decimal}
 use Rattle.std.proofs.lemmas.Fmt.{decimal_step, decimal_digit}
 use Rattle.rio_cli.specs.Decoding.{spaced}
@@ -9,7 +9,7 @@ one_digit n few =
     let same : n % 10 ≡ n = omega arith in
     ap (λ k. 32 ∷ (48 + k) ∷ []) same ∙ sym (ap (λ l. 32 ∷ l) (decimal_digit n few))
 
-two : (n : ℕ) → 10 ≤ n → n < 100 → decimal n ≡ (48 + n / 10) ∷ (48 + n % 10) ∷ []
+pub two : (n : ℕ) → 10 ≤ n → n < 100 → decimal n ≡ (48 + n / 10) ∷ (48 + n % 10) ∷ []
 two n many few =
     decimal_step n many (omega arith)
     ∙ ap (λ l. l ++ (48 + n % 10) ∷ []) (decimal_digit (n / 10) (omega arith))
@@ -29,3 +29,15 @@ three_digits n many few =
     ∙ ap (λ l. l ++ (48 + n % 10) ∷ []) (two (n / 10) (omega arith) (omega arith)) in
     ap (λ k. 32 ∷ (48 + k) ∷ (48 + n / 10 % 10) ∷ (48 + n % 10) ∷ []) (sym same)
     ∙ sym (ap (λ l. 32 ∷ l) here)
+
+-- the last two of three digits and more
+pub hundreds : (n : ℕ) → 100 ≤ n → n < 2 ^ 32
+    → decimal (n / 100) ++ (48 + n % 100 / 10) ∷ (48 + n % 100 % 10) ∷ [] ≡ decimal n
+hundreds n many few =
+    let up : n / 10 / 10 ≡ n / 100 = omega arith in
+    let high : n % 100 / 10 ≡ n / 10 % 10 = omega arith in
+    let low : n % 100 % 10 ≡ n % 10 = omega arith in
+    sym (decimal_step n (omega arith) (omega arith)
+    ∙ ap (λ l. l ++ (48 + n % 10) ∷ []) (decimal_step (n / 10) (omega arith) (omega arith))
+    ∙ append_assoc (decimal (n / 10 / 10)) ((48 + n / 10 % 10) ∷ []) ((48 + n % 10) ∷ [])
+    ∙ (λ i. decimal (up i) ++ (48 + sym high i) ∷ (48 + sym low i) ∷ []))

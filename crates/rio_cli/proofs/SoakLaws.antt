@@ -6,20 +6,21 @@ use Rattle.rio_cli.specs.declared.status.Status.TheVariants.{Done, Words, Script
 use Rattle.rio_cli.specs.Answers.{Answers}
 use Rattle.rio_cli.specs.Soaking.{SoaksTo, SoaksUnsent, undetected_text, SaysOfSoak}
 
-module _ (seed : ℕ) (status : Status) (w : Option (List ℕ)) (f : ℕ) (w' : Option (List ℕ)) (f2 : ℕ) where
-  pub says_counts : (text : List ℕ) → SoaksTo seed text → Answers status Done text w f w' f2
-      → SaysOfSoak seed status w f w' f2
-  says_counts text is (inl told) =
-      subst (λ s. SaysOfSoak seed s w f w' f2) (sym told.0) (text, is, told.1)
-  says_counts text is (inr failed) =
-      subst (λ s. SaysOfSoak seed s w f w' f2) (sym failed.0) (failed.1, inl (text, is, failed.2))
+module _ (seed : ℕ) (status : Status) (w : Option (List ℕ)) (f : ℕ) (w' : Option (List ℕ)) (f2 : ℕ)
+  where
+    pub says_counts : (text : List ℕ) → SoaksTo seed text → Answers status Done text w f w' f2
+        → SaysOfSoak seed status w f w' f2
+    says_counts text is (inl told) =
+        subst (λ s. SaysOfSoak seed s w f w' f2) (sym told.0) (text, is, told.1)
+    says_counts text is (inr failed) =
+        subst (λ s. SaysOfSoak seed s w f w' f2) (sym failed.0) (failed.1, inl (text, is, failed.2))
 
-  pub says_unsent : SoaksUnsent seed → Answers status Undetected undetected_text w f w' f2
-      → SaysOfSoak seed status w f w' f2
-  says_unsent is (inl told) =
-      subst (λ s. SaysOfSoak seed s w f w' f2) (sym told.0) (is, told.1)
-  says_unsent is (inr failed) =
-      subst (λ s. SaysOfSoak seed s w f w' f2) (sym failed.0) (failed.1, inr (is, failed.2))
+    pub says_unsent : SoaksUnsent seed → Answers status Undetected undetected_text w f w' f2
+        → SaysOfSoak seed status w f w' f2
+    says_unsent is (inl told) =
+        subst (λ s. SaysOfSoak seed s w f w' f2) (sym told.0) (is, told.1)
+    says_unsent is (inr failed) =
+        subst (λ s. SaysOfSoak seed s w f w' f2) (sym failed.0) (failed.1, inr (is, failed.2))
 
 module _ (seed : ℕ) (w : Option (List ℕ)) (f : ℕ) (w' : Option (List ℕ)) (f2 : ℕ) where
   pub soak_at : (answer status : Status) → SaysOfSoak seed answer w f w' f2 → answer ≡ status

@@ -16,7 +16,8 @@ use Rattle.rio_cli.specs.Soaking.{Soaks, SoaksInto, SoaksFront}
 use Rattle.rio_cli.specs.Words.{Asks, AsksSoak, AreUnknown}
 
 -- The words ask for the soak of a number. Nothing was read, and of the number this holds.
-pub record OfSoak {S : Type 0} (asked : List (List ℕ)) (source source_after : S) (Holds : ℕ → Type 0)
+pub record OfSoak {S : Type 0} (asked : List (List ℕ)) (source source_after : S)
+    (Holds : ℕ → Type 0)
     : Type 0 where
   pub seed : ℕ
   pub asks : AsksSoak seed asked

@@ -27,7 +27,8 @@ abbrev pub FindsHosts : List (List ℕ) → List Numbered → List ℕ → List 
 FindsHosts names lines first second (Ok hosts) = FindsIn names lines first (Ok hosts.0)
     × FindsIn names lines second (Ok hosts.1) × (hosts.0 ≢ hosts.1)
 FindsHosts names lines first second (Err reason) =
-    ((end : NoHost) × FindsIn names lines first (Err end) × (reason ≡ reason_number (reason_of end)))
+    ((end : NoHost) × FindsIn names lines first (Err end)
+    × (reason ≡ reason_number (reason_of end)))
     ⊎ ((one : ℕ) × FindsIn names lines first (Ok one)
     × (((end : NoHost) × FindsIn names lines second (Err end)
     × (reason ≡ reason_number (reason_of end)))

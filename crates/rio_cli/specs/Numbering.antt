@@ -209,6 +209,7 @@ pub record FindsLock (word bytes : List ℕ) (written written_after : Option (Li
   pub told : Appends written written_after text
 
 -- The bytes have a host, and a front was written.
-pub record NumbersFront (word bytes : List ℕ) (written written_after : Option (List ℕ)) : Type 0 where
-  pub is : HasHost word bytes
-  pub front : EndsFront is.names is.lines is.host written written_after
+pub record NumbersFront (word bytes : List ℕ) (written written_after : Option (List ℕ)) : Type 0
+  where
+    pub is : HasHost word bytes
+    pub front : EndsFront is.names is.lines is.host written written_after

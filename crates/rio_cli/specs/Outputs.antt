@@ -119,7 +119,8 @@ CompletesFront Io = CarriesFront
 CompletesFront (Enumerate node) = NumbersFront node
 CompletesFront (Contest first second seed) = ContestsFront first second seed
 
--- the input is carried out up to an event that a port acted on and that was not sent, and all was written that the
+-- the input is carried out up to an event that a port acted on and that was not sent, and all was
+-- written that the
 -- command writes then
 abbrev pub Exposes : Command → List ℕ → Option (List ℕ) → Option (List ℕ) → Type 0
 Exposes Replay = TracesUnsent

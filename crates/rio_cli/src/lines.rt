@@ -1,5 +1,5 @@
 //! The lines of events, told to an outbox.
-ghost use Rattle.std.specs.Prelude.{◌≡◌, ◌≤◌, ◌++◌, ℕ, codes, take, Some, None, IsSome};
+ghost use Rattle.std.specs.Prelude.{◌≡◌, ◌++◌, ℕ, codes, Some, None, IsSome};
 ghost use Rattle.std.specs.List.{flat_map};
 ghost use Rattle.std.specs.Fmt.{decimal};
 ghost use Rattle.rio_chars.specs.HexText.{hex_of};
@@ -7,8 +7,9 @@ ghost use Rattle.rio_chars.specs.Written.{Writes};
 ghost use Rattle.rio_symbols.specs.Fields.{Fields};
 ghost use Rattle.link_model.specs.Reading.{placed};
 ghost use Rattle.rio_framer.specs.Giving.{listed, events_by};
-ghost use Rattle.rio_cli.specs.Decoding.{spaced, symbol_text, packet_text, bad_text, event_text, end_text};
+ghost use Rattle.rio_cli.specs.Decoding.{symbol_text, packet_text, bad_text, event_text, end_text};
 
+use crate::places::{write_number, write_place};
 use link_model::Event;
 use rio_chars::{Outbox, Sink};
 use rio_framer::{Framer, Told};
@@ -50,7 +51,7 @@ fn write_symbol<K: Sink>(outbox: &mut Outbox<K>, place: u32, symbol: &Symbol)
     ensures { Writes K.written K.faults outbox.old outbox.new
         (decimal place ++ symbol_text symbol.now) }
 {
-    outbox.write_decimal(place);
+    write_place(outbox, place);
     write_fields(outbox, symbol);
 }
 
@@ -72,7 +73,7 @@ fn write_packet<K: Sink>(outbox: &mut Outbox<K>, place: u32, ack: u8, packet: &[
     ensures { Writes K.written K.faults outbox.old outbox.new
         (decimal place ++ packet_text ack packet.now) }
 {
-    outbox.write_decimal(place);
+    write_place(outbox, place);
     write_form(outbox, ack, packet);
 }
 
@@ -92,7 +93,7 @@ fn write_bad<K: Sink>(outbox: &mut Outbox<K>, place: u32, cause: Cause)
     ensures { Writes K.written K.faults outbox.old outbox.new
         (decimal place ++ bad_text cause) }
 {
-    outbox.write_decimal(place);
+    write_place(outbox, place);
     write_cause(outbox, cause);
 }
 
@@ -114,28 +115,4 @@ pub(crate) fn write_end<K: Sink>(outbox: &mut Outbox<K>, at_rest: bool)
     } else {
         outbox.write(b"end cut\n");
     }
-}
-
-/// Tells a number behind a space.
-fn write_number<K: Sink>(outbox: &mut Outbox<K>, number: u8)
-    ensures { Writes K.written K.faults outbox.old outbox.new (spaced number) }
-{
-    let (text, count) = spaced_number(number);
-    outbox.write_short(&text, count);
-}
-
-/// A number behind a space, and how many bytes that are.
-fn spaced_number(number: u8) -> ([u8; 8], usize)
-    ensures count { result.1 ≤ 8 }
-    ensures text { take result.1 result.0 ≡ spaced number }
-{
-    let last = b'0' + number % 10;
-    if number < 10 {
-        return ([b' ', last, 0, 0, 0, 0, 0, 0], 2);
-    }
-    let middle = b'0' + number / 10 % 10;
-    if number < 100 {
-        return ([b' ', middle, last, 0, 0, 0, 0, 0], 3);
-    }
-    ([b' ', b'0' + number / 100, middle, last, 0, 0, 0, 0], 4)
 }

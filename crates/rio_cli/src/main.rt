@@ -26,12 +26,11 @@ mod laws;
 mod lines;
 mod messages;
 mod numbering;
+mod places;
 mod program;
 mod refusal;
 mod soaking;
 mod status;
-#[cfg(test)]
-mod tests;
 mod texts;
 mod top;
 mod words;

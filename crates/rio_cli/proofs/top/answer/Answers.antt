@@ -127,7 +127,8 @@ returns-in-None g c =
     let other = c.in-None.ensures in
     let h = c.write_answer.ensures.answers in
     let S = g.S.Source.left in
-    let ending : Ended words c.write_answer.result g.S.Source.left g.S.Source.faults c.args.source.now
+    let ending : Ended words c.write_answer.result g.S.Source.left g.S.Source.faults
+    c.args.source.now
     c.args.source.now g.K.Sink.written g.K.Sink.faults c.args.sink.now c.write_answer.new.sink =
     record {
       words = λ e. (other, refusal_told _ _ _ _ _ _ _ (λ t. cc) h e);

@@ -6,7 +6,8 @@ use Rattle.rio_cli.proofs.top.replay_bytes.Goals as goal
 pub returns-in-Err-Undetected-clause-says : goal.returns-in-Err-Undetected-clause-says
 returns-in-Err-Undetected-clause-says g c =
     let e = c.in-Err-Undetected in
-    let replayed = c.replay.ensures.undetected e.field-0-0 e.field-0-1 e.field-0-2 (e.is ∙ ap Err e.field-0-is) in
+    let replayed = c.replay.ensures.undetected e.field-0-0 e.field-0-1 e.field-0-2
+    (e.is ∙ ap Err e.field-0-is) in
     rw c.ended-in-Err-Undetected.ensures (record {
       names = c.in-Ok.script.names.items;
       script = c.in-Ok.script.lines.items;
