@@ -24,8 +24,7 @@ use Rattle.contest_machine.specs.Machine.{Walker, State, fresh, kept, asked, las
 use Rattle.contest_machine.specs.Contest.{Keeps, AreOwnWrites, IsMine, IsContest}
 use Rattle.contest_machine.specs.Laws.{IsNew}
 use Rattle.contest_machine.specs.Turns.{is_locking, locked_on, turned, Both, turn_of, after_turns}
-use Rattle.contest_machine.proofs.Apart.{step_leaves, swap, turned_by, step_holds, begun_contest}
-use Rattle.contest_machine.proofs.Frame.{kept_stays}
+use Rattle.contest_machine.proofs.Apart.{swap, turn_leaves_kept}
 use Rattle.contest_machine.proofs.Lists.{Leads}
 use Rattle.contest_law.specs.Going.{AreBegun}
 use Rattle.contest_law.specs.Locks.{walker_of, state_of}
@@ -92,32 +91,11 @@ opening_stays w old new mine same opening = record {
     on : (one : List ℕ) → Contains (paths_of w.devices) one → Contains (kept w) one
     on one listed = Contains-append_left (paths_of w.devices) _ one listed
 
--- what `w` keeps is as it was in `old`, while the other makes a turn
-abbrev LeavesKept : Walker → Registers → Registers → State → Type 0
-LeavesKept w before old state = IsContest state.walker w before state.registers
-    × ((node : ℕ) → Keeps w node → state.registers node ≡ old node)
-
-module _ (w : Walker) (before old : Registers) where
-  step_leaves_kept : (o : Walker) (now : Registers)
-      → LeavesKept w before old (record { walker = o; registers = now })
-      → LeavesKept w before old (stepped o now)
-  step_leaves_kept o now holds =
-      let leaves = step_leaves o now holds.0.first_id holds.0.first in (
-        step_holds w before o now holds.0,
-        λ node keeps.
-            kept_stays o (stepped o now).walker w now (stepped o now).registers leaves.0
-            holds.0.first holds.0.second holds.0.differ holds.0.second_id node keeps
-            ∙ holds.1 node keeps,
-      )
-
-  their_opening : (o : Walker) → IsContest w o before old → IsOpening w old
-      → IsOpening w (turned o old).registers
-  their_opening o contest opening =
-      let theirs = swap w o before old contest in
-      opening_stays w old (turned o old).registers contest.first
-      (turned_by (LeavesKept w before old) step_leaves_kept o old
-      (theirs, λ node keeps. refl)
-      (begun_contest o w before old theirs, λ node keeps. refl)).1 opening
+their_opening : (w : Walker) (before old : Registers) (o : Walker) → IsContest w o before old
+    → IsOpening w old → IsOpening w (turned o old).registers
+their_opening w before old o contest opening =
+    opening_stays w old (turned o old).registers contest.first
+    (turn_leaves_kept w before old o (swap w o before old contest)) opening
 
 -- ---- the walker's own turn
 

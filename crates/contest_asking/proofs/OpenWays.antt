@@ -1,10 +1,10 @@
 -- Which ways are open to a walker, and what writes leave of them.
-use Rattle.std.proofs.Common.{◌≡◌, ◌≢◌, ℕ, ◌%◌, ◌<◌, List, [], ◌∷◌, ◌++◌, Option, Some, None, Contains, true, arith, ◌⊎◌, inl, inr, subst, sym, refl, ap, ◌∙◌, append_assoc}
+use Rattle.std.proofs.Common.{◌≡◌, ◌≢◌, ℕ, List, [], ◌∷◌, ◌++◌, Option, Some, None, Contains, ◌⊎◌, inl, inr, subst, sym, refl, ap, ◌∙◌, append_assoc}
 use Rattle.std.proofs.lemmas.Bool.{cases_eq}
 use Rattle.fabric_script.specs.declared.ports.PortRef.{PortRef}
-use Rattle.maint_registers.specs.Devices.{Device, is_switch}
+use Rattle.maint_registers.specs.Devices.{Device}
 use Rattle.maint_registers.specs.Routes.{next_port}
-use Rattle.maint_registers.proofs.AccessLaws.{lock-written, tag-written, select-written, entry-written}
+use Rattle.maint_registers.proofs.AccessLaws.{lock-written, tag-written}
 use Rattle.fabric_map.specs.declared.map.Device as map
 use Rattle.fabric_map.specs.Topology.{Topology, entered}
 use Rattle.fabric_map.specs.Routes.{Registers}
@@ -14,18 +14,16 @@ use Rattle.fabric_map.specs.Ways.{IsOpened}
 use Rattle.fabric_map.proofs.Growing.{node_at-entered}
 use Rattle.host_enumerate.specs.declared.maint.Access.TheVariants.{Write}
 use Rattle.host_enumerate.specs.Accesses.{after_write, after_access, answered, with_device}
-use Rattle.host_enumerate.specs.Setting.{with_entry}
-use Rattle.host_enumerate.proofs.Askable.{opened-empty, opened-first}
+use Rattle.host_enumerate.proofs.Askable.{opened-empty, opened-first, never_empty, never_single}
 use Rattle.host_enumerate.proofs.Frames.{with_device-at, with_device-other}
 use Rattle.host_enumerate.proofs.Routing.{opened-front}
 use Rattle.contest_machine.specs.declared.stages.Pending.{Pending}
-use Rattle.contest_machine.specs.Machine.{entry_set}
 use Rattle.contest_machine.specs.Contest.{AreOwnWrites}
 use Rattle.contest_machine.proofs.Lists.{Leads}
 use Rattle.contest_numbering.proofs.OnWay.{one_performed, performed}
 use Rattle.contest_numbering.proofs.Leading.{opened-stays}
 use Rattle.contest_numbering.proofs.Performing.{performed-agree}
-use Rattle.contest_numbering.proofs.Settling.{AreAt, device_after}
+use Rattle.contest_numbering.proofs.Settling.{AreAt}
 use Rattle.contest_numbering.proofs.Sound.{fits_after}
 use Rattle.contest_asking.proofs.Answering.{PassesListed, PassesOthers, open_after_write}
 
@@ -54,23 +52,17 @@ module _ (view : Topology) (id : ℕ) where
   pub way-empty : (devices : List map.Device) (now : Registers) → IsWay view devices id now []
   way-empty devices now = record {
     opened = opened-empty view now id;
-    passes = λ first front rest port end is enters. absurd (none first (front ++ port ∷ rest) is);
+    passes = λ first front rest port end is enters. absurd
+        (never_empty first (front ++ port ∷ rest) is);
   }
-    where
-      none : (first : ℕ) (rest : List ℕ) → ¬ ([] ≡ first ∷ rest)
-      none first rest same = absurd (cc)
 
   pub way-single : (devices : List map.Device) (now : Registers) (x : ℕ)
       → IsWay view devices id now (x ∷ [])
   way-single devices now x = record {
     opened = opened-first view now id x;
-    passes = λ first front rest port end is enters. absurd (none first front rest port is);
+    passes = λ first front rest port end is enters. absurd
+        (never_single x first front rest port is);
   }
-    where
-      none : (first : ℕ) (front rest : List ℕ) (port : ℕ)
-          → ¬ (x ∷ [] ≡ first ∷ front ++ port ∷ rest)
-      none first [] rest port same = absurd (cc)
-      none first (y ∷ front) rest port same = absurd (cc)
 
   -- a front of an open way
   pub way-front : (devices : List map.Device) (now : Registers) (front rest : List ℕ)
@@ -212,20 +204,6 @@ module _ (view : Topology) (id : ℕ) where
       (tag-written (now at.node) value) in
       one_sends now at.node (answered (now at.node) at.port (Write 0x6c value)).device
       (ap (λ d. next_port d 255) written) (ap (λ d. next_port d id) written)
-
--- the two writes of an entry
-pub entry_after : (device : Device) (port : ℕ) (path : List ℕ) (id value : ℕ)
-    → is_switch device ≡ true → id < 256
-    → device_after device port (entry_set path id value) ≡ with_entry device id (value % 0x100)
-entry_after device port path id value is few =
-    ap (λ d. (answered d port (Write 0x74 value)).device) selected
-    ∙ ap (λ o. (after_write (record device { select = id }) o).device)
-    (entry-written (record device { select = id }) value is)
-  where
-    selected : (answered device port (Write 0x70 id)).device ≡ record device { select = id }
-    selected =
-        ap (λ o. (after_write device o).device) (select-written device id is)
-        ∙ ap (λ n. record device { select = n }) (omega (arith, few))
 
 -- what shows the fabric still does after the writes that are left
 pub performed_fits : (view : Topology) (now : Registers) (todo : List Pending) → Fits view now

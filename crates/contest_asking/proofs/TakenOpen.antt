@@ -31,10 +31,10 @@ use Rattle.contest_numbering.proofs.OnWay.{one_performed, performed}
 use Rattle.contest_numbering.proofs.Along.{IsHere}
 use Rattle.contest_numbering.proofs.Joining.{at-home}
 use Rattle.contest_numbering.proofs.Leading.{performed-append}
-use Rattle.contest_numbering.proofs.Settling.{performed-one, after-entry}
+use Rattle.contest_numbering.proofs.Settling.{performed-one, after-entry, entry_after}
 use Rattle.contest_asking.proofs.Answering.{PassesOthers}
 use Rattle.contest_asking.proofs.Guided.{IsBehindHost, AreBehindHost}
-use Rattle.contest_asking.proofs.OpenWays.{IsWay, AreOpen, way-single, way-front, way-more, way-sends, open-append, open-more, at_one, one_sends, entry_after}
+use Rattle.contest_asking.proofs.OpenWays.{IsWay, AreOpen, way-single, way-front, way-more, way-sends, open-append, open-more, at_one, one_sends}
 use Rattle.contest_asking.proofs.Opened.{IsOpening, AreNested, top_here, gone_opening}
 
 -- ---- an endpoint is taken in

@@ -23,6 +23,7 @@ use Rattle.contest_machine.specs.Machine.{Walker, asked, write, routes_to, fresh
 use Rattle.contest_machine.specs.Turns.{waits, ends, came_at, came_of, after_turns}
 use Rattle.contest_machine.specs.Laws.{IsNew}
 use Rattle.contest_machine.proofs.Reading.{lock_told}
+use Rattle.contest_machine.proofs.Stepped.{some_left}
 use Rattle.contest_law.specs.Locks.{walker_of, lock_at, lock_next, state_of, locks_over}
 use Rattle.contest_law.specs.Laws.{HasGreater, LostIsForAGreater}
 use Rattle.contest_law.proofs.Steps.{gone_by, status_reads_none, turns_with, after_one_more}
@@ -254,9 +255,6 @@ step_judged : (id : ℕ) (locks : List ℕ) (w : Walker) (old : Registers) → I
     → IsJudged id (locks ++ lock_next (state_of w old)) (stepped w old).walker
 step_judged id locks w old holds = go w.todo w.stage holds
   where
-    lost : (p : Pending) (rest : List Pending) → p ∷ rest ≢ []
-    lost p rest e = cc
-
     still : (p : Pending) (rest : List Pending) (stage : Stage)
         → IsJudgedAt id locks (record w { todo = p ∷ rest }) stage
         → IsJudgedAt id locks (record w { todo = rest }) stage
@@ -269,7 +267,7 @@ step_judged id locks w old holds = go w.todo w.stage holds
     still p rest Status none = none
     still p rest Free some = some
     still p rest Done none = none
-    still p rest Lost some = absurd (lost p rest some.2)
+    still p rest Lost some = absurd (some_left p rest some.2)
 
     go : (todo : List Pending) (stage : Stage)
         → IsJudged id locks (record w { todo = todo; stage = stage })

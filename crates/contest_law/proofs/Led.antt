@@ -18,6 +18,7 @@ use Rattle.contest_machine.specs.declared.stages.Stage.{Stage}
 use Rattle.contest_machine.specs.declared.stages.Stage.TheVariants.{Ask, Claim, Check, Test, Features, Information, Status, Free, Done, Lost}
 use Rattle.contest_machine.specs.Machine.{Walker, asked, write, routes_to, own_id, last_path, but_last, freeing, port_after, gone_on, taken, judged, numbered, outward, settled, told, reached, stepped}
 use Rattle.contest_machine.specs.Laws.{IsNew}
+use Rattle.contest_machine.proofs.Stepped.{some_left}
 use Rattle.contest_law.proofs.Lasting.{AreSameDevices}
 use Rattle.contest_law.proofs.Telling.{IsAtSwitch, is_at_switch, is_linked, leads_on, host_leads_on}
 
@@ -217,35 +218,32 @@ settled_led : (w : Walker) (p : Pending) (rest : List Pending) (stage : Stage) (
     → IsLed (settled (record w { todo = p ∷ rest; stage = stage; path = path }) rest stage path)
 settled_led w p rest stage path proper all led = go rest stage path led
   where
-    lost : {A : Type 0} (rest : List Pending) → p ∷ rest ≡ [] → A
-    lost rest e = absurd (cc)
-
     go : (rest : List Pending) (stage : Stage) (path : List ℕ)
         → IsLedAt (record w { todo = p ∷ rest; path = path }) stage
         → IsLed (settled (record w { todo = p ∷ rest; stage = stage; path = path }) rest stage
         path)
     go (q ∷ rest) Ask path led = (all, led)
-    go (q ∷ rest) Claim path led = lost (q ∷ rest) led.1
-    go (q ∷ rest) Check path led = lost (q ∷ rest) led.1
-    go (q ∷ rest) Test path led = lost (q ∷ rest) led.1
+    go (q ∷ rest) Claim path led = absurd (some_left p (q ∷ rest) led.1)
+    go (q ∷ rest) Check path led = absurd (some_left p (q ∷ rest) led.1)
+    go (q ∷ rest) Test path led = absurd (some_left p (q ∷ rest) led.1)
     go (q ∷ rest) Features path led = (all, (led.0, λ e none. cc))
-    go (q ∷ rest) Information path led = lost (q ∷ rest) led.1
+    go (q ∷ rest) Information path led = absurd (some_left p (q ∷ rest) led.1)
     go (q ∷ rest) Status path led = (all, led)
     go (q ∷ rest) Free path led = (all, led)
     go (q ∷ rest) Done path led = (all, led)
-    go (q ∷ rest) Lost path led = lost (q ∷ rest) led.0
+    go (q ∷ rest) Lost path led = absurd (some_left p (q ∷ rest) led.0)
     go [] Ask path led = (all, led)
-    go [] Claim path led = lost [] led.1
-    go [] Check path led = lost [] led.1
-    go [] Test path led = lost [] led.1
+    go [] Claim path led = absurd (some_left p [] led.1)
+    go [] Check path led = absurd (some_left p [] led.1)
+    go [] Test path led = absurd (some_left p [] led.1)
     go [] Features [] led = numbered_led (record w { todo = []; stage = Features; path = [] })
         proper [] all
     go [] Features (x ∷ path) led = (all, (led.0, λ e none. cc))
-    go [] Information path led = lost [] led.1
+    go [] Information path led = absurd (some_left p [] led.1)
     go [] Status path led = (all, led)
     go [] Free path led = (all, led)
     go [] Done path led = (all, led)
-    go [] Lost path led = lost [] led.0
+    go [] Lost path led = absurd (some_left p [] led.0)
 
 pub step_led : (w : Walker) (before old : Registers) → IsTopology w.view → Fits w.view before
     → AreSameDevices before old → IsLed w → IsLed (stepped w old).walker

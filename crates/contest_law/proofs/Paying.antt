@@ -32,6 +32,7 @@ use Rattle.contest_machine.proofs.Few.{once_few}
 use Rattle.contest_machine.proofs.Between.{with_fresh}
 use Rattle.contest_machine.proofs.Lists.{once-push, split_last}
 use Rattle.contest_machine.proofs.Reading.{lock_told}
+use Rattle.contest_machine.proofs.Stepped.{some_left}
 use Rattle.contest_law.proofs.Lasting.{AreSameDevices}
 use Rattle.contest_law.proofs.Telling.{IsAtSwitch}
 use Rattle.contest_law.proofs.Led.{AreAtSwitches, IsLedAt, IsLed}
@@ -231,9 +232,6 @@ settled_spends : (w : Walker) (old new : Registers) (p : Pending) (rest : List P
     (settled (record w { todo = p ∷ rest; stage = stage; path = path }) rest stage path) new
 settled_spends w old new p rest stage path within mine led = go rest stage path within mine led
   where
-    lost : {A : Type 0} (rest : List Pending) → p ∷ rest ≡ [] → A
-    lost rest e = absurd (cc)
-
     one : (before after : Walker) → turns_left after new + 1 ≤ turns_left before old
         → turns_left after new + going_one
         (came_of before after) ≤ turns_left before old
@@ -258,9 +256,9 @@ settled_spends w old new p rest stage path within mine led = go rest stage path 
       claims = omega arith;
       takes = λ node claimed free. absurd (cc);
     }
-    go rest Claim path within mine led = lost rest led.1
-    go rest Check path within mine led = lost rest led.1
-    go rest Test path within mine led = lost rest led.1
+    go rest Claim path within mine led = absurd (some_left p rest led.1)
+    go rest Check path within mine led = absurd (some_left p rest led.1)
+    go rest Test path within mine led = absurd (some_left p rest led.1)
     go (q ∷ rest) Features path within mine led = record {
       turns = one (record w { todo = p ∷ q ∷ rest; stage = Features; path = path })
           (record w { todo = q ∷ rest; stage = Features; path = path }) (omega arith);
@@ -284,7 +282,7 @@ settled_spends w old new p rest stage path within mine led = go rest stage path 
       claims = omega arith;
       takes = λ node claimed free. absurd (cc);
     }
-    go rest Information path within mine led = lost rest led.1
+    go rest Information path within mine led = absurd (some_left p rest led.1)
     go (q ∷ rest) Status path within mine led = record {
       turns = one (record w { todo = p ∷ q ∷ rest; stage = Status; path = path })
           (record w { todo = q ∷ rest; stage = Status; path = path }) (omega arith);
@@ -321,7 +319,7 @@ settled_spends w old new p rest stage path within mine led = go rest stage path 
       claims = omega arith;
       takes = λ node claimed free. absurd (cc);
     }
-    go rest Lost path within mine led = lost rest led.0
+    go rest Lost path within mine led = absurd (some_left p rest led.0)
 
 -- One access: fewer turns are left, if it goes on.
 pub step_spends : (w : Walker) (before old : Registers) → w.id < 0xff → Fits w.view before

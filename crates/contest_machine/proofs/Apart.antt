@@ -1,7 +1,7 @@
 -- After each turn of two walkers, no device is kept by both.
-use Rattle.std.proofs.Common.{◌≡◌, ◌≢◌, ℕ, ◌+◌, ◌*◌, ◌/◌, ◌%◌, ◌<◌, ◌==◌, Bool, true, false, List, [], ◌∷◌, ◌++◌, Option, Some, None, Contains, arith, ◌⊎◌, inl, inr, subst, sym, refl, ap, ◌∙◌, if◌then◌else◌}
+use Rattle.std.proofs.Common.{◌≡◌, ◌≢◌, ℕ, ◌+◌, ◌*◌, ◌/◌, ◌%◌, ◌<◌, Bool, true, false, List, [], ◌∷◌, ◌++◌, Option, Some, None, Contains, arith, inl, inr, subst, sym, refl, ap, ◌∙◌, if◌then◌else◌}
 use Rattle.fabric_script.specs.declared.ports.PortRef.{PortRef}
-use Rattle.fabric_map.specs.Topology.{Topology, entered, node_at}
+use Rattle.fabric_map.specs.Topology.{entered}
 use Rattle.fabric_map.specs.Routes.{Registers}
 use Rattle.fabric_map.specs.Numbered.{paths_of}
 use Rattle.host_enumerate.specs.declared.maint.Access.TheVariants.{Read, Write}
@@ -11,13 +11,13 @@ use Rattle.contest_machine.specs.declared.stages.Tried.{Tried}
 use Rattle.contest_machine.specs.declared.stages.Stage.{Stage}
 use Rattle.contest_machine.specs.declared.stages.Stage.TheVariants.{Ask, Claim, Check, Test, Features, Information, Status, Free, Done, Lost}
 use Rattle.contest_machine.specs.declared.stages.Asked.{Asked}
-use Rattle.contest_machine.specs.Machine.{Walker, State, asked, kept, fresh, last_path, but_last, numbered, settled, told, told_at, reached, stepped}
-use Rattle.contest_machine.specs.Contest.{Keeps, Knows, AreOnce, AreOwnWrites, AreListed, IsMine, HasClaimed, IsLockOfNone, IsContest}
+use Rattle.contest_machine.specs.Machine.{Walker, State, asked, kept, fresh, last_path, numbered, settled, told_at, reached, stepped}
+use Rattle.contest_machine.specs.Contest.{Keeps, Knows, AreOnce, AreOwnWrites, AreListed, IsMine, IsLockOfNone, IsContest}
 use Rattle.link_watch.specs.declared.side.Side.{Side}
 use Rattle.link_watch.specs.declared.side.Side.TheVariants.{A, B}
 use Rattle.contest_machine.specs.Turns.{is_locking, locked_on, turned, Both, turn_of, after_turns}
-use Rattle.contest_machine.specs.Laws.{IsNew, KeepsApart, TurnsKeepApart}
-use Rattle.contest_machine.proofs.Frame.{Nothing, IsTurn, turn_and_quiet, contest-stays}
+use Rattle.contest_machine.specs.Laws.{IsNew, TurnsKeepApart}
+use Rattle.contest_machine.proofs.Frame.{Nothing, turn_and_quiet, contest-stays, kept_stays}
 use Rattle.contest_machine.proofs.Reading.{read-same, lock_told, tag_told}
 use Rattle.contest_machine.proofs.Turning.{Leaves}
 use Rattle.contest_machine.proofs.Stepped.{at_stage, write_leaves, ask_leaves, check_leaves, test_leaves, claim_leaves}
@@ -259,6 +259,32 @@ pub turned_holds : (o : Walker) (before : Registers) (w : Walker) (old : Registe
 turned_holds o before w old contest =
     turned_by (HoldsFor o before) (step_holds o before) w old contest
     (begun_contest w o before old contest)
+
+-- what `w` keeps is as it was in `old`, while the other makes a turn
+abbrev LeavesKept : Walker → Registers → Registers → State → Type 0
+LeavesKept w before old state = IsContest state.walker w before state.registers
+    × ((node : ℕ) → Keeps w node → state.registers node ≡ old node)
+
+module _ (w : Walker) (before old : Registers) where
+  step_leaves_kept : (o : Walker) (now : Registers)
+      → LeavesKept w before old (record { walker = o; registers = now })
+      → LeavesKept w before old (stepped o now)
+  step_leaves_kept o now holds =
+      let leaves = step_leaves o now holds.0.first_id holds.0.first in (
+        step_holds w before o now holds.0,
+        λ node keeps.
+            kept_stays o (stepped o now).walker w now (stepped o now).registers leaves.0
+            holds.0.first holds.0.second holds.0.differ holds.0.second_id node keeps
+            ∙ holds.1 node keeps,
+      )
+
+  -- a turn of the other leaves what this one keeps
+  pub turn_leaves_kept : (o : Walker) → IsContest o w before old → (node : ℕ) → Keeps w node
+      → (turned o old).registers node ≡ old node
+  turn_leaves_kept o contest =
+      (turned_by (LeavesKept w before old) step_leaves_kept o old
+      (contest, λ node keeps. refl)
+      (begun_contest o w before old contest, λ node keeps. refl)).1
 
 -- ---- turns of both
 

@@ -1,5 +1,5 @@
 -- No more paths lead to different devices than there are devices.
-use Rattle.std.proofs.Common.{◌≡◌, ◌≢◌, ℕ, ◌<◌, ◌≤◌, ◌||◌, Bool, true, false, eqb, List, [], ◌∷◌, length, map, Option, Some, None, IsSome, unwrap_or, Contains, subst, sym, refl, ap, ne_eqb}
+use Rattle.std.proofs.Common.{◌≡◌, ◌≢◌, ℕ, ◌<◌, ◌≤◌, ◌||◌, Bool, true, false, eqb, List, [], ◌∷◌, length, map, Option, Some, None, IsSome, unwrap_or, Contains, subst, sym, refl, ne_eqb}
 use Rattle.std.specs.List.{list_any, IsDistinct, AllByRecursion}
 use Rattle.std.proofs.lemmas.Bool.{eqb-true}
 use Rattle.std.proofs.lemmas.List.{length-map}
@@ -7,7 +7,7 @@ use Rattle.std.proofs.lemmas.Map.Steps.{length-le_from_distinct_below}
 use Rattle.std.proofs.lemmas.Map.Keys.{IsDistinct-cons}
 use Rattle.fabric_script.specs.declared.ports.PortRef.{PortRef}
 use Rattle.fabric_map.specs.Topology.{Topology, IsTopology, entered, node_at}
-use Rattle.fabric_map.proofs.Few.{entered-inside}
+use Rattle.fabric_map.proofs.Few.{entered-inside, same_number}
 use Rattle.fabric_map.proofs.Growing.{node_at-entered}
 use Rattle.fabric_map.proofs.Lists.{Contains-first, Contains-rest}
 use Rattle.contest_machine.specs.Contest.{AreOnce}
@@ -16,11 +16,6 @@ use Rattle.contest_machine.specs.Contest.{AreOnce}
 
 abbrev number_of : Topology → List ℕ → ℕ
 number_of view path = unwrap_or (node_at view path) 0
-
-same_number : (o p : Option ℕ) → IsSome o → IsSome p → unwrap_or o 0 ≡ unwrap_or p 0 → o ≡ p
-same_number None p one two same = absurd (cc)
-same_number (Some x) None one two same = absurd (cc)
-same_number (Some x) (Some y) one two same = ap (λ n. Some n) same
 
 module _ (view : Topology) (proper : IsTopology view) where
   abbrev AreLeading : List (List ℕ) → Type 0

@@ -1,40 +1,35 @@
 -- One turn of a walker: it knows what it keeps afterwards, and changes nothing else.
-use Rattle.std.proofs.Common.{◌≡◌, ◌≢◌, ℕ, ◌+◌, ◌*◌, ◌/◌, ◌%◌, ◌<◌, ◌==◌, nat_lt, Bool, true, false, eqb, List, [], ◌∷◌, ◌++◌, length, Option, Some, None, Contains, arith, ◌⊎◌, inl, inr, subst, sym, refl, ap, ◌∙◌, if◌then◌else◌, append-nil}
+use Rattle.std.proofs.Common.{◌≡◌, ◌≢◌, ℕ, ◌+◌, ◌%◌, ◌<◌, nat_lt, Bool, true, false, eqb, List, [], ◌∷◌, ◌++◌, Some, Contains, arith, ◌⊎◌, inl, inr, subst, sym, refl, ap, ◌∙◌, if◌then◌else◌, append-nil}
 use Rattle.std.proofs.lemmas.Bool.{cases_eq, eqb-true, eqb-false}
 use Rattle.std.proofs.lemmas.Option.{same_Some}
 use Rattle.std.proofs.lemmas.List.Elements.{Contains-append_left, Contains-append_right, Contains-append_cases}
 use Rattle.fabric_script.specs.declared.ports.PortRef.{PortRef}
 use Rattle.maint_registers.specs.Devices as registers
 use Rattle.maint_registers.specs.Access.{locked}
-use Rattle.fabric_map.specs.declared.map.Kind.{Kind}
-use Rattle.fabric_map.specs.declared.map.Kind.TheVariants.{Endpoint, Switch}
 use Rattle.fabric_map.specs.declared.map.Device.{Device}
 use Rattle.fabric_map.specs.Topology.{Topology, entered, node_at}
 use Rattle.fabric_map.specs.Routes.{Registers}
 use Rattle.fabric_map.specs.Numbered.{paths_of}
-use Rattle.fabric_map.proofs.Growing.{paths_of-push, node_at-entered}
-use Rattle.fabric_map.proofs.Lists.{Contains-first, Contains-rest, Contains-cases}
-use Rattle.host_enumerate.specs.declared.maint.Access.TheVariants.{Read, Write}
-use Rattle.host_enumerate.specs.Accesses.{answered, with_device, after_access}
-use Rattle.host_enumerate.specs.Underway.{id_after, met_as}
+use Rattle.fabric_map.proofs.Growing.{node_at-entered}
+use Rattle.fabric_map.proofs.Lists.{Contains-first, Contains-cases}
+use Rattle.host_enumerate.specs.declared.maint.Access.TheVariants.{Write}
+use Rattle.host_enumerate.specs.Accesses.{answered, after_access}
 use Rattle.host_enumerate.proofs.Frames.{with_device-at, with_device-other}
 use Rattle.contest_machine.specs.declared.stages.Pending.{Pending}
-use Rattle.contest_machine.specs.declared.stages.Tried.{Tried}
 use Rattle.contest_machine.specs.declared.stages.Stage.{Stage}
 use Rattle.contest_machine.specs.declared.stages.Stage.TheVariants.{Ask, Claim, Check, Test, Features, Information, Status, Free, Done, Lost}
-use Rattle.contest_machine.specs.declared.stages.Asked.{Asked}
-use Rattle.contest_machine.specs.Machine.{Walker, State, fresh, kept, write, entry_set, routes_to, home_set, last_path, but_last, freeing, gone_on, taken, judged, numbered, set_up, outward, told, told_at, stepped}
-use Rattle.contest_machine.specs.Contest.{Keeps, IsAtPath, TagComes, Knows, IsOwnWrite, AreOwnWrites, AreListed, AreOnce, IsMine, HasClaimed}
-use Rattle.contest_machine.proofs.Lists.{Leads, once-front, once-last, split_last, writes-more, listed-more}
-use Rattle.contest_machine.proofs.Frame.{Does, Nothing, Writes, Takes, Frees, IsTurn}
-use Rattle.contest_machine.proofs.Reading.{read-same, lock_told, tag_told, write_keeps_lock, write_keeps_tag, tag_given, lock_left, locked-free, locked-own, locked-other}
-use Rattle.contest_machine.proofs.Turning.{Leaves, quiet, freeing_mine, judged_mine, taken_mine, gone_mine, gone-cases, routes_own, entry_own, home_own}
+use Rattle.contest_machine.specs.Machine.{Walker, kept, freeing, gone_on, taken, judged, told_at}
+use Rattle.contest_machine.specs.Contest.{Keeps, TagComes, Knows, AreOwnWrites, AreListed, AreOnce, IsMine, HasClaimed}
+use Rattle.contest_machine.proofs.Lists.{Leads}
+use Rattle.contest_machine.proofs.Frame.{Does, Nothing, Writes, Takes, IsTurn}
+use Rattle.contest_machine.proofs.Reading.{write_keeps_lock, write_keeps_tag, tag_given, lock_left, locked-free, locked-other}
+use Rattle.contest_machine.proofs.Turning.{Leaves, quiet, judged_mine, taken_mine, gone-cases}
 
 -- the walker between two writes, at this stage
 abbrev pub at_stage : Walker → Stage → Walker
 at_stage w stage = record w { todo = []; stage = stage }
 
-some_left : (p : Pending) (rest : List Pending) → p ∷ rest ≢ []
+pub some_left : (p : Pending) (rest : List Pending) → p ∷ rest ≢ []
 some_left p rest e = cc
 
 tag-irrelevant : (path : List ℕ) (p : Pending) (rest : List Pending) (tag other : ℕ)

@@ -3,7 +3,6 @@ use Rattle.std.proofs.Common.{◌≡◌, ◌≢◌, ℕ, ◌*◌, ◌<◌, Bool,
 use Rattle.std.proofs.lemmas.Bool.{cases_eq}
 use Rattle.std.proofs.lemmas.Option.{same_Some}
 use Rattle.maint_registers.specs.Devices as registers
-use Rattle.maint_registers.specs.Devices.{IsDevice, is_switch}
 use Rattle.fabric_map.specs.declared.map.Kind.TheVariants.{Endpoint}
 use Rattle.fabric_map.specs.Topology.{Topology, IsTopology, port_at}
 use Rattle.fabric_map.specs.Routes.{Registers}
@@ -18,11 +17,10 @@ use Rattle.contest_machine.specs.declared.stages.Pending.{Pending}
 use Rattle.contest_machine.specs.declared.stages.Stage.{Stage}
 use Rattle.contest_machine.specs.declared.stages.Stage.TheVariants.{Ask, Claim, Check, Test, Features, Information, Status, Free, Done, Lost}
 use Rattle.contest_machine.specs.Machine.{Walker, write, taken, numbered}
-use Rattle.contest_numbering.proofs.OnWay.{performed, taken_as, IsOnWay}
+use Rattle.contest_numbering.proofs.OnWay.{performed, taken_as, IsOnWay, not_foreign}
 use Rattle.contest_numbering.proofs.Settling.{performed-one, device_after}
 use Rattle.contest_numbering.proofs.Along.{IsAlong}
 use Rattle.maint_registers.proofs.AccessLaws.{base_id-written, tag-written}
-use Rattle.fabric_map.specs.Locked.{IsForeign}
 use Rattle.fabric_map.proofs.Steps.{begins}
 use Rattle.fabric_map.proofs.Lists.{not_in_empty}
 use Rattle.host_enumerate.specs.Accesses.{after_write}
@@ -183,16 +181,11 @@ module _ (view : Topology) (id : ℕ) (begun : Bool) (now : Registers) (proper :
           × (now view.host ≡ taken_as [] id 1 (way.before view.host))
       is = way.fresh view.host refl
 
-      not_foreign : IsTakable id (way.before view.host)
-          → ¬ IsForeign id (way.before view.host).lock
-      not_foreign (inl free) foreign = foreign.0 free
-      not_foreign (inr own) foreign = foreign.1 own.0
-
       is_taken : IsTaken id [] (way.before view.host) (now view.host)
       is_taken = subst (IsTaken id [] (way.before view.host)) (sym is.1) (record {
         lock = refl;
         tag = refl;
-        not_foreign = not_foreign is.0;
+        not_foreign = not_foreign id (way.before view.host) is.0;
         changes = record { rest = refl; routes = λ id most less apart. refl };
       })
 

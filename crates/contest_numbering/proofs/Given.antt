@@ -1,5 +1,5 @@
 -- An endpoint that a walker keeps has its ID, and the walker is on its way past it.
-use Rattle.std.proofs.Common.{◌≡◌, ◌≢◌, ℕ, ◌+◌, ◌*◌, ◌<◌, true, false, List, [], ◌∷◌, ◌++◌, length, Some, None, Contains, arith, inl, inr, subst, sym, refl, ap, ◌∙◌}
+use Rattle.std.proofs.Common.{◌≡◌, ◌≢◌, ℕ, ◌+◌, ◌*◌, ◌<◌, true, false, List, [], ◌∷◌, ◌++◌, length, Some, None, Contains, arith, subst, sym, refl, ap, ◌∙◌}
 use Rattle.std.proofs.lemmas.Option.{same_Some}
 use Rattle.fabric_script.specs.declared.ports.PortRef.{PortRef}
 use Rattle.maint_registers.specs.Devices as registers
@@ -11,7 +11,7 @@ use Rattle.fabric_map.specs.Topology.{entered, node_at}
 use Rattle.fabric_map.specs.Walked.{onward}
 use Rattle.fabric_map.specs.Routes.{Registers}
 use Rattle.fabric_map.specs.Fitting.{Fits}
-use Rattle.fabric_map.specs.Locked.{IsForeign, IsNext}
+use Rattle.fabric_map.specs.Locked.{IsNext}
 use Rattle.fabric_map.specs.Numbered.{paths_of}
 use Rattle.fabric_map.proofs.Growing.{node_at-entered}
 use Rattle.host_enumerate.specs.declared.maint.Access.TheVariants.{Write}
@@ -26,7 +26,7 @@ use Rattle.contest_machine.specs.declared.stages.Pending.{Pending}
 use Rattle.contest_machine.specs.declared.stages.Stage.TheVariants.{Features}
 use Rattle.contest_machine.specs.Machine.{Walker, write, routes_to}
 use Rattle.contest_machine.specs.Contest.{AreOnce}
-use Rattle.contest_numbering.proofs.OnWay.{one_performed, performed, taken_as, IsOnWay}
+use Rattle.contest_numbering.proofs.OnWay.{one_performed, performed, taken_as, IsOnWay, not_foreign}
 use Rattle.contest_machine.proofs.Stepped.{at_stage}
 use Rattle.contest_numbering.proofs.Routed.{routes_are_routed}
 
@@ -76,11 +76,6 @@ module _ (w : Walker) (now : Registers) (at : PortRef) (first : ℕ) (rest : Lis
       let told = way.fresh at.node at_path in
       (told.0, told.1 ∙ ap (λ p. taken_as p w.id (length w.devices + 1) (way.before at.node)) whole)
 
-  not_foreign : IsTakable w.id (way.before at.node)
-      → ¬ IsForeign w.id (way.before at.node).lock
-  not_foreign (inl free) foreign = foreign.0 free
-  not_foreign (inr own) foreign = foreign.1 own.0
-
   taken : IsTaken w.id w.devices (way.before at.node) (mid at.node)
   taken =
       subst (λ d. IsTaken w.id w.devices (way.before at.node) d)
@@ -88,7 +83,7 @@ module _ (w : Walker) (now : Registers) (at : PortRef) (first : ℕ) (rest : Lis
       (record {
         lock = refl;
         tag = refl;
-        not_foreign = not_foreign fresh.0;
+        not_foreign = not_foreign w.id (way.before at.node) fresh.0;
         changes = record {
           rest = refl;
           routes = λ id most less apart. refl;

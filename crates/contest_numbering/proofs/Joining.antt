@@ -11,12 +11,11 @@ use Rattle.fabric_map.specs.Topology.{entered}
 use Rattle.fabric_map.specs.Walked.{onward}
 use Rattle.fabric_map.specs.Routes.{Registers}
 use Rattle.fabric_map.specs.Fitting.{Fits}
-use Rattle.fabric_map.specs.Locked.{IsForeign, IsNext}
+use Rattle.fabric_map.specs.Locked.{IsNext}
 use Rattle.fabric_map.specs.Numbered.{paths_of}
 use Rattle.fabric_map.proofs.Few.{entered-inside, entered-port}
 use Rattle.fabric_map.proofs.Growing.{paths_of-push, node_at-entered}
 use Rattle.fabric_map.proofs.Lists.{Contains-first}
-use Rattle.host_enumerate.specs.Holding.{IsTakable}
 use Rattle.host_enumerate.specs.Underway.{met_as, IsUnmet, IsUnderway}
 use Rattle.host_enumerate.specs.Accesses.{with_device}
 use Rattle.host_enumerate.specs.Setting.{IsSetUp}
@@ -27,7 +26,7 @@ use Rattle.host_enumerate.proofs.TakingSwitch.{IsTaken, underway-switch}
 use Rattle.contest_machine.specs.declared.stages.Pending.{Pending}
 use Rattle.contest_machine.specs.declared.stages.Stage.TheVariants.{Information}
 use Rattle.contest_machine.specs.Machine.{Walker, home_set, entry_set, cleared_below, set_up}
-use Rattle.contest_numbering.proofs.OnWay.{performed, taken_as, IsListed, IsApart, IsOnWay}
+use Rattle.contest_numbering.proofs.OnWay.{performed, taken_as, IsListed, IsApart, IsOnWay, not_foreign}
 use Rattle.contest_machine.proofs.Stepped.{at_stage}
 use Rattle.contest_numbering.proofs.Settling.{AreAt, performed-one, after-home, device_after}
 
@@ -71,7 +70,7 @@ module _ (w : Walker) (now : Registers) (at : PortRef) (ports : ℕ)
       (record {
         lock = refl;
         tag = refl;
-        not_foreign = not_foreign fresh.0;
+        not_foreign = not_foreign w.id (way.before at.node) fresh.0;
         changes = record {
           rest = refl;
           routes = λ id most less apart. refl;
@@ -83,11 +82,6 @@ module _ (w : Walker) (now : Registers) (at : PortRef) (ports : ℕ)
           ≡ record device { lock = w.id; tag = length w.devices + 1 }
       behind [] by device = refl
       behind (x ∷ front) by device = refl
-
-      not_foreign : IsTakable w.id (way.before at.node)
-          → ¬ IsForeign w.id (way.before at.node).lock
-      not_foreign (inl free) foreign = foreign.0 free
-      not_foreign (inr own) foreign = foreign.1 own.0
 
   unmet : IsUnmet w.view w.devices at.node
   unmet = way.new at.node (node_at-entered w.view w.path at enters)

@@ -1,5 +1,5 @@
 -- Each access leaves a walker along its way.
-use Rattle.std.proofs.Common.{◌≡◌, ◌≢◌, ℕ, ◌<◌, List, [], ◌∷◌, Some, Contains, subst, sym, ap, ◌∙◌}
+use Rattle.std.proofs.Common.{◌≡◌, ◌≢◌, ◌⊎◌, inl, inr, ℕ, ◌<◌, List, [], ◌∷◌, Some, Contains, refl, subst, sym, ap, ◌∙◌}
 use Rattle.fabric_script.specs.declared.ports.PortRef.{PortRef}
 use Rattle.maint_registers.specs.Devices as registers
 use Rattle.maint_registers.specs.Devices.{IsDevice, is_switch}
@@ -19,11 +19,12 @@ use Rattle.contest_machine.specs.declared.stages.Stage.TheVariants.{Ask, Claim, 
 use Rattle.contest_machine.specs.Machine.{Walker, gone_on, taken}
 use Rattle.contest_machine.specs.Contest.{IsMine}
 use Rattle.contest_machine.proofs.Stepped.{at_stage}
-use Rattle.contest_numbering.proofs.OnWay.{IsOnWay}
+use Rattle.contest_machine.specs.declared.stages.Stage.{Stage}
+use Rattle.contest_numbering.proofs.OnWay.{IsOnWay, IsListed, IsApart, IsFresh, bound_at}
 use Rattle.contest_numbering.proofs.Claiming.{claim_on_way, won_on_way}
 use Rattle.contest_numbering.proofs.Failing.{lost_on_way, own_on_way}
 use Rattle.contest_numbering.proofs.Chained.{AreChained}
-use Rattle.contest_numbering.proofs.Along.{IsHere, IsAlong, front_of, port_of, here_is, past_is, first_of, gone_along}
+use Rattle.contest_numbering.proofs.Along.{IsHere, IsHereAt, IsAlong, front_of, port_of, here_is, past_is, first_of, gone_along}
 
 -- more devices in the list
 pub chain_more : (view : Topology) (devices more : List Device) (tried : List Tried)
@@ -54,39 +55,43 @@ front_listed view devices path [] chained walked here =
 front_listed view devices path (top ∷ rest) chained walked here = chained.0.listed
 
 module _ (w : Walker) (now : Registers) (fits : w.id < 0xff) where
+  -- at another stage, with the same bound and the same devices apart
+  restaged : (stage next : Stage)
+      → bound_at (at_stage w next) next ≡ bound_at (at_stage w stage) stage
+      → ((node : ℕ) → IsApart (at_stage w next) next node → IsApart (at_stage w stage) stage node)
+      → ((node : ℕ) → IsApart (at_stage w stage) stage node → IsApart (at_stage w next) next node)
+      → ((way : IsOnWay (at_stage w stage) now) → IsFresh (at_stage w next) way.before now next)
+      → IsHereAt (at_stage w next) next → IsAlong (at_stage w stage) now
+      → IsAlong (at_stage w next) now
+  restaged stage next bound back on fresh here along = record {
+    way = record {
+      before = along.way.before;
+      seen = along.way.seen;
+      underway =
+          subst (λ l. IsUnderway w.view along.way.before along.way.seen w.id w.devices w.next l)
+          (sym bound) along.way.underway;
+      seen_is = λ node none. along.way.seen_is node (λ apart. none (on node apart));
+      new = λ node apart. along.way.new node (back node apart);
+      hosted = hosted along.way.hosted;
+      fresh = fresh along.way;
+    };
+    host = along.host;
+    chained = along.chained;
+    here = here;
+  }
+    where
+      hosted : IsListed w.view w.devices w.view.host ⊎ IsApart (at_stage w stage) stage w.view.host
+          → IsListed w.view w.devices w.view.host ⊎ IsApart (at_stage w next) next w.view.host
+      hosted (inl listed) = inl listed
+      hosted (inr apart) = inr (on w.view.host apart)
+
   -- a lock that was read, and is to be read again or claimed, or whose tag is to be read
   pub ask_along : IsAlong (at_stage w Ask) now → IsAlong (at_stage w Ask) now
       × IsAlong (at_stage w Claim) now × IsAlong (at_stage w Test) now
   ask_along along = (
     along,
-    record {
-      way = record {
-        before = along.way.before;
-        seen = along.way.seen;
-        underway = along.way.underway;
-        seen_is = along.way.seen_is;
-        new = along.way.new;
-        hosted = along.way.hosted;
-        fresh = tt;
-      };
-      host = along.host;
-      chained = along.chained;
-      here = along.here;
-    },
-    record {
-      way = record {
-        before = along.way.before;
-        seen = along.way.seen;
-        underway = along.way.underway;
-        seen_is = along.way.seen_is;
-        new = along.way.new;
-        hosted = along.way.hosted;
-        fresh = tt;
-      };
-      host = along.host;
-      chained = along.chained;
-      here = along.here;
-    },
+    restaged Ask Claim refl (λ node a. a) (λ node a. a) (λ way. tt) along.here along,
+    restaged Ask Test refl (λ node a. a) (λ node a. a) (λ way. tt) along.here along,
   )
 
   module _ (at : PortRef) (enters : entered w.view w.path ≡ Some at) where
@@ -156,20 +161,9 @@ module _ (w : Walker) (now : Registers) (fits : w.id < 0xff) where
 
     -- it is a switch
     pub information_along : IsAlong (at_stage w Features) now → IsAlong (at_stage w Information) now
-    information_along along = record {
-      way = record {
-        before = along.way.before;
-        seen = along.way.seen;
-        underway = along.way.underway;
-        seen_is = along.way.seen_is;
-        new = along.way.new;
-        hosted = along.way.hosted;
-        fresh = along.way.fresh;
-      };
-      host = along.host;
-      chained = along.chained;
-      here = along.here;
-    }
+    information_along along =
+        restaged Features Information refl (λ node a. a) (λ node a. a) (λ way. way.fresh) along.here
+        along
 
     pub not_host : IsOnWay (at_stage w Features) now → IsMember w.view w.devices w.view.host
         → at.node ≢ w.view.host

@@ -1,11 +1,13 @@
 -- How far a walker has come, said of the registers as its writes that are left will make them.
 use Rattle.std.specs.Prelude.{◌≡◌, ℕ, ◌+◌, ◌⊎◌, List, [], ◌∷◌, length, Contains, Option, Some, None}
+use Rattle.std.proofs.Common.{inl, inr}
 use Rattle.fabric_script.specs.declared.ports.PortRef.{PortRef}
 use Rattle.maint_registers.specs.Devices as registers
 use Rattle.fabric_map.specs.declared.map.Device.{Device}
 use Rattle.fabric_map.specs.Topology.{Topology, entered, node_at}
 use Rattle.fabric_map.specs.Walked.{onward, after_all_paths}
 use Rattle.fabric_map.specs.Routes.{Registers}
+use Rattle.fabric_map.specs.Locked.{IsForeign}
 use Rattle.host_enumerate.specs.declared.maint.Access.TheVariants.{Write}
 use Rattle.host_enumerate.specs.Accesses.{after_access}
 use Rattle.host_enumerate.specs.Holding.{IsTakable}
@@ -16,6 +18,12 @@ use Rattle.contest_machine.specs.declared.stages.Stage.{Stage}
 use Rattle.contest_machine.specs.declared.stages.Stage.TheVariants.{Ask, Claim, Check, Test, Features, Information, Status, Free, Done, Lost}
 use Rattle.contest_machine.specs.Machine.{Walker}
 use Rattle.contest_machine.specs.Contest.{IsAtPath}
+
+-- what may be taken belongs to no other
+pub not_foreign : (id : ℕ) (device : registers.Device) → IsTakable id device
+    → ¬ IsForeign id device.lock
+not_foreign id device (inl free) foreign = foreign.0 free
+not_foreign id device (inr own) foreign = foreign.1 own.0
 
 -- the registers after one write to the device that a path enters
 abbrev pub one_performed : Registers → Pending → Option PortRef → Registers

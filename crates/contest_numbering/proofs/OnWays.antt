@@ -24,6 +24,7 @@ use Rattle.contest_machine.specs.Contest.{Keeps, IsAtPath, Knows, IsMine}
 use Rattle.contest_numbering.proofs.OnWay.{one_performed, performed, bound_at, IsApart, taken_as, IsFresh, IsOnWay}
 use Rattle.contest_machine.proofs.Lists.{Leads, leads_or_not}
 use Rattle.contest_machine.proofs.Frame.{IsTurn, unchanged, kept_stays}
+use Rattle.contest_machine.proofs.Stepped.{some_left}
 use Rattle.contest_numbering.proofs.Performing.{performed-agree, performed-beside}
 
 -- A host stays underway, whatever happens to devices that it has not met, if none of them comes to
@@ -323,9 +324,6 @@ write_on_way w p rest old at mine enters way = record {
         ⊎ IsApart (record w { todo = rest }) stage w.view.host
     hosted stage (inl member) = inl member
     hosted stage (inr apart) = inr (apart_back stage w.view.host apart)
-
-    some_left : (p : Pending) (rest : List Pending) → p ∷ rest ≢ []
-    some_left p rest e = cc
 
     fresh_on : (stage : Stage) → Knows (record w { todo = p ∷ rest }) old stage
         → IsFresh (record w { todo = p ∷ rest }) way.before old stage

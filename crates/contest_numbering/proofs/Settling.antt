@@ -1,5 +1,5 @@
 -- The writes that are left for a switch, made one after another, set it up.
-use Rattle.std.proofs.Common.{◌≡◌, ◌≢◌, ℕ, zero, suc, ◌+◌, ◌<◌, ◌≤◌, ◌==◌, Bool, true, false, eqb, List, [], ◌∷◌, ◌++◌, length, Some, slice_set, arith, ◌⊎◌, inl, inr, subst, sym, refl, ap, ◌∙◌, if◌then◌else◌}
+use Rattle.std.proofs.Common.{◌≡◌, ◌≢◌, ℕ, zero, suc, ◌+◌, ◌%◌, ◌<◌, ◌≤◌, ◌==◌, Bool, true, false, eqb, List, [], ◌∷◌, ◌++◌, length, Some, arith, ◌⊎◌, inl, inr, subst, sym, refl, ap, ◌∙◌, if◌then◌else◌}
 use Rattle.std.proofs.lemmas.Bool.{cases_eq, eqb-true}
 use Rattle.fabric_script.specs.declared.ports.PortRef.{PortRef}
 use Rattle.maint_registers.specs.Devices.{Device, is_switch}
@@ -66,21 +66,27 @@ after-append device port [] second = refl
 after-append device port (p ∷ rest) second =
     after-append (answered device port (Write p.offset p.value)).device port rest second
 
--- an entry is set
-pub after-entry : (device : Device) (port : ℕ) (path : List ℕ) (id value : ℕ)
-    → is_switch device ≡ true → id < 256 → value < 256
-    → device_after device port (entry_set path id value) ≡ with_entry device id value
-after-entry device port path id value is few small =
+-- the two writes of an entry
+pub entry_after : (device : Device) (port : ℕ) (path : List ℕ) (id value : ℕ)
+    → is_switch device ≡ true → id < 256
+    → device_after device port (entry_set path id value) ≡ with_entry device id (value % 0x100)
+entry_after device port path id value is few =
     ap (λ d. (answered d port (Write 0x74 value)).device) selected
-    ∙ (ap (λ o. (after_write (record device { select = id }) o).device)
+    ∙ ap (λ o. (after_write (record device { select = id }) o).device)
     (entry-written (record device { select = id }) value is)
-    ∙ ap (λ n. record device { select = id; routes = slice_set device.routes id n })
-    (omega (arith, small)))
   where
     selected : (answered device port (Write 0x70 id)).device ≡ record device { select = id }
     selected =
         ap (λ o. (after_write device o).device) (select-written device id is)
         ∙ ap (λ n. record device { select = n }) (omega (arith, few))
+
+-- of a port that fits
+pub after-entry : (device : Device) (port : ℕ) (path : List ℕ) (id value : ℕ)
+    → is_switch device ≡ true → id < 256 → value < 256
+    → device_after device port (entry_set path id value) ≡ with_entry device id value
+after-entry device port path id value is few small =
+    entry_after device port path id value is few
+    ∙ ap (λ n. with_entry device id n) (omega (arith, small))
 
 module _ (device : Device) (port : ℕ) (path : List ℕ) (host_id : ℕ)
     (is : is_switch device ≡ true) (destinations : length device.routes ≡ 1024) where

@@ -31,15 +31,18 @@ bits_low (suc w) k a b h =
     ap (λ t. (t == 1) ∷ bits w (a * 2 ^ k + b)) low ∙ ap (λ t. (bit_at b w == 1) ∷ t) rest
 
 -- two fields side by side
-pub bits_cat : (j k a b n : ℕ) → n ≡ j + k → b < 2 ^ k → bits n (a * 2 ^ k + b) ≡ bits j a ++ bits k b
+pub bits_cat : (j k a b n : ℕ) → n ≡ j + k → b < 2 ^ k → bits n (a * 2 ^ k + b) ≡ bits j a
+    ++ bits k b
 bits_cat zero k a b n e h =
     let same : n ≡ k = omega arith in
     rw (same, bits-zero) (bits_low k k a b (omega arith))
 bits_cat (suc j) k a b n e h =
     let same : n ≡ suc (j + k) = omega arith in
     let back : j + k - k ≡ j = omega arith in
-    let high : bit_at (a * 2 ^ k + b) (j + k) ≡ bit_at a (j + k - k) = bit_at_cat_high a k b (j + k) h (omega arith) in
-    let rest : bits (j + k) (a * 2 ^ k + b) ≡ bits j a ++ bits k b = bits_cat j k a b (j + k) refl h in
+    let high : bit_at (a * 2 ^ k + b) (j + k) ≡ bit_at a (j + k - k) =
+    bit_at_cat_high a k b (j + k) h (omega arith) in
+    let rest : bits (j + k) (a * 2 ^ k + b) ≡ bits j a ++ bits k b =
+    bits_cat j k a b (j + k) refl h in
     rw same (bits-suc (j + k) _
     ∙ ap (λ t. (t == 1) ∷ bits (j + k) (a * 2 ^ k + b)) (high ∙ ap (bit_at a) back)
     ∙ ap (λ t. (bit_at a j == 1) ∷ t) rest
@@ -60,8 +63,10 @@ unfolding bits
 bits_xor zero a b = refl
 bits_xor (suc w) a b =
     let here : (bit_at (bit_xor a b) w == 1) ≡ bit_sum (bit_at a w == 1) (bit_at b w == 1) =
-    ap (λ t. t == 1) (bit_at_xor a b w) ∙ sym (bit_sum-tests (bit_at a w) (bit_at b w) (bit_at-lt a w) (bit_at-lt b w)) in
-    ap (λ t. t ∷ bits w (bit_xor a b)) here ∙ ap (λ t. bit_sum (bit_at a w == 1) (bit_at b w == 1) ∷ t) (bits_xor w a b)
+    ap (λ t. t == 1) (bit_at_xor a b w)
+    ∙ sym (bit_sum-tests (bit_at a w) (bit_at b w) (bit_at-lt a w) (bit_at-lt b w)) in
+    ap (λ t. t ∷ bits w (bit_xor a b)) here
+    ∙ ap (λ t. bit_sum (bit_at a w == 1) (bit_at b w == 1) ∷ t) (bits_xor w a b)
 
 -- a field of zero bits
 pub bits_of_zero : (w : ℕ) → bits w 0 ≡ replicate w false
@@ -91,7 +96,8 @@ same_bit zero a b e i h = absurd (omega arith)
 same_bit (suc w) a b e i h =
     let within : i ≤ w = omega arith in
     elim (eq-or-lt_of_le within) [
-      | inl at ↦ subst (λ (k : ℕ). bit_at a k ≡ bit_at b k) (sym at) (same_by_test _ _ (bit_at-lt a w) (bit_at-lt b w) (heads _ _ _ _ e))
+      | inl at ↦ subst (λ (k : ℕ). bit_at a k ≡ bit_at b k) (sym at)
+          (same_by_test _ _ (bit_at-lt a w) (bit_at-lt b w) (heads _ _ _ _ e))
       | inr below ↦ same_bit w a b (tails _ _ _ _ e) i below
     ]
 

@@ -1,4 +1,5 @@
--- Long division of a list of bits by a polynomial, whose coefficients are bits too: sums are without carry.
+-- Long division of a list of bits by a polynomial, whose coefficients are bits too: sums are
+-- without carry.
 use Rattle.std.specs.Prelude.{ℕ, zero, suc, ◌+◌, ◌-◌, if◌then◌else◌, Bool, true, false, not, List, [], ◌∷◌, length, drop}
 
 -- the sum of two bits

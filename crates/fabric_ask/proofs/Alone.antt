@@ -28,6 +28,11 @@ pub chosen : (b : Bool) (x y : List Item) (item : Item) → x ≡ alone true ite
 chosen true x y item own other = own
 chosen false x y item own other = other
 
+-- one list that is empty, of those that a test tells apart
+pub gone : (b : Bool) (x y : List Item) → x ≡ [] → (b ≡ false → y ≡ []) → (if b then x else y) ≡ []
+gone true x y own other = own
+gone false x y own other = other refl
+
 pub and_refl : (q : PortRef) (r : ℕ) → (same_port q q && (r == r)) ≡ true
 and_refl q r = and_from (same_port q q) (r == r) (same_port-refl q) (eq-eqb r r refl)
 
@@ -66,10 +71,6 @@ held_lent net p q item only peer =
     joined : (xs ys : List Item) → xs ≡ [] → ys ≡ item ∷ [] → xs ++ ys ≡ item ∷ []
     joined xs ys first second = λ i. first i ++ second i
 
-    gone : (b : Bool) (x y : List Item) → x ≡ [] → (b ≡ false → y ≡ []) → (if b then x else y) ≡ []
-    gone true x y own other = own
-    gone false x y own other = other refl
-
     own : IsLent (after_hold net q (Some p) (prio_of item.now)) p q item
     own = record {
       received = λ c s. chosen (same_port c q && (s == prio_of item.now)) _ _ item
@@ -98,10 +99,6 @@ freed_only net p q item packet lent = record {
       (ap behind_first (lent.lent p ∙ ap (λ b. alone b item) (same_port-refl p)))
       (λ other. lent.lent c ∙ ap (λ b. alone b item) other);
 }
-  where
-    gone : (b : Bool) (x y : List Item) → x ≡ [] → (b ≡ false → y ≡ []) → (if b then x else y) ≡ []
-    gone true x y own other = own
-    gone false x y own other = other refl
 
 -- ---- the steps of a link
 

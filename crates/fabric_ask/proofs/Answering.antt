@@ -22,6 +22,7 @@ use Rattle.fabric_model.specs.Network.{Item, port_of, same_port, peer_in, room_o
 use Rattle.fabric_model.specs.Steps.{Take, Leave, AtNode, item_of}
 use Rattle.fabric_model.specs.Laws.Leaving.{IsAfterMoves}
 use Rattle.fabric_model.proofs.Forms.{device_at}
+use Rattle.fabric_model.proofs.Nodes.{few_prio}
 use Rattle.fabric_trace.specs.Blocks.{Asks}
 use Rattle.fabric_trace.specs.Fold.{seen_line, seen}
 use Rattle.fabric_trace.specs.Known.{Seen}
@@ -29,7 +30,7 @@ use Rattle.fabric_trace.specs.Lines.{TraceLine, Stepped, Lacked, Full}
 use Rattle.fabric_trace.specs.Parts.{Made, Steps}
 use Rattle.fabric_trace.specs.Served.{face_in, IsCollect}
 use Rattle.fabric_trace.proofs.Folding.{seen-append}
-use Rattle.fabric_trace.proofs.Keeping.{few_prio, IsGood, good_by_priority, made_keeps}
+use Rattle.fabric_trace.proofs.Keeping.{IsGood, good_by_priority, made_keeps}
 use Rattle.fabric_trace.proofs.Making.{one_part, made-append, made_by}
 use Rattle.fabric_ask.specs.Only.{Held, Waits, IsOnly, IsClear}
 use Rattle.fabric_ask.specs.Course.{IsDevicePort, IsEndpointIn, IsLaid, FinalAt, AtHost, NotHost}

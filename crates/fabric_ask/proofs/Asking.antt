@@ -15,13 +15,14 @@ use Rattle.fabric_model.specs.Serving.{response_at, device_after}
 use Rattle.fabric_model.specs.Steps.{item_of}
 use Rattle.fabric_model.specs.Laws.Leaving.{IsAfterMoves}
 use Rattle.fabric_model.proofs.Moving.{sent_by}
+use Rattle.fabric_model.proofs.Nodes.{few_prio}
 use Rattle.fabric_trace.specs.Fold.{seen}
 use Rattle.fabric_trace.specs.Known.{Seen}
 use Rattle.fabric_trace.specs.Lines.{TraceLine}
 use Rattle.fabric_trace.specs.Parts.{Made}
 use Rattle.fabric_trace.specs.Served.{IsCollect}
 use Rattle.fabric_trace.proofs.Folding.{seen-append}
-use Rattle.fabric_trace.proofs.Keeping.{few_prio, IsGood, made_keeps}
+use Rattle.fabric_trace.proofs.Keeping.{IsGood, made_keeps}
 use Rattle.fabric_ask.proofs.Serving.{first_only}
 use Rattle.fabric_ask.proofs.Passing.{turn_some}
 use Rattle.fabric_ask.specs.Only.{Held, Waits, IsOnly, IsClear}

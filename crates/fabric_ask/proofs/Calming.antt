@@ -1,5 +1,5 @@
 -- In rounds without edits no event is unfaithful.
-use Rattle.std.proofs.Common.{◌≡◌, ℕ, zero, suc, ◌||◌, ◌==◌, Bool, true, false, List, [], ◌∷◌, ◌++◌, Option, Some, None, refl, sym, ap, ◌∙◌, subst}
+use Rattle.std.proofs.Common.{◌≡◌, ℕ, zero, suc, ◌||◌, ◌==◌, Bool, true, false, List, [], ◌∷◌, ◌++◌, Some, None, refl, sym, ap, ◌∙◌, subst}
 use Rattle.link_model.specs.Places.{place_after, at_rest}
 use Rattle.link_model.specs.Said.{said}
 use Rattle.link_wires.specs.Kept.{IsSubsequence}
@@ -10,7 +10,7 @@ use Rattle.link_watch.specs.declared.side.Side.TheVariants.{A}
 use Rattle.fabric_script.specs.declared.ports.PortRef.{PortRef}
 use Rattle.fabric_model.specs.Network.{same_port, port_of, peer_in, link_in}
 use Rattle.fabric_model.specs.Laws.Proper.{AreProper}
-use Rattle.fabric_model.proofs.Peers.{ArePeers, port_is, link_peers, peer_back, same_port-refl}
+use Rattle.fabric_model.proofs.Peers.{ArePeers, port_is, link_peers, peer_back, same_port-refl, some_is}
 use Rattle.fabric_trace.specs.Blocks.{pumps, IsSettle}
 use Rattle.fabric_trace.specs.Fold.{seen_line, seen}
 use Rattle.fabric_trace.specs.Known.{Wire, Seen, link_at, kept_of}
@@ -22,12 +22,11 @@ use Rattle.switch_core.specs.declared.endpoint.Collected.{Collected}
 use Rattle.switch_core.specs.declared.endpoint.Collected.TheVariants as Collects
 use Rattle.switch_core.specs.EndpointSteps.{collected}
 use Rattle.maint_registers.specs.Devices.{Device, is_switch}
-use Rattle.fabric_model.specs.Steps.{ByDevice}
 use Rattle.fabric_trace.specs.Rounds.{Follows, NamesNothing, Joined, ServesAll, Rests, Goes, ServeNodes}
 use Rattle.fabric_trace.proofs.Folding.{seen-append}
 use Rattle.fabric_trace.proofs.Keeping.{IsGood, made_keeps, legal_links}
 use Rattle.fabric_trace.proofs.Making.{AreOthers, Reaches, pump_reaches, made-append, made_by}
-use Rattle.fabric_trace.proofs.Rounds.{AreFound, all_found, by_test}
+use Rattle.fabric_trace.proofs.Rounds.{AreFound, all_found, by_test, serves_made}
 use Rattle.fabric_trace.proofs.Running.{acts_reach, move_made}
 use Rattle.fabric_trace.proofs.Walks.{peers_round}
 use Rattle.fabric_ask.specs.Noise.{stirred, IsCarry}
@@ -160,12 +159,9 @@ calm_same s t a b first second calm = record {
   };
 }
 
-some_is : {X : Type 0} (o : Option X) (x y : X) → o ≡ Some x → o ≡ Some y → x ≡ y
-some_is None x y first second = absurd cc
-some_is (Some z) x y first second = cc
-
 -- after one link the others are calm as they were
-after_link : (s t : Seen) (a b : PortRef) → AreProper s.network.links → ArePeers s.network.links a b
+pub after_link : (s t : Seen) (a b : PortRef) → AreProper s.network.links
+    → ArePeers s.network.links a b
     → AreOthers s t a b → IsCalm (link_at t a b) → AllCalm s → AllCalm t
 after_link s t a b proper peers others own all c d peer =
     by_ends (same_port c a) (same_port c b) refl refl
@@ -260,13 +256,6 @@ steps_still s (Lacked lack ∷ lines) only = steps_still s lines only
 steps_still s (Ended ∷ lines) only = absurd only
 steps_still s (Undetected n q e ∷ lines) only = absurd only
 
-pub serves_made : {s : Seen} {node : ℕ} {lines : List TraceLine} → IsGood s → ServesAll s node lines
-    → Made s lines
-serves_made {s} {node} {lines} good (Rests move is) = Done is
-serves_made {s} {node} {lines} good (Goes step rest move is more) =
-    let one = move_made s node (Stepped (ByDevice step) ∷ []) good move in
-    made_by is (made-append one (serves_made (made_keeps good one).good more))
-
 pub collects_made : {s : Seen} {node : ℕ} {lines : List TraceLine} → IsGood s → s.unfaithful ≡ None
     → CollectsAll s node lines → Made s lines
 collects_made {s} {node} {lines} good none (CollectsAll.Rests move is) = Done is
@@ -295,7 +284,7 @@ serve_made [] k s lines good none is = Done is
 serve_made (device ∷ devices) k s lines good none is =
     by_test (is_switch device)
     (λ joined. joined_made (ServesAll s k) (ServeNodes (suc k) devices) s lines good none
-    (λ first own. (serves_made good own, serves_steps own))
+    (λ first own. (serves_made move_made good own, serves_steps own))
     (λ t rest g still more. serve_made devices (suc k) t rest g still more) joined)
     (λ more. serve_made devices (suc k) s lines good none more) is
 

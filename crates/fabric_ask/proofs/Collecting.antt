@@ -16,6 +16,7 @@ use Rattle.fabric_script.specs.declared.ports.PortRef.{PortRef}
 use Rattle.fabric_script.specs.declared.lines.Line.TheVariants.{Collect}
 use Rattle.fabric_model.specs.Network.{Item, Network, port_of, IsEndpoint}
 use Rattle.fabric_model.specs.Steps.{Step, Leave, Answer, AtNode, ByDevice, Needs, IsFirst, without_first, after}
+use Rattle.fabric_model.proofs.Nodes.{few_prio}
 use Rattle.fabric_trace.specs.Fold.{seen_line, seen}
 use Rattle.fabric_trace.specs.Known.{Seen}
 use Rattle.fabric_trace.specs.Lines.{Full, Empty, TraceLine, Stepped, Lacked}
@@ -26,7 +27,7 @@ use Rattle.fabric_trace.specs.Views.{lists_in, queue}
 use Rattle.fabric_trace.proofs.Faces.{CollectNeeds, collect_needs, head_held}
 use Rattle.link_buffers.specs.Queues.{list_at}
 use Rattle.switch_core.proofs.OrderLaws.{greatest_first-is}
-use Rattle.fabric_trace.proofs.Keeping.{few_prio, IsGood, good_by_priority, made_keeps}
+use Rattle.fabric_trace.proofs.Keeping.{IsGood, good_by_priority, made_keeps}
 use Rattle.fabric_trace.proofs.Rounds.{by_test}
 use Rattle.fabric_trace.proofs.Running.{block_made}
 use Rattle.fabric_ask.specs.Only.{Held, IsOnly, IsClear}

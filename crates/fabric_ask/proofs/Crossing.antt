@@ -6,7 +6,7 @@ use Rattle.link_rest.specs.Rest.{IsSettled}
 use Rattle.link_wires.specs.declared.edits.Edit.{Edit}
 use Rattle.fabric_script.specs.declared.ports.PortRef.{PortRef}
 use Rattle.fabric_model.specs.Network.{Item, Network, same_port, peer_in, link_in}
-use Rattle.fabric_model.proofs.Peers.{ArePeers, port_is, same_port-refl, link_peers}
+use Rattle.fabric_model.proofs.Peers.{ArePeers, port_is, same_port-refl, link_peers, some_is}
 use Rattle.fabric_trace.specs.Fold.{seen}
 use Rattle.fabric_trace.specs.Known.{Found, Seen, link_at}
 use Rattle.fabric_trace.specs.Lines.{TraceLine, steps_of}
@@ -43,10 +43,6 @@ either_end a b p is = by_test (same_port p a) (same_port p b) refl refl is
     by_test true y first second is = inl (port_is p a first)
     by_test false true first second is = inr (port_is p b second)
     by_test false false first second is = absurd cc
-
-some_is : {X : Type 0} (o : Option X) (x y : X) → o ≡ Some x → o ≡ Some y → x ≡ y
-some_is None x y first second = absurd cc
-some_is (Some z) x y first second = cc
 
 turned_link : {t : Seen} {a b : PortRef} → IsLink t a b → IsLink t b a
 turned_link is = link_round is

@@ -1,5 +1,5 @@
 -- Switches serve and endpoints collect, and the one packet is with one of them.
-use Rattle.std.proofs.Common.{◌≡◌, ℕ, zero, suc, ◌+◌, ◌≤◌, Bool, true, false, List, [], ◌∷◌, ◌++◌, Option, Some, None, slice_get, sym, ap, ◌∙◌, subst, arith, MatchBool, append-nil}
+use Rattle.std.proofs.Common.{◌≡◌, ℕ, zero, suc, ◌+◌, ◌≤◌, true, false, List, [], ◌∷◌, ◌++◌, Some, None, slice_get, sym, ap, ◌∙◌, subst, arith, MatchBool, append-nil}
 use Rattle.rio_packets.specs.Fields.{prio_of}
 use Rattle.rio_packets.specs.LinkForm.{Passes}
 use Rattle.maint_registers.specs.Devices.{Device, is_switch}
@@ -7,13 +7,15 @@ use Rattle.fabric_script.specs.declared.ports.PortRef.{PortRef}
 use Rattle.fabric_model.specs.Network.{Item, Network, IsEndpoint, IsSwitch, switch_at}
 use Rattle.fabric_model.specs.Steps.{DeviceStep, ByDevice}
 use Rattle.fabric_model.proofs.Emptying.{port_by}
+use Rattle.fabric_model.proofs.Nodes.{few_prio}
+use Rattle.fabric_model.proofs.Flows.{two_kinds}
 use Rattle.fabric_trace.specs.Fold.{seen_line, seen}
 use Rattle.fabric_trace.specs.Known.{Seen}
 use Rattle.fabric_trace.specs.Lines.{TraceLine, Stepped, steps_of}
 use Rattle.fabric_trace.specs.Parts.{Made}
 use Rattle.fabric_trace.specs.Rounds.{Joined, ServesAll, Rests, Goes, ServeNodes}
 use Rattle.fabric_trace.specs.Served.{IsMove}
-use Rattle.fabric_trace.proofs.Keeping.{few_prio, IsGood, made_keeps, legal_links}
+use Rattle.fabric_trace.proofs.Keeping.{IsGood, made_keeps, legal_links}
 use Rattle.fabric_trace.proofs.Rounds.{by_test}
 use Rattle.fabric_trace.proofs.Running.{move_made}
 use Rattle.fabric_ask.specs.Only.{Held, IsOnly}
@@ -168,10 +170,6 @@ serve_endpoint devices s lines q item good only endpoint serves still =
     serve_quiet devices 0 s lines (λ node own above. serves_other s node own q item good only
     (λ switch same. two_kinds (switch_at s.network node)
     (subst (λ n. switch_at s.network n ≡ Some false) same endpoint) switch)) serves still
-  where
-    two_kinds : (o : Option Bool) → o ≡ Some false → o ≡ Some true → ⊥
-    two_kinds None first second = absurd cc
-    two_kinds (Some kind) first second = let clash : false ≡ true = cc in absurd cc
 
 pub serve_nothing : (devices : List Device) (s : Seen) (lines : List TraceLine) → IsGood s
     → NoneHeld s.network → ServeNodes 0 devices s lines → (seen s lines).unfaithful ≡ None

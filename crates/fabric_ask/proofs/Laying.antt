@@ -1,12 +1,10 @@
 -- A fabric stays laid out as it is when a device answers.
-use Rattle.std.proofs.Common.{◌≡◌, ℕ, zero, suc, ◌<◌, List, [], ◌∷◌, Option, Some, None, option_map, slice_get, refl, sym, ap, ◌∙◌, subst}
-use Rattle.maint_registers.specs.Devices.{Device, IsSameDevice, is_switch}
-use Rattle.maint_registers.specs.Access.{value_at, written_at}
-use Rattle.maint_registers.proofs.SameLaws.{written_same}
-use Rattle.maint_packets.specs.declared.request.Op.{Op}
-use Rattle.maint_packets.specs.declared.request.Op.TheVariants.{Read, Write, BadRead, BadWrite}
+use Rattle.std.proofs.Common.{◌≡◌, ℕ, zero, suc, ◌<◌, List, [], ◌∷◌, Some, option_map, slice_get, refl, sym, ap, ◌∙◌, subst}
+use Rattle.maint_registers.specs.Devices.{Device, is_switch}
+use Rattle.maint_registers.proofs.SameLaws.{same_kind}
 use Rattle.maint_packets.specs.declared.request.Request.{Request}
-use Rattle.maint_packets.specs.Answers.{answered, answered_to, after_read, after_write}
+use Rattle.maint_packets.specs.Answers.{answered}
+use Rattle.maint_packets.proofs.AnswerLaws.{answered_same}
 use Rattle.fabric_script.specs.declared.ports.PortRef.{PortRef}
 use Rattle.fabric_model.specs.Network.{with_device}
 use Rattle.fabric_model.proofs.Devices.{kinds_stay}
@@ -14,31 +12,6 @@ use Rattle.fabric_ask.specs.Course.{IsLaid}
 use Rattle.fabric_ask.specs.Answered.{after_request}
 
 -- ---- a device that answers
-
-same_here : (device : Device) → IsSameDevice device device
-same_here device = record { kind = refl; ports = refl; linked = refl; large_id = refl }
-
-pub answered_same : (device : Device) (request : Request) (port : ℕ)
-    → IsSameDevice device (answered device request port).device
-answered_same device request port = by_op request.op
-  where
-    read : (o : Option ℕ) → IsSameDevice device (after_read device request o).device
-    read None = same_here device
-    read (Some value) = same_here device
-
-    write : (offset value : ℕ) (o : Option Device) → written_at device offset value ≡ o
-        → IsSameDevice device (after_write device request o).device
-    write offset value None is = same_here device
-    write offset value (Some next) is = written_same device next offset value is
-
-    by_op : (op : Op) → IsSameDevice device (answered_to device request port op).device
-    by_op Read = read (value_at device request.offset port)
-    by_op (Write value) = write request.offset value (written_at device request.offset value) refl
-    by_op BadRead = same_here device
-    by_op BadWrite = same_here device
-
-same_kind : (old new : Device) → IsSameDevice old new → is_switch new ≡ is_switch old
-same_kind old new same = ap (λ k. is_switch (record old { kind = k })) same.kind
 
 -- ---- all devices
 

@@ -105,7 +105,8 @@ no_data_kind packet is = by_tests (ttype_of packet == 2) (ttype_of packet == 3) 
 some_response : (packet : List ℕ) (response : Response) → response_of packet ≡ Some response
     → IsResponse packet response
 some_response packet response is =
-    by_tests (is_maintenance packet) (is_with_data packet) (is_without_data packet) refl refl refl is
+    by_tests (is_maintenance packet) (is_with_data packet) (is_without_data packet) refl refl refl
+    is
   where
     words : Option (ℕ × ℕ)
     words = Some (word_at packet (ids_end packet + 6), word_at packet (ids_end packet + 10))

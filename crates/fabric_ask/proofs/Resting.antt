@@ -7,6 +7,7 @@ use Rattle.link_wires.specs.declared.edits.Edit.{Edit}
 use Rattle.fabric_script.specs.declared.ports.PortRef.{PortRef}
 use Rattle.fabric_model.specs.Network.{IsEndpoint, port_of, room_out}
 use Rattle.fabric_model.specs.Steps.{Leave, AtNode, Take}
+use Rattle.fabric_model.proofs.Nodes.{few_prio}
 use Rattle.fabric_trace.specs.Blocks.{Asks}
 use Rattle.fabric_trace.specs.Fold.{seen, seen_line}
 use Rattle.fabric_trace.specs.Known.{Seen, Found}
@@ -14,7 +15,7 @@ use Rattle.fabric_trace.specs.Lines.{TraceLine, Stepped, steps_of, Full, Lacked}
 use Rattle.fabric_trace.specs.Parts.{Made, Steps, Lacks}
 use Rattle.fabric_trace.specs.Served.{collect_lines}
 use Rattle.fabric_trace.proofs.Folding.{seen-append}
-use Rattle.fabric_trace.proofs.Keeping.{IsGood, made_keeps, legal_links, few_prio}
+use Rattle.fabric_trace.proofs.Keeping.{IsGood, made_keeps, legal_links}
 use Rattle.rio_packets.specs.Fields.{prio_of}
 use Rattle.rio_packets.specs.LinkForm.{Passes}
 use Rattle.rio_packets.proofs.FormLaws.{Passes-from_form}

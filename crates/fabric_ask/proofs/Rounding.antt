@@ -5,12 +5,13 @@ use Rattle.maint_registers.specs.Devices.{Device, is_switch}
 use Rattle.link_wires.specs.declared.edits.Edit.{Edit}
 use Rattle.fabric_script.specs.declared.ports.PortRef.{PortRef}
 use Rattle.fabric_model.specs.Network.{Item, Network, peer_in}
+use Rattle.fabric_model.proofs.Nodes.{few_prio}
 use Rattle.fabric_trace.specs.Fold.{seen}
 use Rattle.fabric_trace.specs.Known.{Seen}
 use Rattle.fabric_trace.specs.Lines.{TraceLine}
 use Rattle.fabric_trace.specs.Parts.{Made, Done}
 use Rattle.fabric_trace.specs.Rounds.{ServeNodes}
-use Rattle.fabric_trace.proofs.Keeping.{few_prio, IsGood}
+use Rattle.fabric_trace.proofs.Keeping.{IsGood}
 use Rattle.fabric_trace.proofs.Making.{made-append, made_by}
 use Rattle.fabric_trace.proofs.Rounds.{all_found}
 use Rattle.fabric_ask.specs.Only.{Held, Waits, IsOnly}

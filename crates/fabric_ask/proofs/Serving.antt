@@ -36,13 +36,9 @@ use Rattle.std.specs.Option.{option_and_then}
 use Rattle.fabric_ask.specs.Only.{Spot, Held, Waits, alone, IsOnly, IsClear}
 use Rattle.fabric_map.specs.Topology.{port_at}
 use Rattle.fabric_ask.specs.Course.{IsDevicePort, HandledAs, Moves, Falls, Heard}
-use Rattle.fabric_ask.proofs.Alone.{first_in, chosen, and_refl}
+use Rattle.fabric_ask.proofs.Alone.{first_in, chosen, and_refl, gone}
 
 -- ---- what steps make of the one packet
-
-gone : (b : Bool) (x y : List Item) → x ≡ [] → (b ≡ false → y ≡ []) → (if b then x else y) ≡ []
-gone true x y own other = own
-gone false x y own other = other refl
 
 -- the packet is taken away
 pub cleared : (net : Network) (q : PortRef) (item : Item) → IsOnly net (Held q) item

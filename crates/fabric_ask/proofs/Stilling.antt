@@ -9,9 +9,10 @@ use Rattle.fabric_trace.specs.Known.{Found, Seen, link_at}
 use Rattle.fabric_trace.specs.Lines.{Full, TraceLine, Stepped, Lacked}
 use Rattle.fabric_trace.specs.Parts.{Made, Steps, Lacks}
 use Rattle.fabric_model.specs.Steps.{Take, AtNode}
+use Rattle.fabric_model.proofs.Nodes.{few_prio}
 use Rattle.fabric_trace.specs.Rounds.{Follows, NamesNothing}
 use Rattle.fabric_trace.proofs.Folding.{seen-append}
-use Rattle.fabric_trace.proofs.Keeping.{IsGood, made_keeps, few_prio}
+use Rattle.fabric_trace.proofs.Keeping.{IsGood, made_keeps}
 use Rattle.fabric_trace.proofs.Making.{made_by, one_part}
 use Rattle.link_rest.specs.Rest.{IsQuiet}
 use Rattle.rio_packets.specs.Fields.{prio_of}

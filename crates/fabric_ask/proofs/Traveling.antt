@@ -16,7 +16,7 @@ use Rattle.fabric_model.specs.Steps.{moved_item}
 use Rattle.fabric_model.specs.Laws.Leaving.{IsAfterMoves, MovesTo}
 use Rattle.fabric_model.specs.Laws.Leaving.IsAfterMoves.{AsItWas, OnceMore}
 use Rattle.fabric_model.proofs.Moving.{moves_on, sent_by}
-use Rattle.fabric_model.proofs.Peers.{peer_back}
+use Rattle.fabric_model.proofs.Peers.{peer_back, some_is}
 use Rattle.fabric_trace.specs.Fold.{seen}
 use Rattle.fabric_trace.specs.Known.{Seen}
 use Rattle.fabric_trace.specs.Lines.{TraceLine}
@@ -46,10 +46,6 @@ nothing_holds host t none =
     let empty : in_turn (t.network.received p) ≡ [] =
     λ i. none p 3 i ++ (none p 2 i ++ (none p 1 i ++ none p 0 i)) in
     ap (λ (l : List Item). nat_lt 0 (length l)) empty
-
-pub some_is : {X : Type 0} (o : Option X) (x y : X) → o ≡ Some x → o ≡ Some y → x ≡ y
-some_is None x y first second = absurd cc
-some_is (Some z) x y first second = cc
 
 -- one round more before
 arrival_behind : (host rounds dest h left : ℕ) (s : Seen) (first rest lines : List TraceLine)

@@ -5,7 +5,7 @@ use Rattle.link_wires.specs.declared.edits.Edit.{Edit}
 use Rattle.fabric_script.specs.declared.ports.PortRef.{PortRef}
 use Rattle.fabric_model.specs.Network.{Network, IsEndpoint, IsSwitch, switch_at, link_in}
 use Rattle.fabric_model.specs.Steps.{Hold, Free, Leave, Move, Drop, Answer, DeviceStep, Step, Linked, AtNode, ByDevice, after, LegalFrom}
-use Rattle.fabric_model.proofs.Flows.{switches_stay}
+use Rattle.fabric_model.proofs.Flows.{switches_stay, two_kinds}
 use Rattle.fabric_model.proofs.Peers.{link_peers}
 use Rattle.fabric_trace.specs.Fold.{seen}
 use Rattle.fabric_trace.specs.Known.{Found, Seen}
@@ -16,7 +16,7 @@ use Rattle.fabric_trace.specs.Rounds.{Follows, NamesNothing, Joined, ServesAll, 
 use Rattle.fabric_trace.proofs.Keeping.{IsGood, made_keeps, legal_links}
 use Rattle.fabric_trace.proofs.Folding.{seen-append}
 use Rattle.fabric_trace.proofs.Making.{made-append, made_by}
-use Rattle.fabric_trace.proofs.Rounds.{AreFound, all_found, by_test}
+use Rattle.fabric_trace.proofs.Rounds.{AreFound, all_found, by_test, serves_made}
 use Rattle.fabric_trace.proofs.Running.{move_made}
 use Rattle.fabric_ask.specs.Only.{AreAt}
 use Rattle.fabric_ask.specs.Noise.{IsCarry}
@@ -28,7 +28,7 @@ use Rattle.fabric_ask.proofs.Collecting.{Makes, Leaving, Answering, collect_make
 use Rattle.fabric_ask.proofs.Serving.{IsMade, move_is}
 use Rattle.fabric_ask.specs.Quiet.{AreQuiet}
 use Rattle.fabric_ask.proofs.Quieting.{round_quiet}
-use Rattle.fabric_ask.proofs.Calming.{serves_made, collects_made, serve_made, handles_made}
+use Rattle.fabric_ask.proofs.Calming.{collects_made, serve_made, handles_made}
 
 pub never-append : (host : ℕ) (xs ys : List TraceLine) → CollectsNothing host xs
     → CollectsNothing host ys
@@ -138,10 +138,6 @@ stays_endpoint host net [] end is legal = subst (λ (n : Network). IsEndpoint n 
 stays_endpoint host net (step ∷ steps) end is legal = stays_endpoint host (after net step) steps end
     (switches_stay net step host ∙ is) legal.1
 
-two_kinds : (o : Option Bool) → o ≡ Some false → o ≡ Some true → ⊥
-two_kinds None first second = absurd cc
-two_kinds (Some kind) first second = let clash : false ≡ true = cc in absurd cc
-
 module _ (host : ℕ) where
   pub made_endpoint : (s : Seen) (lines : List TraceLine) → IsGood s → Made s lines
       → IsEndpoint s.network host → IsEndpoint (seen s lines).network host
@@ -196,7 +192,7 @@ module _ (host : ℕ) where
       (λ joined. joined_never host (ServesAll s k) (ServeNodes (suc k) devices) s lines joined
       (λ first own. serves_never good is own)
       (λ first rest own still more.
-      let made = serves_made good own in
+      let made = serves_made move_made good own in
       serve_never devices (suc k) (seen s first) rest (made_keeps good made).good
       (made_endpoint s first good made is) more))
       (λ more. serve_never devices (suc k) s lines good is more) at

@@ -1,5 +1,5 @@
 -- A turn of one of two walkers of a fabric.
-use Rattle.std.proofs.Common.{◌≡◌, List, [], ◌∷◌, ◌++◌, refl, sym, ap, ◌∙◌}
+use Rattle.std.proofs.Common.{◌≡◌, [], ◌∷◌, ◌++◌, sym, ap, ◌∙◌}
 use Rattle.fabric_map.specs.Topology.{Topology}
 use Rattle.fabric_map.specs.Routes.{Registers}
 use Rattle.fabric_map.specs.Plain.{registers_of}
@@ -9,11 +9,12 @@ use Rattle.fabric_ports.specs.declared.fabric.Fabric.{Fabric}
 use Rattle.fabric_maint.specs.Going.{StandsFor}
 use Rattle.fabric_maint.proofs.Hosts.{other_stands}
 use Rattle.contest_machine.specs.Machine.{Walker, State}
-use Rattle.contest_machine.specs.Turns.{turned, came_of, Both, turn_of, after_turns}
+use Rattle.contest_machine.specs.Turns.{turned, came_of, Both, turn_of}
 use Rattle.host_contest.specs.declared.walker.Walker as walkers
 use Rattle.host_contest.specs.Reaching.{AreLow}
 use Rattle.host_contest.specs.Steps.{state_in}
 use Rattle.host_contest.specs.Walkers.{machine_in, HasEntries}
+use Rattle.contest_law.proofs.Steps.{after_one_more}
 use Rattle.fabric_contest.specs.Contests.{view_of, lines_of, both_of, CanTurn}
 use Rattle.fabric_contest.specs.declared.contest.Contest.{Contest}
 
@@ -25,11 +26,6 @@ first_at state other =
 abbrev pub second_at : State → Walker → Both
 second_at state other =
     record { first = other; second = state.walker; registers = state.registers }
-
-grown : (both : Both) (turns : List Side) (side : Side)
-    → after_turns both (turns ++ side ∷ []) ≡ turn_of (after_turns both turns) side
-grown both [] side = refl
-grown both (turn ∷ turns) side = grown (turn_of both turn) turns side
 
 abbrev turned_by : Side → Both → Both
 turned_by side both = turn_of both side
@@ -69,7 +65,8 @@ module _ (contest : Contest) (can : CanTurn contest) (fabric : Fabric) (walker :
       second_host = can.second_host;
       begun = can.begun;
       turns = can.turns ++ A ∷ [];
-      both_is = first_turns ∙ (ap (turned_by A) can.both_is ∙ sym (grown can.begun can.turns A));
+      both_is = first_turns
+          ∙ (ap (turned_by A) can.both_is ∙ sym (after_one_more can.begun can.turns A));
       start = can.start;
       untagged = can.untagged;
       low_first = low;
@@ -92,7 +89,8 @@ module _ (contest : Contest) (can : CanTurn contest) (fabric : Fabric) (walker :
       second_host = can.second_host;
       begun = can.begun;
       turns = can.turns ++ B ∷ [];
-      both_is = second_turns ∙ (ap (turned_by B) can.both_is ∙ sym (grown can.begun can.turns B));
+      both_is = second_turns
+          ∙ (ap (turned_by B) can.both_is ∙ sym (after_one_more can.begun can.turns B));
       start = can.start;
       untagged = can.untagged;
       low_first = can.low_first;

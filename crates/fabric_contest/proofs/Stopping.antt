@@ -21,7 +21,8 @@ use Rattle.fabric_contest.proofs.Playing.{first_at, second_at}
 
 module _ {S : Type 0} (step : S → Side → S) (fold : S → List Side → S)
     (none : (s : S) → fold s [] ≡ s)
-    (one : (s : S) (side : Side) (sides : List Side) → fold s (side ∷ sides) ≡ fold (step s side) sides)
+    (one : (s : S) (side : Side) (sides : List Side) → fold s (side ∷ sides)
+    ≡ fold (step s side) sides)
   where
     -- turns of which each changes nothing
     stays : (s : S) → ((side : Side) → step s side ≡ s) → (sides : List Side) → fold s sides ≡ s
@@ -110,11 +111,13 @@ module _ (s t end : Both) (count made number next : ℕ) where
       → side ≡ side_by next → t ≡ turn_of s side
       → after_turns t (sides_behind (count - (made + 1)) next) ≡ end
   turns_left side less was is by came =
-      next_left turn_of after_turns (λ s. refl) (λ s side sides. refl) s t end count made number next
+      next_left turn_of after_turns (λ s. refl) (λ s side sides. refl) s t end count made number
+      next
       less was is (came ∙ ap (λ x. turn_of s x) by)
 
   pub turns_made : made ≡ count → after_turns s (sides_behind (count - made) number) ≡ end → s ≡ end
-  turns_made = none_left turn_of after_turns (λ s. refl) (λ s side sides. refl) s end count made number
+  turns_made = none_left turn_of after_turns (λ s. refl) (λ s side sides. refl) s end count made
+      number
 
 -- the first two turns, and those behind them
 pub two_and_more : (s t u end : Both) (count number begun : ℕ) → t ≡ turn_of s A

@@ -71,7 +71,8 @@ module _ (device : Device) (source tid dest hops port : ℕ) where
 -- ---- the registers of a fabric
 
 module _ (registers : List Device) (links : List (PortRef × PortRef))
-    (host source tid dest hops : ℕ) (access : Access) (at : PortRef) (inside : at.node < length registers) where
+    (host source tid dest hops : ℕ) (access : Access) (at : PortRef)
+    (inside : at.node < length registers) where
   abbrev request : Request
   request = request_for source tid dest hops access
 

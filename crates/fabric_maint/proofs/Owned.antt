@@ -169,7 +169,8 @@ module _ (host : ℕ) (t : Seen) (old new : Fabric) (rests : RestsAt host t old)
 
 module _ {N K : Type 0} (old : FabricMaint N K) (whole : StandsWhole old) (fabric : Fabric)
     (offset value : ℕ) (answer : Bool)
-    (written : OwnWritten old.host (own_device old whole).device offset value whole.s [] old.fabric.now
+    (written : OwnWritten old.host (own_device old whole).device offset value whole.s []
+    old.fabric.now
     fabric answer) where
   abbrev host : ℕ
   host = old.host
@@ -182,7 +183,8 @@ module _ {N K : Type 0} (old : FabricMaint N K) (whole : StandsWhole old) (fabri
       ≡ after_access (registers_in old) (port_at old.host 0) access
   written_registers access is =
       sym (ap registers_of written.stands.shows.registers)
-      ∙ registers_on host whole.s old.fabric.now fabric whole.rests (own_device old whole) offset value
+      ∙ registers_on host whole.s old.fabric.now fabric whole.rests (own_device old whole) offset
+      value
       answer written
       ∙ ap (λ (r : Registers). with_one r host (device_with device offset value))
       (ap registers_of whole.rests.can.stands.shows.registers)
@@ -199,11 +201,14 @@ module _ {N K : Type 0} (old : FabricMaint N K) (whole : StandsWhole old) (fabri
     named = whole.named;
     few = whole.few;
     s = seen_with old.host device offset value whole.s;
-    rests = rests_on host whole.s old.fabric.now fabric whole.rests (own_device old whole) offset value
+    rests = rests_on host whole.s old.fabric.now fabric whole.rests (own_device old whole) offset
+        value
         answer written;
-    topology = topology_on host whole.s old.fabric.now fabric whole.rests (own_device old whole) offset
+    topology = topology_on host whole.s old.fabric.now fabric whole.rests (own_device old whole)
+        offset
         value answer written whole.s.network.links ∙ whole.topology;
-    fits = fits_on host whole.s old.fabric.now fabric whole.rests (own_device old whole) offset value
+    fits = fits_on host whole.s old.fabric.now fabric whole.rests (own_device old whole) offset
+        value
         answer written (topology_in old) whole.fits;
   }
 
@@ -215,8 +220,10 @@ pub written_follows : {N K : Type 0} (edits : N → List Edit) (telling : K → 
     → slice_get t.network.registers old.host ≡ Some device
     → OwnWritten old.host device offset value t [] old.fabric.now fabric answer)
     → Followed edits telling faults origin old
-    → Followed edits telling faults origin (record old { fabric = record old.fabric { now = fabric } })
-written_follows {N} {K} edits telling faults origin old fabric offset value answer written followed =
+    → Followed edits telling faults origin
+    (record old { fabric = record old.fabric { now = fabric } })
+written_follows {N} {K} edits telling faults origin old fabric offset value answer written
+    followed =
     record {
       never_falls = followed.never_falls;
       same = record {
@@ -240,13 +247,15 @@ written_follows {N} {K} edits telling faults origin old fabric offset value answ
           asked = Owns went.end (device_with own.device offset value) went.asked
               (next_kind old.host went.end old.fabric.now fabric went.rests own offset value answer
               wrote)
-              (next_within old.host went.end old.fabric.now fabric went.rests own offset value answer
+              (next_within old.host went.end old.fabric.now fabric went.rests own offset value
+              answer
               wrote) refl;
           leads = leads_own old.host s went.end went.lines (device_with own.device offset value)
               (next_kind old.host went.end old.fabric.now fabric went.rests own offset value answer
               wrote)
               went.leads;
           told = went.told;
-          rests = rests_on old.host went.end old.fabric.now fabric went.rests own offset value answer
+          rests = rests_on old.host went.end old.fabric.now fabric went.rests own offset value
+              answer
               wrote;
         }

@@ -6,7 +6,6 @@ use Rattle.fabric_script.specs.declared.ports.PortRef.{PortRef}
 use Rattle.fabric_script.specs.declared.lines.Line.{Line}
 use Rattle.fabric_script.specs.declared.lines.Line.TheVariants.{Endpoint, Switch, Link, Buffers, Route, Default, Lock, Large}
 use Rattle.fabric_script.specs.declared.lines.Numbered.{Numbered}
-use Rattle.fabric_script.specs.Known.{links_after}
 use Rattle.fabric_script.specs.Peers.{peer_in}
 use Rattle.fabric_script.specs.Scripts.{Passes}
 use Rattle.fabric_map.specs.Topology.{IsPort, ports_of}
@@ -16,6 +15,7 @@ use Rattle.fabric_trace.specs.Runs.{bare, set_up, set_up_all, begins, start}
 use Rattle.fabric_trace.specs.SetUps.{IsSetUp}
 use Rattle.fabric_trace.proofs.Happening.{may_set_up}
 use Rattle.fabric_trace.proofs.Starting.{set_up_bare}
+use Rattle.fabric_trace.proofs.SettingUp.{set_up-links}
 use Rattle.fabric_ask.specs.Course.{IsEndpointIn, IsLaid}
 use Rattle.fabric_ask.specs.Only.{IsClear}
 use Rattle.fabric_ask.specs.Quiet.{AreQuiet}
@@ -40,17 +40,6 @@ devices_same net (Lock node id) = refl
 devices_same net (Large node id) = refl
 devices_same net _ = refl
 
-links_same : (net : Network) (line : Line) → (set_up net line).links ≡ links_after net.links line
-links_same net (Endpoint name id) = refl
-links_same net (Switch name ports) = refl
-links_same net (Link a b) = refl
-links_same net (Buffers port n) = refl
-links_same net (Route node id p) = refl
-links_same net (Default node p) = refl
-links_same net (Lock node id) = refl
-links_same net (Large node id) = refl
-links_same net _ = refl
-
 all_devices_same : (net : Network) (lines : List Numbered)
     → (set_up_all net lines).registers ≡ devices_after_all net.registers lines
 all_devices_same net [] = refl
@@ -62,7 +51,7 @@ all_links_same : (net : Network) (lines : List Numbered)
 all_links_same net [] = refl
 all_links_same net (line ∷ lines) = all_links_same (set_up net line.line) lines
     ∙ ap (λ (links : List (PortRef × PortRef)). links_after_all links lines)
-    (links_same net line.line)
+    (set_up-links net line.line)
 
 pub start_devices : (lines : List Numbered)
     → (start lines).network.registers ≡ devices_of lines

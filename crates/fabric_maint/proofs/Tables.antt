@@ -10,6 +10,7 @@ use Rattle.fabric_script.specs.declared.ports.PortRef.{PortRef}
 use Rattle.fabric_map.specs.Topology.{Topology}
 use Rattle.fabric_map.specs.Plain.{ports_of_switch, topology_of, registers_of}
 use Rattle.host_enumerate.specs.Accesses.{with_device as with_one}
+use Rattle.host_enumerate.proofs.Accessed.{ports_of_switch-same}
 
 -- the registers by number, with those of one device changed
 pub registers_of-changed : (devices : List Device) (node : ℕ) (change : Device → Device)
@@ -37,12 +38,6 @@ registers_of-changed devices node change inside =
         ∙ ap (λ o. unwrap_or o first)
         (device-kept devices node other change (eqb-false other node is))
         ∙ unwrap_or-slice_get devices other first
-
-ports_of_switch-same : (before after : Device) → IsSameDevice before after
-    → ports_of_switch after ≡ ports_of_switch before
-ports_of_switch-same before after same =
-    ap (λ k. ports_of_switch (record after { kind = k })) same.kind
-    ∙ ap (λ n. ports_of_switch (record before { ports = n })) same.ports
 
 -- which devices are switches, and of how many ports
 kinds-changed : (devices : List Device) (node : ℕ) (change : Device → Device)

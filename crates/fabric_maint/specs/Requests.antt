@@ -14,7 +14,8 @@ abbrev pub op_of : Access → Op
 op_of (Read offset) = Ops.Read
 op_of (Write offset value) = Ops.Write value
 
--- from an ID, with a transaction number, to a destination behind so many hops; its priority is 0, and its IDs
+-- from an ID, with a transaction number, to a destination behind so many hops; its priority is 0,
+-- and its IDs
 -- have eight bits
 abbrev pub request_for : ℕ → ℕ → ℕ → ℕ → Access → Request
 request_for source tid dest hops access = record {

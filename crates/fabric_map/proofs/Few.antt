@@ -53,7 +53,7 @@ entered-inside topology path at proper leads = (entered-port topology path at pr
 abbrev number_of : Topology → List ℕ → ℕ
 number_of topology path = unwrap_or (node_at topology path) 0
 
-same_number : (o p : Option ℕ) → IsSome o → IsSome p → unwrap_or o 0 ≡ unwrap_or p 0 → o ≡ p
+pub same_number : (o p : Option ℕ) → IsSome o → IsSome p → unwrap_or o 0 ≡ unwrap_or p 0 → o ≡ p
 same_number None p one two same = absurd (cc)
 same_number (Some x) None one two same = absurd (cc)
 same_number (Some x) (Some y) one two same = ap (λ n. Some n) same

@@ -35,7 +35,7 @@ later_bound topology paths bound later walked some on between = record {
     old path port listed leads (inl before) = walked.done path port listed leads before
     old path port listed leads (inr met) = met
 
-empty-before : (path : List ℕ) (port : ℕ) → Before [] (onward path port)
+pub empty-before : (path : List ℕ) (port : ℕ) → Before [] (onward path port)
 empty-before [] port = tt
 empty-before (x ∷ path) port = tt
 

@@ -4,7 +4,8 @@ use Rattle.maint_registers.specs.Devices.{IsDevice, is_switch}
 use Rattle.fabric_map.specs.Topology.{Topology, port_at, ports_of}
 use Rattle.fabric_map.specs.Routes.{Registers}
 
--- Each device shows whether it is a switch, how many ports it has, and which of them have a link. Its
+-- Each device shows whether it is a switch, how many ports it has, and which of them have a link.
+-- Its
 -- IDs and its lock fit their registers.
 pub record Fits (topology : Topology) (registers : Registers) : Type 0 where
   pub devices : (node : ℕ) → node < topology.nodes → IsDevice (registers node)

@@ -49,7 +49,13 @@ through_legal = (
     (port_of 0, refl, refl, refl),
     (
       (refl, refl, refl, refl),
-      ((port_at 2 1, refl, refl, refl), ((refl, refl, refl, refl), ((port_at 3 0, refl, refl, refl), ((refl, refl, refl), refl)))),
+      (
+        (port_at 2 1, refl, refl, refl),
+        (
+          (refl, refl, refl, refl),
+          ((port_at 3 0, refl, refl, refl), ((refl, refl, refl), refl)),
+        ),
+      ),
     ),
   ),
 )
@@ -69,7 +75,10 @@ circle_legal = (
             (refl, passes_later, refl),
             (
               (port_of 0, refl, refl, refl),
-              ((refl, refl, refl, refl), ((port_at 3 2, refl, refl, refl), ((refl, refl, refl, refl), refl))),
+              (
+                (refl, refl, refl, refl),
+                ((port_at 3 2, refl, refl, refl), ((refl, refl, refl, refl), refl)),
+              ),
             ),
           ),
         ),
@@ -78,7 +87,8 @@ circle_legal = (
   ),
 )
 
-pub circle_stands : map (λ (item : Item). item.number) ((after_all around circle).waiting (port_at 2 1) 0) ≡ 1 ∷ 0 ∷ []
+pub circle_stands : map (λ (item : Item). item.number)
+    ((after_all around circle).waiting (port_at 2 1) 0) ≡ 1 ∷ 0 ∷ []
 circle_stands = refl
 
 pub parting_legal : LegalFrom around parting (after_all around parting)
@@ -96,7 +106,10 @@ parting_legal = (
             (refl, refl, refl, refl),
             (
               (port_at 2 2, refl, refl, refl),
-              ((refl, refl, refl, refl), ((port_at 3 0, refl, refl, refl), ((refl, refl, refl), refl))),
+              (
+                (refl, refl, refl, refl),
+                ((port_at 3 0, refl, refl, refl), ((refl, refl, refl), refl)),
+              ),
             ),
           ),
         ),
@@ -107,25 +120,61 @@ parting_legal = (
 
 pub parting_breaks : EarlierFirst SamePriority around parting → ⊥
 parting_breaks law =
-    let stand : RoutesStand (dest_of packet) (after around (AtNode (Take 0 packet))) (take 8 (drop 1 parting)) = (λ n. refl, (λ n. refl, (λ n. refl, (λ n. refl, (λ n. refl, (λ n. refl, (λ n. refl, (λ n. refl, tt)))))))) in
+    let stand : RoutesStand (dest_of packet) (after around (AtNode (Take 0 packet)))
+    (take 8 (drop 1 parting)) = (
+      λ n. refl,
+      (
+        λ n. refl,
+        (λ n. refl, (λ n. refl, (λ n. refl, (λ n. refl, (λ n. refl, (λ n. refl, tt)))))),
+      ),
+    ) in
     let later : Item = record { number = 1; port = port_of 0; taken = for_5; now = for_5 } in
-    omega (arith, law [] (AtNode (Take 0 packet)) (take 8 (drop 1 parting)) (AtNode (Leave 1 for_5)) [] first later refl refl refl stand (record { port = refl; priority = refl }) (omega arith))
+    omega (
+      arith,
+      law [] (AtNode (Take 0 packet)) (take 8 (drop 1 parting)) (AtNode (Leave 1 for_5))
+          [] first later refl refl refl stand (record { port = refl; priority = refl })
+          (omega arith),
+    )
 
 pub elsewhere_overtakes : InOrder around moved_elsewhere → ⊥
 elsewhere_overtakes law =
-    let stand : RoutesStand (dest_of packet) (after around (AtNode (Take 0 packet))) (take 8 (drop 1 moved_elsewhere)) = (λ n. refl, (λ n. refl, (λ n. refl, (λ n. refl, (λ n. refl, (λ n. refl, (λ n. refl, (λ n. refl, tt)))))))) in
+    let stand : RoutesStand (dest_of packet) (after around (AtNode (Take 0 packet)))
+    (take 8 (drop 1 moved_elsewhere)) = (
+      λ n. refl,
+      (
+        λ n. refl,
+        (λ n. refl, (λ n. refl, (λ n. refl, (λ n. refl, (λ n. refl, (λ n. refl, tt)))))),
+      ),
+    ) in
     let later : Item = record { number = 1; port = port_of 0; taken = other; now = other } in
-    let same : SameFlow first later = record { transport = refl; source = refl; course = record { port = refl; dest = refl; priority = refl; maintenance = refl; hop = refl } } in
-    omega (arith, law.earlier_first [] (AtNode (Take 0 packet)) (take 8 (drop 1 moved_elsewhere)) (AtNode (Leave 1 other)) [] first later refl refl refl stand same (omega arith))
+    let same : SameFlow first later = record {
+      transport = refl;
+      source = refl;
+      course = record {
+        port = refl;
+        dest = refl;
+        priority = refl;
+        maintenance = refl;
+        hop = refl;
+      };
+    } in
+    omega (
+      arith,
+      law.earlier_first [] (AtNode (Take 0 packet)) (take 8 (drop 1 moved_elsewhere))
+          (AtNode (Leave 1 other)) [] first later refl refl refl stand same (omega arith),
+    )
 
 pub elsewhere_breaks : ByTables around moved_elsewhere → ⊥
 elsewhere_breaks law =
-    let named : Some (Port 1) ≡ Some (Port 2) = (law.moved (take 5 moved_elsewhere) (drop 6 moved_elsewhere) (port_at 2 0) (port_at 2 2) other refl).1 in
+    let named : Some (Port 1) ≡ Some (Port 2) =
+    (law.moved (take 5 moved_elsewhere) (drop 6 moved_elsewhere) (port_at 2 0) (port_at 2 2)
+    other refl).1 in
     absurd (cc)
 
 pub dropped_breaks : ByTables around dropped_on_its_way → ⊥
 dropped_breaks law =
-    let named : Some (Port 1) ≡ Some Nowhere = law.dropped (take 2 dropped_on_its_way) [] (port_at 2 0) packet refl in
+    let named : Some (Port 1) ≡ Some Nowhere = law.dropped (take 2 dropped_on_its_way) []
+    (port_at 2 0) packet refl in
     absurd (cc)
 
 test_for_7 : passes for_7 ≡ true
@@ -176,11 +225,68 @@ unfolding closed fed shifted_times shifted
 written = refl
 
 pub changing_legal : LegalFrom around changing (after_all around changing)
-changing_legal = ((refl, passes_for_7, refl), ((port_of 0, refl, refl, refl), ((refl, refl, refl, refl), ((refl, passes_request, refl), ((port_of 0, refl, refl, refl), ((refl, inr refl, written, passes_response, refl), ((refl, passes_later_for_7, refl), ((port_of 0, refl, refl, refl), ((refl, refl, refl, refl), ((port_at 2 2, refl, refl, refl), ((refl, refl, refl, refl), ((port_at 3 0, refl, refl, refl), ((refl, refl, refl), refl)))))))))))))
+changing_legal = (
+  (refl, passes_for_7, refl),
+  (
+    (port_of 0, refl, refl, refl),
+    (
+      (refl, refl, refl, refl),
+      (
+        (refl, passes_request, refl),
+        (
+          (port_of 0, refl, refl, refl),
+          (
+            (refl, inr refl, written, passes_response, refl),
+            (
+              (refl, passes_later_for_7, refl),
+              (
+                (port_of 0, refl, refl, refl),
+                (
+                  (refl, refl, refl, refl),
+                  (
+                    (port_at 2 2, refl, refl, refl),
+                    (
+                      (refl, refl, refl, refl),
+                      ((port_at 3 0, refl, refl, refl), ((refl, refl, refl), refl)),
+                    ),
+                  ),
+                ),
+              ),
+            ),
+          ),
+        ),
+      ),
+    ),
+  ),
+)
 
 pub hopping_legal : LegalFrom around hopping (after_all around hopping)
 unfolding closed fed shifted_times shifted
-hopping_legal = ((refl, passes_with_hop_0, refl), ((refl, passes_with_hop_5, refl), ((port_of 0, refl, refl, refl), ((refl, refl), ((port_of 0, refl, refl, refl), ((refl, refl, refl, refl), ((port_at 2 1, refl, refl, refl), ((refl, refl, refl, refl), ((port_at 3 0, refl, refl, refl), ((refl, refl, refl), refl))))))))))
+hopping_legal = (
+  (refl, passes_with_hop_0, refl),
+  (
+    (refl, passes_with_hop_5, refl),
+    (
+      (port_of 0, refl, refl, refl),
+      (
+        (refl, refl),
+        (
+          (port_of 0, refl, refl, refl),
+          (
+            (refl, refl, refl, refl),
+            (
+              (port_at 2 1, refl, refl, refl),
+              (
+                (refl, refl, refl, refl),
+                ((port_at 3 0, refl, refl, refl), ((refl, refl, refl), refl)),
+              ),
+            ),
+          ),
+        ),
+      ),
+    ),
+  ),
+)
 
 pub hopping_gone : gone around hopping ≡ taken_as 1 with_hop_5 with_hop_3 ∷ []
 unfolding closed fed shifted_times shifted
@@ -218,7 +324,10 @@ sizes_legal = (
                     (refl, refl, refl, refl),
                     (
                       (port_at 3 0, refl, refl, refl),
-                      ((port_at 3 0, refl, refl, refl), ((refl, refl, refl), ((refl, refl, refl), refl))),
+                      (
+                        (port_at 3 0, refl, refl, refl),
+                        ((refl, refl, refl), ((refl, refl, refl), refl)),
+                      ),
                     ),
                   ),
                 ),

@@ -1,4 +1,5 @@
--- A step as what it does to the places where items stand: none moves, one comes to a place, one goes from a place to
+-- A step as what it does to the places where items stand: none moves, one comes to a place, one
+-- goes from a place to
 -- another, or one goes and then one comes.
 use Rattle.std.proofs.Common.{◌≡◌, ℕ, ◌+◌, Bool, true, false, eqb, List, [], ◌∷◌, ◌++◌, map, Some, sym, ap, ap₂, ◌∙◌, subst, refl, cond, append-nil}
 use Rattle.std.specs.List.{AllByRecursion}
@@ -56,11 +57,17 @@ cut old from rest place = cond (same_place place from) rest (old place)
 
 -- Which goings are allowed: from which place to which, of an item as it was and as it then is.
 pub data Allowed (net : Network) : Place → Place → Item → Item → Type 0 where
-  Crosses : (p q : PortRef) (r : ℕ) (item : Item) → peer_in net.links q ≡ Some p → Allowed net (Waiting p r) (Received q r) item item
-  Turns : (p q : PortRef) (item : Item) → q.node ≡ p.node → next_at net p.node item.now ≡ Some (Port q.port) → Allowed net (Received p (prio_of item.now)) (Waiting q (prio_of item.now)) item (moved_item item)
-  Leaves : (n : ℕ) (item : Item) → IsEndpoint net n → is_request item.now ≡ false → Allowed net (Received (port_of n) (prio_of item.now)) (Over Left) item item
-  Falls : (p : PortRef) (item : Item) → next_at net p.node item.now ≡ Some Nowhere → Allowed net (Received p (prio_of item.now)) (Over Dropped) item item
-  IsHeard : (p : PortRef) (item : Item) → IsForRegisters net p item.now → Allowed net (Received p (prio_of item.now)) (Over Answered) item item
+  Crosses : (p q : PortRef) (r : ℕ) (item : Item) → peer_in net.links q ≡ Some p
+      → Allowed net (Waiting p r) (Received q r) item item
+  Turns : (p q : PortRef) (item : Item) → q.node ≡ p.node → next_at net p.node item.now
+      ≡ Some (Port q.port) → Allowed net (Received p (prio_of item.now))
+      (Waiting q (prio_of item.now)) item (moved_item item)
+  Leaves : (n : ℕ) (item : Item) → IsEndpoint net n → is_request item.now ≡ false
+      → Allowed net (Received (port_of n) (prio_of item.now)) (Over Left) item item
+  Falls : (p : PortRef) (item : Item) → next_at net p.node item.now ≡ Some Nowhere
+      → Allowed net (Received p (prio_of item.now)) (Over Dropped) item item
+  IsHeard : (p : PortRef) (item : Item) → IsForRegisters net p item.now
+      → Allowed net (Received p (prio_of item.now)) (Over Answered) item item
 
 -- what stays of an item that goes
 pub record Along (item moved : Item) : Type 0 where
@@ -72,14 +79,29 @@ pub record Along (item moved : Item) : Type 0 where
   pub dest : dest_of moved.now ≡ dest_of item.now
 
 as_is : (item : Item) → Passes item.now → Along item item
-as_is item passes = record { number = refl; port = refl; taken = refl; passes = passes; prio = refl; dest = refl }
+as_is item passes = record {
+  number = refl;
+  port = refl;
+  taken = refl;
+  passes = passes;
+  prio = refl;
+  dest = refl;
+}
 
-pub allowed_along : (net : Network) (from to : Place) (item moved : Item) → Allowed net from to item moved → Passes item.now → Along item moved
+pub allowed_along : (net : Network) (from to : Place) (item moved : Item)
+    → Allowed net from to item moved → Passes item.now → Along item moved
 allowed_along net from to item moved (Crosses p q r item2 peer) passes = as_is item passes
 allowed_along net from to item moved2 (Turns p q item2 same named) passes =
     let s = sent_by net p.node item.now (Port q.port) named in
     let on = moves_on item.now passes (named_goes s.device item.now q.port s.sends) in
-    record { number = refl; port = refl; taken = refl; passes = on.passes; prio = on.prio; dest = on.dest }
+    record {
+      number = refl;
+      port = refl;
+      taken = refl;
+      passes = on.passes;
+      prio = on.prio;
+      dest = on.dest;
+    }
 allowed_along net from to item moved (Leaves n item2 endpoint other) passes = as_is item passes
 allowed_along net from to item moved (Falls p item2 named) passes = as_is item passes
 allowed_along net from to item moved (IsHeard p item2 heard) passes = as_is item passes
@@ -101,14 +123,17 @@ pub record Comes (net : Network) (taken : List Item) (old new : Board) : Type 0 
   pub packet : List ℕ
   pub made : taken ≡ item_of net port packet ∷ []
   pub passes : Passes packet
-  pub becomes : (place : Place) → new place ≡ put old (Waiting port (prio_of packet)) (item_of net port packet) place
+  pub becomes : (place : Place) → new place ≡ put old (Waiting port (prio_of packet))
+      (item_of net port packet) place
 
 -- what a step makes of a network, with the items that it takes
 pub data StepOn (net next : Network) (made : List Item) (old new : Board) : Type 0 where
-  Stays : made ≡ [] → next.given ≡ net.given → ((place : Place) → new place ≡ old place) → StepOn net next made old new
+  Stays : made ≡ [] → next.given ≡ net.given → ((place : Place) → new place ≡ old place)
+      → StepOn net next made old new
   IsTaken : next.given ≡ net.given + 1 → Comes net made old new → StepOn net next made old new
   IsMoved : made ≡ [] → next.given ≡ net.given → Goes net old new → StepOn net next made old new
-  IsAnswered : (mid : Board) → next.given ≡ net.given + 1 → Goes net old mid → Comes net made mid new → StepOn net next made old new
+  IsAnswered : (mid : Board) → next.given ≡ net.given + 1 → Goes net old mid
+      → Comes net made mid new → StepOn net next made old new
 
 -- a list with a first packet has a first item
 pub record First (items : List Item) (packet : List ℕ) : Type 0 where
@@ -117,7 +142,8 @@ pub record First (items : List Item) (packet : List ℕ) : Type 0 where
   pub only : only_first items ≡ item ∷ []
   pub now : item.now ≡ packet
 
-pub first_item : (items : List Item) (packet : List ℕ) → first_packet items ≡ Some packet → First items packet
+pub first_item : (items : List Item) (packet : List ℕ) → first_packet items ≡ Some packet
+    → First items packet
 first_item [] packet first = absurd (cc)
 first_item (item ∷ items) packet first = record { item = item; whole = refl; only = refl; now = cc }
 
@@ -126,67 +152,106 @@ abbrev pub ending : (End → List Item) → End → List Item → End → List I
 ending out end items e = out e ++ cond (same_end e end) items []
 
 module _ (net : Network) (out : End → List Item) where
-  pub holds_on : (q p : PortRef) (r : ℕ) (item : Item) → only_first (net.waiting p r) ≡ item ∷ [] → (place : Place) → items_at (after_hold net q (Some p) r) (λ e. out e ++ []) place ≡ put (cut (items_at net out) (Waiting p r) (behind_first (net.waiting p r))) (Received q r) item place
+  pub holds_on : (q p : PortRef) (r : ℕ) (item : Item) → only_first (net.waiting p r) ≡ item ∷ []
+      → (place : Place) → items_at (after_hold net q (Some p) r) (λ e. out e ++ []) place
+      ≡ put (cut (items_at net out) (Waiting p r) (behind_first (net.waiting p r))) (Received q r)
+      item place
   holds_on q p r item only (Received s t) = rw only refl
   holds_on q p r item only (Waiting s t) = refl
   holds_on q p r item only (Over e) = append-nil (out e)
 
-  pub frees_on : (p : PortRef) (packet : List ℕ) (place : Place) → items_at (after net (Linked (Free p packet))) (λ e. out e ++ []) place ≡ items_at net out place
+  pub frees_on : (p : PortRef) (packet : List ℕ) (place : Place)
+      → items_at (after net (Linked (Free p packet))) (λ e. out e ++ []) place
+      ≡ items_at net out place
   frees_on p packet (Received s t) = refl
   frees_on p packet (Waiting s t) = refl
   frees_on p packet (Over e) = append-nil (out e)
 
-  pub takes_on : (n : ℕ) (packet : List ℕ) (place : Place) → items_at (after net (AtNode (Take n packet))) (λ e. out e ++ []) place ≡ put (items_at net out) (Waiting (port_of n) (prio_of packet)) (item_of net (port_of n) packet) place
+  pub takes_on : (n : ℕ) (packet : List ℕ) (place : Place)
+      → items_at (after net (AtNode (Take n packet))) (λ e. out e ++ []) place
+      ≡ put (items_at net out) (Waiting (port_of n) (prio_of packet))
+      (item_of net (port_of n) packet) place
   takes_on n packet (Received s t) = refl
   takes_on n packet (Waiting s t) = refl
   takes_on n packet (Over e) = append-nil (out e)
 
   -- an item ends
-  pub ends_on : (p : PortRef) (r : ℕ) (end : End) (item : Item) → only_first (net.received p r) ≡ item ∷ [] → (place : Place) → items_at (without_first net p r) (ending out end (only_first (net.received p r))) place ≡ put (cut (items_at net out) (Received p r) (behind_first (net.received p r))) (Over end) item place
+  pub ends_on : (p : PortRef) (r : ℕ) (end : End) (item : Item) → only_first (net.received p r)
+      ≡ item ∷ [] → (place : Place) → items_at (without_first net p r)
+      (ending out end (only_first (net.received p r))) place
+      ≡ put (cut (items_at net out) (Received p r) (behind_first (net.received p r))) (Over end)
+      item place
   ends_on p r end item only (Received s t) = refl
   ends_on p r end item only (Waiting s t) = refl
   ends_on p r end item only (Over e) = rw only (go (same_end e end) refl)
     where
-      go : (t : Bool) → same_end e end ≡ t → out e ++ cond t (item ∷ []) [] ≡ cond t (out end ++ item ∷ []) (out e)
+      go : (t : Bool) → same_end e end ≡ t → out e ++ cond t (item ∷ []) []
+          ≡ cond t (out end ++ item ∷ []) (out e)
       go true same = ap (λ x. out x ++ item ∷ []) (end_is e end same)
       go false apart = append-nil (out e)
 
-  pub turns_on : (p q : PortRef) (packet : List ℕ) (item : Item) → only_first (map moved_item (net.received p (prio_of packet))) ≡ moved_item item ∷ [] → (place : Place) → items_at (after net (ByDevice (Move p q packet))) (λ e. out e ++ []) place ≡ put (cut (items_at net out) (Received p (prio_of packet)) (behind_first (net.received p (prio_of packet)))) (Waiting q (prio_of packet)) (moved_item item) place
+  pub turns_on : (p q : PortRef) (packet : List ℕ) (item : Item)
+      → only_first (map moved_item (net.received p (prio_of packet))) ≡ moved_item item ∷ []
+      → (place : Place) → items_at (after net (ByDevice (Move p q packet))) (λ e. out e ++ []) place
+      ≡ put (cut (items_at net out) (Received p (prio_of packet))
+      (behind_first (net.received p (prio_of packet)))) (Waiting q (prio_of packet))
+      (moved_item item) place
   turns_on p q packet item only (Received s t) = refl
   turns_on p q packet item only (Waiting s t) = rw only refl
   turns_on p q packet item only (Over e) = append-nil (out e)
 
-  pub answers_on : (p : PortRef) (packet response : List ℕ) (place : Place) → items_at (after net (ByDevice (Answer p packet response))) (ending out Answered (only_first (net.received p (prio_of packet)))) place ≡ put (items_at (without_first net p (prio_of packet)) (ending out Answered (only_first (net.received p (prio_of packet))))) (Waiting p (prio_of response)) (item_of net p response) place
+  pub answers_on : (p : PortRef) (packet response : List ℕ) (place : Place)
+      → items_at (after net (ByDevice (Answer p packet response)))
+      (ending out Answered (only_first (net.received p (prio_of packet)))) place
+      ≡ put (items_at (without_first net p (prio_of packet))
+      (ending out Answered (only_first (net.received p (prio_of packet)))))
+      (Waiting p (prio_of response)) (item_of net p response) place
   answers_on p packet response (Received s t) = refl
   answers_on p packet response (Waiting s t) = refl
   answers_on p packet response (Over e) = refl
 
   -- the first item of what a port has received goes
-  goes_from : (p : PortRef) (packet : List ℕ) (to : Place) (new : Board) (moves : Item → Item) (first : First (net.received p (prio_of packet)) packet) → Allowed net (Received p (prio_of first.item.now)) to first.item (moves first.item) → ((place : Place) → new place ≡ put (cut (items_at net out) (Received p (prio_of packet)) (behind_first (net.received p (prio_of packet)))) to (moves first.item) place) → Goes net (items_at net out) new
+  goes_from : (p : PortRef) (packet : List ℕ) (to : Place) (new : Board) (moves : Item → Item)
+      (first : First (net.received p (prio_of packet)) packet)
+      → Allowed net (Received p (prio_of first.item.now)) to first.item (moves first.item)
+      → ((place : Place) → new place
+      ≡ put (cut (items_at net out) (Received p (prio_of packet))
+      (behind_first (net.received p (prio_of packet)))) to (moves first.item) place)
+      → Goes net (items_at net out) new
   goes_from p packet to new moves first allowed becomes = record {
     from = Received p (prio_of packet);
     to = to;
     item = first.item;
     moved = moves first.item;
     rest = behind_first (net.received p (prio_of packet));
-    allowed = subst (λ r. Allowed net (Received p r) to first.item (moves first.item)) (ap prio_of first.now) allowed;
+    allowed = subst (λ r. Allowed net (Received p r) to first.item (moves first.item))
+        (ap prio_of first.now) allowed;
     was = first.whole;
     becomes = becomes;
   }
 
   -- it ends
-  ends_goes : (p : PortRef) (packet : List ℕ) (end : End) (first : First (net.received p (prio_of packet)) packet) → Allowed net (Received p (prio_of first.item.now)) (Over end) first.item first.item → Goes net (items_at net out) (items_at (without_first net p (prio_of packet)) (ending out end (only_first (net.received p (prio_of packet)))))
-  ends_goes p packet end first allowed = goes_from p packet (Over end) _ (λ x. x) first allowed (ends_on p (prio_of packet) end first.item first.only)
+  ends_goes : (p : PortRef) (packet : List ℕ) (end : End)
+      (first : First (net.received p (prio_of packet)) packet)
+      → Allowed net (Received p (prio_of first.item.now)) (Over end) first.item first.item
+      → Goes net (items_at net out)
+      (items_at (without_first net p (prio_of packet))
+      (ending out end (only_first (net.received p (prio_of packet)))))
+  ends_goes p packet end first allowed = goes_from p packet (Over end) _ (λ x. x) first allowed
+      (ends_on p (prio_of packet) end first.item first.only)
 
   -- what a step makes of what stands where
   abbrev pub OnBoard : Step → Type 0
-  OnBoard step = StepOn net (after net step) (taken_by net step) (items_at net out) (items_at (after net step) (λ e. out e ++ ended_by e net step))
+  OnBoard step = StepOn net (after net step) (taken_by net step) (items_at net out)
+      (items_at (after net step) (λ e. out e ++ ended_by e net step))
 
-  held_on : (q : PortRef) (packet : List ℕ) → Needs net (Linked (Hold q packet)) → OnBoard (Linked (Hold q packet))
+  held_on : (q : PortRef) (packet : List ℕ) → Needs net (Linked (Hold q packet))
+      → OnBoard (Linked (Hold q packet))
   held_on q packet needs =
       let r = prio_of packet in
       let first = first_item (net.waiting needs.0 r) packet needs.2 in
-      subst (λ x. StepOn net (after_hold net q x r) [] (items_at net out) (items_at (after_hold net q x r) (λ e. out e ++ []))) (sym needs.1)
+      subst (λ x. StepOn net (after_hold net q x r) [] (items_at net out)
+      (items_at (after_hold net q x r) (λ e. out e ++ []))) (sym needs.1)
       (IsMoved refl refl (record {
         from = Waiting needs.0 r;
         to = Received q r;
@@ -198,39 +263,70 @@ module _ (net : Network) (out : End → List Item) where
         becomes = holds_on q needs.0 r first.item first.only;
       }))
 
-  moved_on : (p q : PortRef) (packet : List ℕ) → Needs net (ByDevice (Move p q packet)) → OnBoard (ByDevice (Move p q packet))
+  moved_on : (p q : PortRef) (packet : List ℕ) → Needs net (ByDevice (Move p q packet))
+      → OnBoard (ByDevice (Move p q packet))
   moved_on p q packet needs =
       let r = prio_of packet in
       let first = first_item (net.received p r) packet needs.1 in
-      let only : only_first (map moved_item (net.received p r)) ≡ moved_item first.item ∷ [] = ap (λ xs. only_first (map moved_item xs)) first.whole in
-      let named : next_at net p.node first.item.now ≡ Some (Port q.port) = ap (next_at net p.node) first.now ∙ needs.2 in
-      let turns : Allowed net (Received p (prio_of first.item.now)) (Waiting q r) first.item (moved_item first.item) =
-      subst (λ s. Allowed net (Received p (prio_of first.item.now)) (Waiting q s) first.item (moved_item first.item)) (ap prio_of first.now) (Turns p q first.item needs.0 named) in
-      IsMoved refl refl (goes_from p packet (Waiting q r) _ moved_item first turns (turns_on p q packet first.item only))
+      let only : only_first (map moved_item (net.received p r)) ≡ moved_item first.item ∷ [] =
+      ap (λ xs. only_first (map moved_item xs)) first.whole in
+      let named : next_at net p.node first.item.now ≡ Some (Port q.port) =
+      ap (next_at net p.node) first.now ∙ needs.2 in
+      let turns : Allowed net (Received p (prio_of first.item.now)) (Waiting q r) first.item
+      (moved_item first.item) =
+      subst (λ s. Allowed net (Received p (prio_of first.item.now)) (Waiting q s) first.item
+      (moved_item first.item)) (ap prio_of first.now) (Turns p q first.item needs.0 named) in
+      IsMoved refl refl
+      (goes_from p packet (Waiting q r) _ moved_item first turns
+      (turns_on p q packet first.item only))
 
-  dropped_on : (p : PortRef) (packet : List ℕ) → Needs net (ByDevice (Drop p packet)) → OnBoard (ByDevice (Drop p packet))
+  dropped_on : (p : PortRef) (packet : List ℕ) → Needs net (ByDevice (Drop p packet))
+      → OnBoard (ByDevice (Drop p packet))
   dropped_on p packet needs =
       let first = first_item (net.received p (prio_of packet)) packet needs.0 in
-      IsMoved refl refl (ends_goes p packet Dropped first (Falls p first.item (ap (next_at net p.node) first.now ∙ needs.1)))
+      IsMoved refl refl
+      (ends_goes p packet Dropped first
+      (Falls p first.item (ap (next_at net p.node) first.now ∙ needs.1)))
 
-  left_on : (n : ℕ) (packet : List ℕ) → Needs net (AtNode (Leave n packet)) → OnBoard (AtNode (Leave n packet))
+  left_on : (n : ℕ) (packet : List ℕ) → Needs net (AtNode (Leave n packet))
+      → OnBoard (AtNode (Leave n packet))
   left_on n packet needs =
       let first = first_item (net.received (port_of n) (prio_of packet)) packet needs.1 in
-      IsMoved refl refl (ends_goes (port_of n) packet Left first (Leaves n first.item needs.0 (ap is_request first.now ∙ needs.2)))
+      IsMoved refl refl
+      (ends_goes (port_of n) packet Left first
+      (Leaves n first.item needs.0 (ap is_request first.now ∙ needs.2)))
 
-  answered_on : (p : PortRef) (packet response : List ℕ) → Needs net (ByDevice (Answer p packet response)) → OnBoard (ByDevice (Answer p packet response))
+  answered_on : (p : PortRef) (packet response : List ℕ)
+      → Needs net (ByDevice (Answer p packet response))
+      → OnBoard (ByDevice (Answer p packet response))
   answered_on p packet response needs =
       let first = first_item (net.received p (prio_of packet)) packet needs.0 in
       let heard = IsHeard p first.item (subst (IsForRegisters net p) (sym first.now) needs.1) in
-      IsAnswered (items_at (without_first net p (prio_of packet)) (ending out Answered (only_first (net.received p (prio_of packet))))) refl
+      IsAnswered
+      (items_at (without_first net p (prio_of packet))
+      (ending out Answered (only_first (net.received p (prio_of packet))))) refl
       (ends_goes p packet Answered first heard)
-      (record { port = p; packet = response; made = refl; passes = needs.3; becomes = answers_on p packet response })
+      (record {
+        port = p;
+        packet = response;
+        made = refl;
+        passes = needs.3;
+        becomes = answers_on p packet response;
+      })
 
   -- each step is one of these, whatever has ended before
   pub step_on : (step : Step) → Needs net step → OnBoard step
   step_on (Linked (Hold q packet)) needs = held_on q packet needs
   step_on (Linked (Free p packet)) needs = Stays refl refl (frees_on p packet)
-  step_on (AtNode (Take n packet)) needs = IsTaken refl (record { port = port_of n; packet = packet; made = refl; passes = needs.1; becomes = takes_on n packet })
+  step_on (AtNode (Take n packet)) needs =
+      IsTaken refl
+      (record {
+        port = port_of n;
+        packet = packet;
+        made = refl;
+        passes = needs.1;
+        becomes = takes_on n packet;
+      })
   step_on (AtNode (Leave n packet)) needs = left_on n packet needs
   step_on (ByDevice (Move p q packet)) needs = moved_on p q packet needs
   step_on (ByDevice (Drop p packet)) needs = dropped_on p packet needs
@@ -241,57 +337,97 @@ module _ (net : Network) (out : End → List Item) where
 abbrev pub AllOn : (Place → Item → Type 0) → Board → Type 0
 AllOn Holds board = (place : Place) → AllByRecursion (Holds place) (board place)
 
-pub all-append : {X : Type 0} (P : X → Type 0) (xs ys : List X) → AllByRecursion P xs → AllByRecursion P ys → AllByRecursion P (xs ++ ys)
+pub all-append : {X : Type 0} (P : X → Type 0) (xs ys : List X) → AllByRecursion P xs
+    → AllByRecursion P ys → AllByRecursion P (xs ++ ys)
 all-append P [] ys all more = more
 all-append P (x ∷ xs) ys all more = (all.0, all-append P xs ys all.1 more)
 
-pub all_weaker : {X : Type 0} (P Q : X → Type 0) → ((x : X) → P x → Q x) → (xs : List X) → AllByRecursion P xs → AllByRecursion Q xs
+pub all-parts : {X : Type 0} (P : X → Type 0) (xs ys : List X) → AllByRecursion P (xs ++ ys)
+    → AllByRecursion P xs × AllByRecursion P ys
+all-parts P [] ys all = (tt, all)
+all-parts P (x ∷ xs) ys all =
+    let parts = all-parts P xs ys all.1 in
+    ((all.0, parts.0), parts.1)
+
+pub all_weaker : {X : Type 0} (P Q : X → Type 0) → ((x : X) → P x → Q x) → (xs : List X)
+    → AllByRecursion P xs → AllByRecursion Q xs
 all_weaker P Q weaker [] all = tt
 all_weaker P Q weaker (x ∷ xs) all = (weaker x all.0, all_weaker P Q weaker xs all.1)
 
-pub AllOn-same : (Holds : Place → Item → Type 0) (old new : Board) → ((place : Place) → new place ≡ old place) → AllOn Holds old → AllOn Holds new
-AllOn-same Holds old new same all place = subst (AllByRecursion (Holds place)) (sym (same place)) (all place)
+pub AllOn-same : (Holds : Place → Item → Type 0) (old new : Board)
+    → ((place : Place) → new place ≡ old place) → AllOn Holds old → AllOn Holds new
+AllOn-same Holds old new same all place = subst (AllByRecursion (Holds place)) (sym (same place))
+    (all place)
 
-pub AllOn-put : (Holds : Place → Item → Type 0) (old : Board) (to : Place) (item : Item) → AllOn Holds old → Holds to item → AllOn Holds (put old to item)
+pub AllOn-put : (Holds : Place → Item → Type 0) (old : Board) (to : Place) (item : Item)
+    → AllOn Holds old → Holds to item → AllOn Holds (put old to item)
 AllOn-put Holds old to item all one place = go (same_place place to) refl
   where
-    go : (t : Bool) → same_place place to ≡ t → AllByRecursion (Holds place) (cond t (old to ++ item ∷ []) (old place))
-    go true same = subst (λ x. AllByRecursion (Holds x) (old to ++ item ∷ [])) (sym (place_is place to same)) (all-append (Holds to) (old to) (item ∷ []) (all to) (one, tt))
+    go : (t : Bool) → same_place place to ≡ t
+        → AllByRecursion (Holds place) (cond t (old to ++ item ∷ []) (old place))
+    go true same = subst (λ x. AllByRecursion (Holds x) (old to ++ item ∷ []))
+        (sym (place_is place to same))
+        (all-append (Holds to) (old to) (item ∷ []) (all to) (one, tt))
     go false apart = all place
 
-pub AllOn-cut : (Holds : Place → Item → Type 0) (old : Board) (from : Place) (item : Item) (rest : List Item) → AllOn Holds old → old from ≡ item ∷ rest → Holds from item × AllOn Holds (cut old from rest)
-AllOn-cut Holds old from item rest all was = (whole.0, λ place. go place (same_place place from) refl)
+pub AllOn-cut : (Holds : Place → Item → Type 0) (old : Board) (from : Place) (item : Item)
+    (rest : List Item) → AllOn Holds old → old from ≡ item ∷ rest → Holds from item
+    × AllOn Holds (cut old from rest)
+AllOn-cut Holds old from item rest all was =
+    (whole.0, λ place. go place (same_place place from) refl)
   where
     whole : AllByRecursion (Holds from) (item ∷ rest)
     whole = subst (AllByRecursion (Holds from)) was (all from)
 
-    go : (place : Place) (t : Bool) → same_place place from ≡ t → AllByRecursion (Holds place) (cond t rest (old place))
-    go place true same = subst (λ x. AllByRecursion (Holds x) rest) (sym (place_is place from same)) whole.1
+    go : (place : Place) (t : Bool) → same_place place from ≡ t
+        → AllByRecursion (Holds place) (cond t rest (old place))
+    go place true same = subst (λ x. AllByRecursion (Holds x) rest) (sym (place_is place from same))
+        whole.1
     go place false apart = all place
 
--- What holds of an item where it comes, and of an item as it goes if it held of it before, holds of all after a step.
+-- What holds of an item where it comes, and of an item as it goes if it held of it before, holds of
+-- all after a step.
 module _ (Holds : Place → Item → Type 0) (net : Network) where
-  pub AllOn-goes : (old new : Board) → (g : Goes net old new) → (Holds g.from g.item → Holds g.to g.moved) → AllOn Holds old → AllOn Holds new
+  pub AllOn-goes : (old new : Board) → (g : Goes net old new)
+      → (Holds g.from g.item → Holds g.to g.moved) → AllOn Holds old → AllOn Holds new
   AllOn-goes old new g goes all =
       let parts = AllOn-cut Holds old g.from g.item g.rest all g.was in
-      AllOn-same Holds (put (cut old g.from g.rest) g.to g.moved) new g.becomes (AllOn-put Holds (cut old g.from g.rest) g.to g.moved parts.1 (goes parts.0))
+      AllOn-same Holds (put (cut old g.from g.rest) g.to g.moved) new g.becomes
+      (AllOn-put Holds (cut old g.from g.rest) g.to g.moved parts.1 (goes parts.0))
 
-  pub AllOn-comes : (made : List Item) (old new : Board) → (c : Comes net made old new) → Holds (Waiting c.port (prio_of c.packet)) (item_of net c.port c.packet) → AllOn Holds old → AllOn Holds new
+  pub AllOn-comes : (made : List Item) (old new : Board) → (c : Comes net made old new)
+      → Holds (Waiting c.port (prio_of c.packet)) (item_of net c.port c.packet) → AllOn Holds old
+      → AllOn Holds new
   AllOn-comes made old new c comes all =
-      AllOn-same Holds (put old (Waiting c.port (prio_of c.packet)) (item_of net c.port c.packet)) new c.becomes (AllOn-put Holds old (Waiting c.port (prio_of c.packet)) (item_of net c.port c.packet) all comes)
+      AllOn-same Holds (put old (Waiting c.port (prio_of c.packet)) (item_of net c.port c.packet))
+      new c.becomes
+      (AllOn-put Holds old (Waiting c.port (prio_of c.packet)) (item_of net c.port c.packet) all
+      comes)
 
-  pub AllOn-step : (next : Network) (made : List Item) (old new : Board) → StepOn net next made old new → ((p : PortRef) (packet : List ℕ) → Passes packet → Holds (Waiting p (prio_of packet)) (item_of net p packet)) → ((from to : Place) (item moved : Item) → Allowed net from to item moved → Holds from item → Holds to moved) → AllOn Holds old → AllOn Holds new
-  AllOn-step next made old new (Stays none given same) comes goes all = AllOn-same Holds old new same all
-  AllOn-step next made old new (IsTaken given c) comes goes all = AllOn-comes made old new c (comes c.port c.packet c.passes) all
-  AllOn-step next made old new (IsMoved none given g) comes goes all = AllOn-goes old new g (goes g.from g.to g.item g.moved g.allowed) all
+  pub AllOn-step : (next : Network) (made : List Item) (old new : Board)
+      → StepOn net next made old new
+      → ((p : PortRef) (packet : List ℕ) → Passes packet → Holds (Waiting p (prio_of packet))
+      (item_of net p packet))
+      → ((from to : Place) (item moved : Item) → Allowed net from to item moved → Holds from item
+      → Holds to moved) → AllOn Holds old → AllOn Holds new
+  AllOn-step next made old new (Stays none given same) comes goes all =
+      AllOn-same Holds old new same all
+  AllOn-step next made old new (IsTaken given c) comes goes all =
+      AllOn-comes made old new c (comes c.port c.packet c.passes) all
+  AllOn-step next made old new (IsMoved none given g) comes goes all =
+      AllOn-goes old new g (goes g.from g.to g.item g.moved g.allowed) all
   AllOn-step next made old new (IsAnswered mid given g c) comes goes all =
-      AllOn-comes made mid new c (comes c.port c.packet c.passes) (AllOn-goes old mid g (goes g.from g.to g.item g.moved g.allowed) all)
+      AllOn-comes made mid new c (comes c.port c.packet c.passes)
+      (AllOn-goes old mid g (goes g.from g.to g.item g.moved g.allowed) all)
 
 -- nothing stands anywhere in an empty network
-pub nothing_at : (net : Network) → IsEmptyNetwork net → (place : Place) → items_at net (λ e. []) place ≡ []
+pub nothing_at : (net : Network) → IsEmptyNetwork net → (place : Place)
+    → items_at net (λ e. []) place ≡ []
 nothing_at net empty (Received p r) = empty.received p r
 nothing_at net empty (Waiting p r) = empty.waiting p r
 nothing_at net empty (Over e) = refl
 
-pub AllOn-empty : (Holds : Place → Item → Type 0) (net : Network) → IsEmptyNetwork net → AllOn Holds (items_at net (λ e. []))
-AllOn-empty Holds net empty place = subst (AllByRecursion (Holds place)) (sym (nothing_at net empty place)) tt
+pub AllOn-empty : (Holds : Place → Item → Type 0) (net : Network) → IsEmptyNetwork net
+    → AllOn Holds (items_at net (λ e. []))
+AllOn-empty Holds net empty place =
+    subst (AllByRecursion (Holds place)) (sym (nothing_at net empty place)) tt

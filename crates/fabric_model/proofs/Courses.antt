@@ -1,4 +1,5 @@
--- The course of a flow: the places that its items pass, one after another, while the routes of its destination stand.
+-- The course of a flow: the places that its items pass, one after another, while the routes of its
+-- destination stand.
 use Rattle.std.proofs.Common.{◌≡◌, ◌⊎◌, inl, inr, ℕ, zero, suc, ◌+◌, ◌==◌, Bool, true, false, List, Option, Some, None, option_map, refl, sym, ap, ◌∙◌, subst, arith}
 use Rattle.std.specs.Option.{option_and_then}
 use Rattle.rio_packets.specs.Fields.{prio_of, ftype_of, dest_of, hop_of}
@@ -16,7 +17,8 @@ use Rattle.fabric_model.proofs.Peers.{peer_back}
 use Rattle.fabric_model.proofs.Boards.{Allowed, Crosses, Turns, Leaves, Falls, IsHeard}
 use Rattle.fabric_model.proofs.Moving.{Key, key_of, moved_key, moves_on, named_goes, by_key, Agrees, next_agrees, SentBy, sent_by}
 
--- What the way of a flow depends on: the links, which nodes are switches, and the route of the one destination.
+-- What the way of a flow depends on: the links, which nodes are switches, and the route of the one
+-- destination.
 pub record Chart : Type 0 where
   pub links : List (PortRef × PortRef)
   pub switch : ℕ → Option Bool
@@ -77,80 +79,116 @@ fits_left a (Stands place) = inl refl
 fits_left a (Ends e) = inr refl
 
 -- where a course is over, it stays
-pub course_ends : (chart : Chart) (spot : Spot) (i more : ℕ) (e : End) → (course chart spot i).place ≡ Over e → (course chart spot (more + i)).place ≡ Over e
+pub course_ends : (chart : Chart) (spot : Spot) (i more : ℕ) (e : End) → (course chart spot i).place
+    ≡ Over e → (course chart spot (more + i)).place ≡ Over e
 course_ends chart spot i zero e is =
     let none : i ≡ zero + i = omega arith in
     subst (λ k. (course chart spot k).place ≡ Over e) none is
 course_ends chart spot i (suc more) e is =
     let further : suc (more + i) ≡ suc more + i = omega arith in
-    subst (λ k. (course chart spot k).place ≡ Over e) further (ap (λ place. (onward chart (course chart spot (more + i)).key place).place) (course_ends chart spot i more e is))
+    subst (λ k. (course chart spot k).place ≡ Over e) further
+    (ap (λ place. (onward chart (course chart spot (more + i)).key place).place)
+    (course_ends chart spot i more e is))
 
 -- What is allowed is the next place of a course.
 pub record IsNext (spot : Spot) (to : Place) (packet : List ℕ) : Type 0 where
   pub fits : Fits to spot.place
   pub key : key_of packet ≡ spot.key
 
-by_spot : {to : Place} {packet : List ℕ} (spot other : Spot) → spot ≡ other → IsNext other to packet → IsNext spot to packet
+by_spot : {to : Place} {packet : List ℕ} (spot other : Spot) → spot ≡ other → IsNext other to packet
+    → IsNext spot to packet
 by_spot {to} {packet} spot other same next = subst (λ s. IsNext s to packet) (sym same) next
 
 -- a switch sends a packet by its route and what is known of the packet
-module _ (net : Network) (n : ℕ) (packet : List ℕ) (next : Next) (s : SentBy net n packet next) where
-  is_switch_here : switch_at net n ≡ Some true
-  is_switch_here = ap (option_map is_switch) s.known ∙ ap Some s.switch
+module _ (net : Network) (n : ℕ) (packet : List ℕ) (next : Next) (s : SentBy net n packet next)
+  where
+    is_switch_here : switch_at net n ≡ Some true
+    is_switch_here = ap (option_map is_switch) s.known ∙ ap Some s.switch
 
-  route_here : route_at net (dest_of packet) n ≡ option_and_then (next_port s.device) (dest_of packet)
-  route_here = ap (λ o. option_and_then (λ d. option_and_then (λ device. next_port device d) o) (dest_of packet)) s.known
+    route_here : route_at net (dest_of packet) n ≡ option_and_then (next_port s.device)
+        (dest_of packet)
+    route_here =
+        ap (λ o. option_and_then (λ d. option_and_then (λ device. next_port device d) o)
+        (dest_of packet)) s.known
 
-  sends : Agrees (by_key (ftype_of packet == 8) (hop_of packet) (route_at net (dest_of packet) n)) next
-  sends = subst (Agrees (by_key (ftype_of packet == 8) (hop_of packet) (route_at net (dest_of packet) n))) s.sends (rw route_here (next_agrees s.device packet))
+    sends : Agrees (by_key (ftype_of packet == 8) (hop_of packet) (route_at net (dest_of packet) n))
+        next
+    sends = subst
+        (Agrees (by_key (ftype_of packet == 8) (hop_of packet) (route_at net (dest_of packet) n)))
+        s.sends (rw route_here (next_agrees s.device packet))
 
-  spot_here : (r : ℕ) → at_node (switch_at net n) (route_at net (dest_of packet) n) n r (key_of packet) ≡ to_named (by_key (ftype_of packet == 8) (hop_of packet) (route_at net (dest_of packet) n)) n r (key_of packet)
-  spot_here r = ap (λ o. at_node o (route_at net (dest_of packet) n) n r (key_of packet)) is_switch_here
+    spot_here : (r : ℕ) → at_node (switch_at net n) (route_at net (dest_of packet) n) n r
+        (key_of packet)
+        ≡ to_named (by_key (ftype_of packet == 8) (hop_of packet) (route_at net (dest_of packet) n))
+        n
+        r (key_of packet)
+    spot_here r = ap (λ o. at_node o (route_at net (dest_of packet) n) n r (key_of packet))
+        is_switch_here
 
 agrees_port : (o : Option ℕ) (n : ℕ) → Agrees o (Port n) → o ≡ Some n
 agrees_port None n is = absurd is
 agrees_port (Some m) n is = ap Some is
 
-agrees_none : (o : Option ℕ) (next : Next) → Agrees o next → ((n : ℕ) → next ≡ Port n → ⊥) → o ≡ None
+agrees_none : (o : Option ℕ) (next : Next) → Agrees o next → ((n : ℕ) → next ≡ Port n → ⊥) → o
+    ≡ None
 agrees_none None next is apart = refl
 agrees_none (Some m) Nowhere is apart = absurd is
 agrees_none (Some m) RegisterUnit is apart = absurd is
 agrees_none (Some m) (Port n) is apart = absurd (apart n refl)
 
 -- where a switch names no port
-not_named : (net : Network) (p : PortRef) (r : ℕ) (packet : List ℕ) (next : Next) (to : Place) → SentBy net p.node packet next → ((n : ℕ) → next ≡ Port n → ⊥) → Fits to (Over Dropped)
+not_named : (net : Network) (p : PortRef) (r : ℕ) (packet : List ℕ) (next : Next) (to : Place)
+    → SentBy net p.node packet next → ((n : ℕ) → next ≡ Port n → ⊥) → Fits to (Over Dropped)
     → IsNext (onward (chart_of (dest_of packet) net) (key_of packet) (Received p r)) to packet
 not_named net p r packet next to s apart fits =
     let none = agrees_none _ next (sends net p.node packet next s) apart in
-    by_spot _ (record { place = Over Dropped; key = key_of packet }) (spot_here net p.node packet next s r ∙ ap (λ o. to_named o p.node r (key_of packet)) none)
+    by_spot _ (record { place = Over Dropped; key = key_of packet })
+    (spot_here net p.node packet next s r ∙ ap (λ o. to_named o p.node r (key_of packet)) none)
     (record { fits = fits; key = refl })
 
 -- at an endpoint
-at_endpoint : (net : Network) (p : PortRef) (r : ℕ) (dest : Option ℕ) (packet : List ℕ) (to : Place) → switch_at net p.node ≡ Some false → Fits to (Over Left)
+at_endpoint : (net : Network) (p : PortRef) (r : ℕ) (dest : Option ℕ) (packet : List ℕ) (to : Place)
+    → switch_at net p.node ≡ Some false → Fits to (Over Left)
     → IsNext (onward (chart_of dest net) (key_of packet) (Received p r)) to packet
 at_endpoint net p r dest packet to endpoint fits =
-    by_spot _ (record { place = Over Left; key = key_of packet }) (ap (λ o. at_node o (route_at net dest p.node) p.node r (key_of packet)) endpoint)
+    by_spot _ (record { place = Over Left; key = key_of packet })
+    (ap (λ o. at_node o (route_at net dest p.node) p.node r (key_of packet)) endpoint)
     (record { fits = fits; key = refl })
 
 -- what is allowed is the next place
-pub allowed_next : (net : Network) (from to : Place) (item moved : Item) → AreProper net.links → Passes item.now → Allowed net from to item moved
+pub allowed_next : (net : Network) (from to : Place) (item moved : Item) → AreProper net.links
+    → Passes item.now → Allowed net from to item moved
     → IsNext (onward (chart_of (dest_of item.now) net) (key_of item.now) from) to moved.now
 allowed_next net from to item moved proper passes (Crosses p q r item2 peer) =
-    by_spot _ (record { place = Received q r; key = key_of item.now }) (ap (λ o. over_link o p r (key_of item.now)) (peer_back net.links p q proper peer))
+    by_spot _ (record { place = Received q r; key = key_of item.now })
+    (ap (λ o. over_link o p r (key_of item.now)) (peer_back net.links p q proper peer))
     (record { fits = Stands (Received q r); key = refl })
 allowed_next net from to item moved2 proper passes (Turns p q item2 same named) =
     let s = sent_by net p.node item.now (Port q.port) named in
     let on = moves_on item.now passes (named_goes s.device item.now q.port s.sends) in
     let some = agrees_port _ q.port (sends net p.node item.now (Port q.port) s) in
     let here : port_at p.node q.port ≡ q = λ i. record { node = sym same i; port = q.port } in
-    by_spot _ (record { place = Waiting (port_at p.node q.port) (prio_of item.now); key = moved_key (key_of item.now) })
-    (spot_here net p.node item.now (Port q.port) s (prio_of item.now) ∙ ap (λ o. to_named o p.node (prio_of item.now) (key_of item.now)) some)
-    (record { fits = subst (λ x. Fits (Waiting q (prio_of item.now)) (Waiting x (prio_of item.now))) (sym here) (Stands (Waiting q (prio_of item.now))); key = on.key })
+    by_spot _
+    (record {
+      place = Waiting (port_at p.node q.port) (prio_of item.now);
+      key = moved_key (key_of item.now);
+    })
+    (spot_here net p.node item.now (Port q.port) s (prio_of item.now)
+    ∙ ap (λ o. to_named o p.node (prio_of item.now) (key_of item.now)) some)
+    (record {
+      fits = subst (λ x. Fits (Waiting q (prio_of item.now)) (Waiting x (prio_of item.now)))
+          (sym here) (Stands (Waiting q (prio_of item.now)));
+      key = on.key;
+    })
 allowed_next net from to item moved proper passes (Leaves n item2 endpoint other) =
-    at_endpoint net (port_of n) (prio_of item.now) (dest_of item.now) item.now (Over Left) endpoint (Stands (Over Left))
+    at_endpoint net (port_of n) (prio_of item.now) (dest_of item.now) item.now (Over Left) endpoint
+    (Stands (Over Left))
 allowed_next net from to item moved proper passes (Falls p item2 named) =
-    not_named net p (prio_of item.now) item.now Nowhere (Over Dropped) (sent_by net p.node item.now Nowhere named) (λ n e. absurd (cc)) (Stands (Over Dropped))
+    not_named net p (prio_of item.now) item.now Nowhere (Over Dropped)
+    (sent_by net p.node item.now Nowhere named) (λ n e. absurd (cc)) (Stands (Over Dropped))
 allowed_next net from to item moved proper passes (IsHeard p item2 (inl endpoint)) =
-    at_endpoint net p (prio_of item.now) (dest_of item.now) item.now (Over Answered) endpoint (Ends Left)
+    at_endpoint net p (prio_of item.now) (dest_of item.now) item.now (Over Answered) endpoint
+    (Ends Left)
 allowed_next net from to item moved proper passes (IsHeard p item2 (inr named)) =
-    not_named net p (prio_of item.now) item.now RegisterUnit (Over Answered) (sent_by net p.node item.now RegisterUnit named) (λ n e. absurd (cc)) (Ends Dropped)
+    not_named net p (prio_of item.now) item.now RegisterUnit (Over Answered)
+    (sent_by net p.node item.now RegisterUnit named) (λ n e. absurd (cc)) (Ends Dropped)

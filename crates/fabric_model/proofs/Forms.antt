@@ -31,7 +31,8 @@ rest : (items : List Item) → ArePackets items → ArePackets (behind_first ite
 rest [] all = tt
 rest (item ∷ items) all = all.1
 
-first_is_packet : (items : List Item) (packet : List ℕ) → first_packet items ≡ Some packet → ArePackets items
+first_is_packet : (items : List Item) (packet : List ℕ) → first_packet items ≡ Some packet
+    → ArePackets items
     → Passes packet
 first_is_packet [] packet first all = absurd (cc)
 first_is_packet (item ∷ items) packet first all =
@@ -53,12 +54,14 @@ after_step net step needs formed =
     AllOn-step IsPacket net (after net step) (taken_by net step) (items_at net (λ e. []))
     (items_at (after net step) (λ e. [] ++ ended_by e net step)) (step_on net (λ e. []) step needs)
     (λ p packet passes. passes)
-    (λ from to item moved allowed passes. (allowed_along net from to item moved allowed passes).passes)
+    (λ from to item moved allowed passes.
+    (allowed_along net from to item moved allowed passes).passes)
     (on_board net formed)
 
 -- ---- what is lent
 
-with_lent_packets : (lent : PortRef → List Item) (p : PortRef) (items : List Item) → ArePackets items
+with_lent_packets : (lent : PortRef → List Item) (p : PortRef) (items : List Item)
+    → ArePackets items
     → ((q : PortRef) → ArePackets (lent q)) → (q : PortRef) → ArePackets (with_lent lent p items q)
 with_lent_packets lent p items all others q = go (same_port q p)
   where
@@ -69,13 +72,16 @@ with_lent_packets lent p items all others q = go (same_port q p)
 step_lent : (net : Network) (step : Step) → Needs net step → IsFormed net
     → (q : PortRef) → ArePackets ((after net step).lent q)
 step_lent net (Linked (Hold far packet)) (p, peer, first, room) formed q =
-    subst (λ (o : Option PortRef). ArePackets ((after_hold net far o (prio_of packet)).lent q)) (sym peer)
+    subst (λ (o : Option PortRef). ArePackets ((after_hold net far o (prio_of packet)).lent q))
+    (sym peer)
     (with_lent_packets net.lent p (net.lent p ++ only_first (net.waiting p (prio_of packet)))
-    (all-append (λ (item : Item). Passes item.now) (net.lent p) (only_first (net.waiting p (prio_of packet))) (formed.lent p)
+    (all-append (λ (item : Item). Passes item.now) (net.lent p)
+    (only_first (net.waiting p (prio_of packet))) (formed.lent p)
     (front (net.waiting p (prio_of packet)) (formed.waiting p (prio_of packet))))
     formed.lent q)
 step_lent net (Linked (Free p packet)) needs formed q =
-    with_lent_packets net.lent p (behind_first (net.lent p)) (rest (net.lent p) (formed.lent p)) formed.lent q
+    with_lent_packets net.lent p (behind_first (net.lent p)) (rest (net.lent p) (formed.lent p))
+    formed.lent q
 step_lent net (AtNode (Take n packet)) needs formed q = formed.lent q
 step_lent net (AtNode (Leave n packet)) needs formed q = formed.lent q
 step_lent net (ByDevice (Move p t packet)) needs formed q = formed.lent q
@@ -89,7 +95,8 @@ pub AreWithin-with : (devices : List Device) (n : ℕ) (change : Device → Devi
     → AllByRecursion IsWithin devices → AllByRecursion IsWithin (with_device devices n change)
 AreWithin-with [] n change keeps all = tt
 AreWithin-with (device ∷ devices) zero change keeps all = (keeps device all.0, all.1)
-AreWithin-with (device ∷ devices) (suc n) change keeps all = (all.0, AreWithin-with devices n change keeps all.1)
+AreWithin-with (device ∷ devices) (suc n) change keeps all =
+    (all.0, AreWithin-with devices n change keeps all.1)
 
 device_stays : (packet : List ℕ) (port : ℕ) (device : Device) → Passes packet → IsWithin device
     → IsWithin (device_after port (request_of packet) device)
@@ -102,11 +109,13 @@ device_stays packet port device passes within = go (request_of packet) refl
 step_registers : (net : Network) (step : Step) → Needs net step → IsFormed net
     → AllByRecursion IsWithin (after net step).registers
 step_registers net (ByDevice (Answer p packet response)) (first, registers, is, form, room) formed =
-    let passes = first_is_packet (net.received p (prio_of packet)) packet first (formed.received p (prio_of packet)) in
+    let passes = first_is_packet (net.received p (prio_of packet)) packet first
+    (formed.received p (prio_of packet)) in
     AreWithin-with net.registers p.node (device_after p.port (request_of packet))
     (λ device within. device_stays packet p.port device passes within) formed.registers
 step_registers net (Linked (Hold q packet)) needs formed =
-    subst (AllByRecursion IsWithin) (sym (registers_stay net (Linked (Hold q packet)) refl)) formed.registers
+    subst (AllByRecursion IsWithin) (sym (registers_stay net (Linked (Hold q packet)) refl))
+    formed.registers
 step_registers net (Linked (Free p packet)) needs formed = formed.registers
 step_registers net (AtNode (Take n packet)) needs formed = formed.registers
 step_registers net (AtNode (Leave n packet)) needs formed = formed.registers
@@ -115,7 +124,8 @@ step_registers net (ByDevice (Drop p packet)) needs formed = formed.registers
 
 -- ---- steps
 
-step_formed : (net : Network) (step : Step) → Needs net step → IsFormed net → IsFormed (after net step)
+step_formed : (net : Network) (step : Step) → Needs net step → IsFormed net
+    → IsFormed (after net step)
 step_formed net step needs formed =
     let board = after_step net step needs formed in
     record {
@@ -132,7 +142,8 @@ stays_formed start (step ∷ steps) end formed legal =
     stays_formed (after start step) steps end (step_formed start step legal.0 formed) legal.1
 
 -- a network with no packet has none in another form
-pub empty_formed : (start : Network) → IsEmptyNetwork start → AllByRecursion IsWithin start.registers
+pub empty_formed : (start : Network) → IsEmptyNetwork start
+    → AllByRecursion IsWithin start.registers
     → IsFormed start
 empty_formed start empty within = record {
   received = λ p r. subst ArePackets (sym (empty.received p r)) tt;
@@ -143,7 +154,8 @@ empty_formed start empty within = record {
 
 -- ---- answers
 
-pub device_at : (devices : List Device) (n : ℕ) (device : Device) → slice_get devices n ≡ Some device
+pub device_at : (devices : List Device) (n : ℕ) (device : Device) → slice_get devices n
+    ≡ Some device
     → AllByRecursion IsWithin devices → IsWithin device
 device_at [] n device is all = absurd (cc)
 device_at (other ∷ devices) zero device is all =
@@ -152,9 +164,11 @@ device_at (other ∷ devices) zero device is all =
 device_at (other ∷ devices) (suc n) device is all = device_at devices n device is all.1
 
 -- what registers answer to a packet in its link form is another
-pub answer_passes : (net : Network) → IsFormed net → (p : PortRef) (packet response : List ℕ) → p.port < 0x100
+pub answer_passes : (net : Network) → IsFormed net → (p : PortRef) (packet response : List ℕ)
+    → p.port < 0x100
     → Passes packet → response_at net p packet ≡ Some response → Passes response
-answer_passes net formed p packet response low passes = by_device (slice_get net.registers p.node) refl
+answer_passes net formed p packet response low passes = by_device (slice_get net.registers p.node)
+    refl
   where
     answer : Device → Request → List ℕ
     answer device request = response_bytes (answered device request p.port).response
@@ -167,11 +181,14 @@ answer_passes net formed p packet response low passes = by_device (slice_get net
         subst Passes same (responses_pass device packet request p.port within low passes asks)
 
     by_device : (o : Option Device) → slice_get net.registers p.node ≡ o
-        → option_and_then (λ device. option_map (answer device) (request_of packet)) o ≡ Some response → Passes response
+        → option_and_then (λ device. option_map (answer device) (request_of packet)) o
+        ≡ Some response → Passes response
     by_device None found is = absurd (cc)
     by_device (Some device) found is =
-        by_request device (request_of packet) (device_at net.registers p.node device found formed.registers) refl is
+        by_request device (request_of packet)
+        (device_at net.registers p.node device found formed.registers) refl is
 
 pub answers_pass : (net : Network) → IsFormed net → AnswersPass net
 answers_pass net formed p r packet response low first is =
-    answer_passes net formed p packet response low (first_is_packet (net.received p r) packet first (formed.received p r)) is
+    answer_passes net formed p packet response low
+    (first_is_packet (net.received p r) packet first (formed.received p r)) is

@@ -1,11 +1,12 @@
--- All items since one was taken, in the order of their arrival: each list of the network is read from this one.
+-- All items since one was taken, in the order of their arrival: each list of the network is read
+-- from this one.
 use Rattle.std.proofs.Common.{◌≡◌, ℕ, Bool, true, false, leb, List, [], ◌∷◌, ◌++◌, filter, sym, ap, ◌∙◌, subst, refl, cond, append-nil}
 use Rattle.std.specs.Bool.{⊤}
 use Rattle.std.specs.List.{AllByRecursion}
 use Rattle.std.proofs.lemmas.List.Elements.{filter-append}
 use Rattle.fabric_model.specs.Network.{Item}
 use Rattle.fabric_model.specs.Laws.Holding.{Place, same_place}
-use Rattle.fabric_model.proofs.Boards.{place_is, Board, put, cut, all-append}
+use Rattle.fabric_model.proofs.Boards.{place_is, Board, put, cut, all-append, all-parts}
 
 -- an item, where it stands, and how many places of its course it has passed
 pub record Entry : Type 0 where
@@ -18,11 +19,14 @@ abbrev pub lane : Place → List Entry → List Item
 lane place [] = []
 lane place (e ∷ es) = cond (same_place place e.place) (e.item ∷ lane place es) (lane place es)
 
-pub lane-append : (place : Place) (xs ys : List Entry) → lane place (xs ++ ys) ≡ lane place xs ++ lane place ys
+pub lane-append : (place : Place) (xs ys : List Entry) → lane place (xs ++ ys) ≡ lane place xs
+    ++ lane place ys
 lane-append place [] ys = refl
 lane-append place (x ∷ xs) ys = go (same_place place x.place) (lane-append place xs ys)
   where
-    go : (t : Bool) → lane place (xs ++ ys) ≡ lane place xs ++ lane place ys → cond t (x.item ∷ lane place (xs ++ ys)) (lane place (xs ++ ys)) ≡ cond t (x.item ∷ lane place xs) (lane place xs) ++ lane place ys
+    go : (t : Bool) → lane place (xs ++ ys) ≡ lane place xs ++ lane place ys
+        → cond t (x.item ∷ lane place (xs ++ ys)) (lane place (xs ++ ys))
+        ≡ cond t (x.item ∷ lane place xs) (lane place xs) ++ lane place ys
     go true same = ap (λ items. x.item ∷ items) same
     go false same = same
 
@@ -33,12 +37,6 @@ abbrev pub Pairs : {X : Type 0} → (X → X → Type 0) → List X → Type 0
 Pairs R [] = ⊤
 Pairs R (x ∷ xs) = AllByRecursion (R x) xs × Pairs R xs
 
-all-parts : {X : Type 0} (P : X → Type 0) (xs ys : List X) → AllByRecursion P (xs ++ ys) → AllByRecursion P xs × AllByRecursion P ys
-all-parts P [] ys all = (tt, all)
-all-parts P (x ∷ xs) ys all =
-    let parts = all-parts P xs ys all.1 in
-    ((all.0, parts.0), parts.1)
-
 -- one of a list, and what stands before and behind it
 pub record Found {X : Type 0} (all : List X) : Type 0 where
   pub before : List X
@@ -46,7 +44,8 @@ pub record Found {X : Type 0} (all : List X) : Type 0 where
   pub behind : List X
   pub parts : all ≡ before ++ one ∷ behind
 
-pub all-without : {X : Type 0} (P : X → Type 0) (xs ys : List X) (x : X) → AllByRecursion P (xs ++ x ∷ ys) → P x × AllByRecursion P (xs ++ ys)
+pub all-without : {X : Type 0} (P : X → Type 0) (xs ys : List X) (x : X)
+    → AllByRecursion P (xs ++ x ∷ ys) → P x × AllByRecursion P (xs ++ ys)
 all-without P xs ys x all =
     let parts = all-parts P xs (x ∷ ys) all in
     (parts.1.0, all-append P xs ys parts.0 parts.1.1)
@@ -57,19 +56,27 @@ pub record Without {X : Type 0} (R : X → X → Type 0) (xs ys : List X) (x : X
   pub before : AllByRecursion (λ z. R z x) xs
   pub behind : AllByRecursion (R x) ys
 
-pub pairs-without : {X : Type 0} (R : X → X → Type 0) (xs ys : List X) (x : X) → Pairs R (xs ++ x ∷ ys) → Without R xs ys x
+pub pairs-without : {X : Type 0} (R : X → X → Type 0) (xs ys : List X) (x : X)
+    → Pairs R (xs ++ x ∷ ys) → Without R xs ys x
 pairs-without R [] ys x pairs = record { pairs = pairs.1; before = tt; behind = pairs.0 }
 pairs-without R (z ∷ xs) ys x pairs =
     let without = pairs-without R xs ys x pairs.1 in
     let own = all-without (R z) xs ys x pairs.0 in
-    record { pairs = (own.1, without.pairs); before = (own.0, without.before); behind = without.behind }
+    record {
+      pairs = (own.1, without.pairs);
+      before = (own.0, without.before);
+      behind = without.behind;
+    }
 
-pub pairs-append : {X : Type 0} (R : X → X → Type 0) (xs : List X) (x : X) → Pairs R xs → AllByRecursion (λ z. R z x) xs → Pairs R (xs ++ x ∷ [])
+pub pairs-append : {X : Type 0} (R : X → X → Type 0) (xs : List X) (x : X) → Pairs R xs
+    → AllByRecursion (λ z. R z x) xs → Pairs R (xs ++ x ∷ [])
 pairs-append R [] x pairs all = (tt, tt)
-pairs-append R (z ∷ xs) x pairs all = (all-append (R z) xs (x ∷ []) pairs.0 (all.0, tt), pairs-append R xs x pairs.1 all.1)
+pairs-append R (z ∷ xs) x pairs all =
+    (all-append (R z) xs (x ∷ []) pairs.0 (all.0, tt), pairs-append R xs x pairs.1 all.1)
 
 -- two facts of each
-pub all-both : {X : Type 0} (P Q S : X → Type 0) → ((x : X) → P x → Q x → S x) → (xs : List X) → AllByRecursion P xs → AllByRecursion Q xs → AllByRecursion S xs
+pub all-both : {X : Type 0} (P Q S : X → Type 0) → ((x : X) → P x → Q x → S x) → (xs : List X)
+    → AllByRecursion P xs → AllByRecursion Q xs → AllByRecursion S xs
 all-both P Q S both [] ps qs = tt
 all-both P Q S both (x ∷ xs) ps qs = (both x ps.0 qs.0, all-both P Q S both xs ps.1 qs.1)
 
@@ -78,26 +85,41 @@ all-both P Q S both (x ∷ xs) ps qs = (both x ps.0 qs.0, all-both P Q S both xs
 abbrev pub Elsewhere : Place → Entry → Type 0
 Elsewhere place e = same_place place e.place ≡ false
 
-pub nothing_elsewhere : (place : Place) (es : List Entry) → AllByRecursion (Elsewhere place) es → lane place es ≡ []
+pub nothing_elsewhere : (place : Place) (es : List Entry) → AllByRecursion (Elsewhere place) es
+    → lane place es ≡ []
 nothing_elsewhere place [] all = refl
 nothing_elsewhere place (e ∷ es) all = rw all.0 (nothing_elsewhere place es all.1)
 
-pub record FirstAt (place : Place) (es : List Entry) (first : Item) (others : List Item) : Type 0 where
-  pub before : List Entry
-  pub entry : Entry
-  pub behind : List Entry
-  pub parts : es ≡ before ++ entry ∷ behind
-  pub elsewhere : AllByRecursion (Elsewhere place) before
-  pub here : same_place place entry.place ≡ true
-  pub item : entry.item ≡ first
-  pub rest : lane place behind ≡ others
-
-pub first_at : (place : Place) (es : List Entry) (item : Item) (rest : List Item) → lane place es ≡ item ∷ rest → FirstAt place es item rest
-first_at place [] item rest is = absurd (cc)
-first_at place (e ∷ es) item rest is = go (same_place place e.place) refl is (first_at place es item rest)
+pub record FirstAt (place : Place) (es : List Entry) (first : Item) (others : List Item) : Type 0
   where
-    go : (t : Bool) → same_place place e.place ≡ t → cond t (e.item ∷ lane place es) (lane place es) ≡ item ∷ rest → (lane place es ≡ item ∷ rest → FirstAt place es item rest) → FirstAt place (e ∷ es) item rest
-    go true here is later = record { before = []; entry = e; behind = es; parts = refl; elsewhere = tt; here = here; item = cc; rest = cc }
+    pub before : List Entry
+    pub entry : Entry
+    pub behind : List Entry
+    pub parts : es ≡ before ++ entry ∷ behind
+    pub elsewhere : AllByRecursion (Elsewhere place) before
+    pub here : same_place place entry.place ≡ true
+    pub item : entry.item ≡ first
+    pub rest : lane place behind ≡ others
+
+pub first_at : (place : Place) (es : List Entry) (item : Item) (rest : List Item) → lane place es
+    ≡ item ∷ rest → FirstAt place es item rest
+first_at place [] item rest is = absurd (cc)
+first_at place (e ∷ es) item rest is =
+    go (same_place place e.place) refl is (first_at place es item rest)
+  where
+    go : (t : Bool) → same_place place e.place ≡ t → cond t (e.item ∷ lane place es) (lane place es)
+        ≡ item ∷ rest → (lane place es ≡ item ∷ rest → FirstAt place es item rest)
+        → FirstAt place (e ∷ es) item rest
+    go true here is later = record {
+      before = [];
+      entry = e;
+      behind = es;
+      parts = refl;
+      elsewhere = tt;
+      here = here;
+      item = cc;
+      rest = cc;
+    }
     go false apart is later =
         let found = later is in
         record {
@@ -120,29 +142,40 @@ since low items = filter (λ item. leb low item.number) items
 abbrev pub AreLanes : ℕ → Board → List Entry → Type 0
 AreLanes low board entries = (place : Place) → since low (board place) ≡ lane place entries
 
-pub since-append : (low : ℕ) (xs ys : List Item) → since low (xs ++ ys) ≡ since low xs ++ since low ys
+pub since-append : (low : ℕ) (xs ys : List Item) → since low (xs ++ ys) ≡ since low xs
+    ++ since low ys
 since-append low xs ys = filter-append (λ item. leb low item.number) xs ys
 
-since-put : (low : ℕ) (old : Board) (to : Place) (item : Item) (place : Place) → since low (put old to item place) ≡ since low (old place) ++ cond (same_place place to) (since low (item ∷ [])) []
+since-put : (low : ℕ) (old : Board) (to : Place) (item : Item) (place : Place)
+    → since low (put old to item place) ≡ since low (old place)
+    ++ cond (same_place place to) (since low (item ∷ [])) []
 since-put low old to item place = go (same_place place to) refl
   where
-    go : (t : Bool) → same_place place to ≡ t → since low (cond t (old to ++ item ∷ []) (old place)) ≡ since low (old place) ++ cond t (since low (item ∷ [])) []
-    go true same = since-append low (old to) (item ∷ []) ∙ ap (λ x. since low (old x) ++ since low (item ∷ [])) (sym (place_is place to same))
+    go : (t : Bool) → same_place place to ≡ t → since low (cond t (old to ++ item ∷ []) (old place))
+        ≡ since low (old place) ++ cond t (since low (item ∷ [])) []
+    go true same = since-append low (old to) (item ∷ [])
+        ∙ ap (λ x. since low (old x) ++ since low (item ∷ [])) (sym (place_is place to same))
     go false apart = sym (append-nil (since low (old place)))
 
 -- an entry comes to the end
-lane-comes : (place : Place) (es : List Entry) (e : Entry) → lane place (es ++ e ∷ []) ≡ lane place es ++ cond (same_place place e.place) (e.item ∷ []) []
+lane-comes : (place : Place) (es : List Entry) (e : Entry) → lane place (es ++ e ∷ [])
+    ≡ lane place es ++ cond (same_place place e.place) (e.item ∷ []) []
 lane-comes place es e = lane-append place es (e ∷ [])
 
 -- an item comes, and its entry
-pub lanes-comes : (low : ℕ) (old : Board) (to : Place) (item : Item) (passed : ℕ) (entries : List Entry) → leb low item.number ≡ true → AreLanes low old entries → AreLanes low (put old to item) (entries ++ record { item = item; place = to; passed = passed } ∷ [])
+pub lanes-comes : (low : ℕ) (old : Board) (to : Place) (item : Item) (passed : ℕ)
+    (entries : List Entry) → leb low item.number ≡ true → AreLanes low old entries
+    → AreLanes low (put old to item)
+    (entries ++ record { item = item; place = to; passed = passed } ∷ [])
 lanes-comes low old to item passed entries newer lanes place =
     since-put low old to item place
     ∙ (rw newer (ap (λ items. items ++ cond (same_place place to) (item ∷ []) []) (lanes place))
     ∙ sym (lane-comes place entries (record { item = item; place = to; passed = passed })))
 
 -- an older item comes
-pub lanes-older : (low : ℕ) (old : Board) (to : Place) (item : Item) (entries : List Entry) → leb low item.number ≡ false → AreLanes low old entries → AreLanes low (put old to item) entries
+pub lanes-older : (low : ℕ) (old : Board) (to : Place) (item : Item) (entries : List Entry)
+    → leb low item.number ≡ false → AreLanes low old entries
+    → AreLanes low (put old to item) entries
 lanes-older low old to item entries older lanes place =
     since-put low old to item place ∙ (rw older (none (same_place place to)) ∙ lanes place)
   where
@@ -151,30 +184,43 @@ lanes-older low old to item entries older lanes place =
     none false = append-nil (since low (old place))
 
 -- the first item of a place is taken out, and it is an older one
-pub lanes-cut_older : (low : ℕ) (old : Board) (from : Place) (item : Item) (rest : List Item) (entries : List Entry) → leb low item.number ≡ false → old from ≡ item ∷ rest → AreLanes low old entries → AreLanes low (cut old from rest) entries
-lanes-cut_older low old from item rest entries older was lanes place = go (same_place place from) refl
+pub lanes-cut_older : (low : ℕ) (old : Board) (from : Place) (item : Item) (rest : List Item)
+    (entries : List Entry) → leb low item.number ≡ false → old from ≡ item ∷ rest
+    → AreLanes low old entries → AreLanes low (cut old from rest) entries
+lanes-cut_older low old from item rest entries older was lanes place =
+    go (same_place place from) refl
   where
     short : since low rest ≡ since low (old from)
     short = rw was (rw older refl)
 
-    go : (t : Bool) → same_place place from ≡ t → since low (cond t rest (old place)) ≡ lane place entries
-    go true same = short ∙ (ap (λ x. since low (old x)) (sym (place_is place from same)) ∙ lanes place)
+    go : (t : Bool) → same_place place from ≡ t → since low (cond t rest (old place))
+        ≡ lane place entries
+    go true same =
+        short ∙ (ap (λ x. since low (old x)) (sym (place_is place from same)) ∙ lanes place)
     go false apart = lanes place
 
 -- it is not, and its entry is taken out
-pub lanes-cut : (low : ℕ) (old : Board) (from : Place) (item : Item) (rest : List Item) (entries : List Entry) → (f : FirstAt from entries item (since low rest)) → AreLanes low old entries → AreLanes low (cut old from rest) (f.before ++ f.behind)
+pub lanes-cut : (low : ℕ) (old : Board) (from : Place) (item : Item) (rest : List Item)
+    (entries : List Entry) → (f : FirstAt from entries item (since low rest))
+    → AreLanes low old entries → AreLanes low (cut old from rest) (f.before ++ f.behind)
 lanes-cut low old from item rest entries f lanes place = go (same_place place from) refl
   where
     here : since low rest ≡ lane from (f.before ++ f.behind)
-    here = sym (lane-append from f.before f.behind ∙ (ap (λ items. items ++ lane from f.behind) (nothing_elsewhere from f.before f.elsewhere) ∙ f.rest))
+    here = sym
+        (lane-append from f.before f.behind
+        ∙ (ap (λ items. items ++ lane from f.behind) (nothing_elsewhere from f.before f.elsewhere)
+        ∙ f.rest))
 
     there : same_place place from ≡ false → lane place entries ≡ lane place (f.before ++ f.behind)
     there apart =
         ap (lane place) f.parts
         ∙ (lane-append place f.before (f.entry ∷ f.behind)
-        ∙ (ap (λ t. lane place f.before ++ cond t (f.entry.item ∷ lane place f.behind) (lane place f.behind)) (subst (λ x. same_place place x ≡ false) (place_is from f.entry.place f.here) apart)
+        ∙ (ap (λ t. lane place f.before ++ cond t (f.entry.item ∷ lane place f.behind)
+        (lane place f.behind))
+        (subst (λ x. same_place place x ≡ false) (place_is from f.entry.place f.here) apart)
         ∙ sym (lane-append place f.before f.behind)))
 
-    go : (t : Bool) → same_place place from ≡ t → since low (cond t rest (old place)) ≡ lane place (f.before ++ f.behind)
+    go : (t : Bool) → same_place place from ≡ t → since low (cond t rest (old place))
+        ≡ lane place (f.before ++ f.behind)
     go true same = here ∙ ap (λ x. lane x (f.before ++ f.behind)) (sym (place_is place from same))
     go false apart = lanes place ∙ there apart

@@ -55,14 +55,19 @@ pub well_on : (start : Network) (steps : List Step) (end : Network) → AreWell 
 well_on start steps end well legal =
     lanes_alone end (ended start steps)
     (carried (λ net made out. AllOn StandsWell (items_at net out))
-    (λ net made out step needs held. AllOn-step StandsWell net (after net step) (taken_by net step) (items_at net out) (items_at (after net step) (λ e. out e ++ ended_by e net step)) (step_on net out step needs) (λ p packet passes. (passes, refl)) (goes_well net) held)
+    (λ net made out step needs held. AllOn-step StandsWell net (after net step) (taken_by net step)
+    (items_at net out) (items_at (after net step) (λ e. out e ++ ended_by e net step))
+    (step_on net out step needs) (λ p packet passes. (passes, refl)) (goes_well net) held)
     start [] (λ e. []) steps end well legal)
 
 pub well_begun : (start : Network) → IsEmptyNetwork start → AreWell start
 well_begun start empty = AllOn-empty StandsWell start empty
 
 pub well_priority : (net : Network) → AreWell net → ByPriority net
-well_priority net well = record { received = λ p r. only (Received p r); waiting = λ p r. only (Waiting p r) }
+well_priority net well = record {
+  received = λ p r. only (Received p r);
+  waiting = λ p r. only (Waiting p r);
+}
   where
     only : (place : Place) → AllByRecursion (HasPriority place) (items_at net (λ e. []) place)
     only place =

@@ -17,7 +17,8 @@ use Rattle.fabric_model.specs.Network.{Network}
 use Rattle.fabric_model.specs.Serving.{next_at}
 use Rattle.fabric_model.specs.Laws.Leaving.{MovesTo}
 
--- what a flow knows of a packet beside its destination: whether it is of format type 8, and the hop count of a maintenance
+-- what a flow knows of a packet beside its destination: whether it is of format type 8, and the hop
+-- count of a maintenance
 -- packet
 pub record Key : Type 0 where
   pub eight : Bool
@@ -47,7 +48,8 @@ module _ (old : List ℕ) (passes : Passes old) (m : is_maintenance old ≡ true
   byte k below =
       let known = places old m in
       let hop = known.least in let crc = known.between in
-      is_lowered.others k (λ e. omega (arith, below, hop, e)) (λ e. omega (arith, below, hop, crc, e))
+      is_lowered.others k (λ e. omega (arith, below, hop, e))
+      (λ e. omega (arith, below, hop, crc, e))
       (λ e. omega (arith, below, hop, crc, e))
 
   -- the hop count stays where it was
@@ -57,7 +59,8 @@ module _ (old : List ℕ) (passes : Passes old) (m : is_maintenance old ≡ true
   hop_is : hop_of (lowered old) ≡ option_map (λ h. h - 1) (hop_of old)
   hop_is =
       let less = is_lowered.hop in
-      let count : get_or (lowered old) (hop_place (lowered old)) 0 ≡ get_or old (hop_place old) 0 - 1 =
+      let count : get_or (lowered old) (hop_place (lowered old)) 0 ≡ get_or old (hop_place old) 0
+      - 1 =
       ap (λ place. get_or (lowered old) place 0) place_is ∙ omega (arith, less) in
       rw (m, is_lowered.is) (ap Some count)
 
@@ -93,10 +96,14 @@ moves_on old passes goes = go (is_maintenance old) refl
     go false other = moves_as_is old passes other
 
 -- a packet for which a switch names a port is not at its end
-pub named_goes : (device : Device) (packet : List ℕ) (n : ℕ) → next_of device packet ≡ Port n → is_at_end packet ≡ false
-named_goes device packet n = go (is_foreign packet) (is_at_end packet) (is_request packet) (to_port (option_and_then (next_port device) (dest_of packet)))
+pub named_goes : (device : Device) (packet : List ℕ) (n : ℕ) → next_of device packet ≡ Port n
+    → is_at_end packet ≡ false
+named_goes device packet n = go (is_foreign packet) (is_at_end packet) (is_request packet)
+    (to_port (option_and_then (next_port device) (dest_of packet)))
   where
-    go : (foreign ends asks : Bool) (next : Next) → cond foreign Nowhere (cond ends (cond asks RegisterUnit Nowhere) next) ≡ Port n → ends ≡ false
+    go : (foreign ends asks : Bool) (next : Next)
+        → cond foreign Nowhere (cond ends (cond asks RegisterUnit Nowhere) next) ≡ Port n → ends
+        ≡ false
     go true ends asks next is = absurd (cc)
     go false true true next is = absurd (cc)
     go false true false next is = absurd (cc)
@@ -151,13 +158,22 @@ pub record SentBy (net : Network) (n : ℕ) (packet : List ℕ) (next : Next) : 
   pub switch : is_switch device ≡ true
   pub sends : next_of device packet ≡ next
 
-pub sent_by : (net : Network) (n : ℕ) (packet : List ℕ) (next : Next) → next_at net n packet ≡ Some next → SentBy net n packet next
+pub sent_by : (net : Network) (n : ℕ) (packet : List ℕ) (next : Next) → next_at net n packet
+    ≡ Some next → SentBy net n packet next
 sent_by net n packet next named = go (slice_get net.registers n) refl named
   where
-    go : (o : Option Device) → slice_get net.registers n ≡ o → option_and_then (λ device. cond (is_switch device) (Some (next_of device packet)) None) o ≡ Some next → SentBy net n packet next
+    go : (o : Option Device) → slice_get net.registers n ≡ o
+        → option_and_then (λ device. cond (is_switch device) (Some (next_of device packet)) None) o
+        ≡ Some next → SentBy net n packet next
     go None known is = absurd (cc)
     go (Some device) known is = by_kind (is_switch device) refl is
       where
-        by_kind : (t : Bool) → is_switch device ≡ t → cond t (Some (next_of device packet)) None ≡ Some next → SentBy net n packet next
-        by_kind true switch is = record { device = device; known = known; switch = switch; sends = cc }
+        by_kind : (t : Bool) → is_switch device ≡ t → cond t (Some (next_of device packet)) None
+            ≡ Some next → SentBy net n packet next
+        by_kind true switch is = record {
+          device = device;
+          known = known;
+          switch = switch;
+          sends = cc;
+        }
         by_kind false other is = absurd (cc)

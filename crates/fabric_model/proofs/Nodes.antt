@@ -25,8 +25,11 @@ use Rattle.fabric_model.proofs.Joining.{links_stay}
 use Rattle.fabric_model.proofs.Peers.{port_is}
 use Rattle.fabric_model.proofs.Tables.{registers_stay}
 
-pub low_prio : (packet : List ℕ) → Passes packet → prio_of packet < 4
-low_prio packet is = let second : get_or packet 1 0 < 256 = is.range 1 0 (omega (arith, is.least)) in omega (arith, second)
+pub few_prio : (packet : List ℕ) → Passes packet → prio_of packet < 4
+few_prio packet is =
+    let second : get_or packet 1 0 < 256 = is.range 1 0 (omega (arith, is.least))
+    in
+    omega (arith, second)
 
 -- ---- a device keeps its ports
 
@@ -56,13 +59,18 @@ pub ports_stay : (net : Network) (step : Step) (n : ℕ)
     → option_map count_ports (slice_get (after net step).registers n)
     ≡ option_map count_ports (slice_get net.registers n)
 ports_stay net step n =
-    sym (slice_get-map count_ports (after net step).registers n) ∙ ap (λ (l : List ℕ). slice_get l n) (counts_stay net step) ∙ slice_get-map count_ports net.registers n
+    sym (slice_get-map count_ports (after net step).registers n)
+    ∙ ap (λ (l : List ℕ). slice_get l n) (counts_stay net step)
+    ∙ slice_get-map count_ports net.registers n
 
 has_port : (o u : Option Device) (port : ℕ) → option_map count_ports u ≡ option_map count_ports o
     → HasPort o port → HasPort u port
 has_port None u port same has = absurd has
 has_port (Some device) None port same has = absurd cc
-has_port (Some device) (Some other) port same has = let is : other.ports ≡ device.ports = cc in omega (arith, has, is)
+has_port (Some device) (Some other) port same has =
+    let is : other.ports ≡ device.ports = cc
+    in
+    omega (arith, has, is)
 
 pub port_on : (net : Network) (step : Step) (p : PortRef) → IsPortOf net.registers p
     → IsPortOf (after net step).registers p
@@ -78,8 +86,12 @@ port_before net step p is =
 
 pub joins_on : (net : Network) (step : Step) → JoinsNodes net → JoinsNodes (after net step)
 joins_on net step joins = record {
-  endpoints = λ n is. port_on net step (port_of n) (joins.endpoints n (sym (switches_stay net step n) ∙ is));
-  links = λ p q peer. (let own = joins.links p q (ap (λ links. peer_in links p) (sym (links_stay net step)) ∙ peer) in (port_on net step p own.0, port_on net step q own.1));
+  endpoints =
+      λ n is. port_on net step (port_of n)
+      (joins.endpoints n (sym (switches_stay net step n) ∙ is));
+  links = λ p q peer. (let own = joins.links p q
+      (ap (λ links. peer_in links p) (sym (links_stay net step)) ∙ peer) in
+      (port_on net step p own.0, port_on net step q own.1));
 }
 
 -- ---- lists of items
@@ -120,13 +132,20 @@ lane_there devices lanes p r items all own q s = by_test (same_port q p) (s == r
     by_test true true a b =
         let here : p ≡ q = sym (port_is q p a) in
         let there : r ≡ s = sym (eqb-true s r b) in
-        subst (λ x. AllByRecursion (λ item. IsSpot devices q s) (if x && (s == r) then items else lanes q s)) (sym a)
-        (subst (λ x. AllByRecursion (λ item. IsSpot devices q s) (if x then items else lanes q s)) (sym b)
-        (subst (λ x. AllByRecursion (λ item. IsSpot devices x s) items) here (subst (λ x. AllByRecursion (λ item. IsSpot devices p x) items) there own)))
+        subst (λ x. AllByRecursion (λ item. IsSpot devices q s)
+        (if x && (s == r) then items else lanes q s)) (sym a)
+        (subst (λ x. AllByRecursion (λ item. IsSpot devices q s) (if x then items else lanes q s))
+        (sym b)
+        (subst (λ x. AllByRecursion (λ item. IsSpot devices x s) items) here
+        (subst (λ x. AllByRecursion (λ item. IsSpot devices p x) items) there own)))
     by_test true false a b =
-        subst (λ x. AllByRecursion (λ item. IsSpot devices q s) (if x && (s == r) then items else lanes q s)) (sym a)
-        (subst (λ x. AllByRecursion (λ item. IsSpot devices q s) (if x then items else lanes q s)) (sym b) (all q s))
-    by_test false u a b = subst (λ x. AllByRecursion (λ item. IsSpot devices q s) (if x && (s == r) then items else lanes q s)) (sym a) (all q s)
+        subst (λ x. AllByRecursion (λ item. IsSpot devices q s)
+        (if x && (s == r) then items else lanes q s)) (sym a)
+        (subst (λ x. AllByRecursion (λ item. IsSpot devices q s) (if x then items else lanes q s))
+        (sym b) (all q s))
+    by_test false u a b =
+        subst (λ x. AllByRecursion (λ item. IsSpot devices q s)
+        (if x && (s == r) then items else lanes q s)) (sym a) (all q s)
 
 -- ---- a switch names one of its own ports
 
@@ -134,7 +153,8 @@ named_low : (device : Device) (dest port : ℕ) (test : Bool)
     → is_switch device && nat_lt (port_named device dest) device.ports ≡ test
     → (if test then Some (port_named device dest) else None) ≡ Some port → port < device.ports
 named_low device dest port true is named =
-    let low = ltb-true (port_named device dest) device.ports (and_parts (is_switch device) (nat_lt (port_named device dest) device.ports) is).1 in
+    let low = ltb-true (port_named device dest) device.ports
+    (and_parts (is_switch device) (nat_lt (port_named device dest) device.ports) is).1 in
     let same : port_named device dest ≡ port = cc in
     subst (λ x. x < device.ports) same low
 named_low device dest port false is named = absurd cc
@@ -174,7 +194,8 @@ next_there net n packet port is = by_found (slice_get net.registers n) refl is
     by_kind : (device : Device) (kind : Bool)
         → (if kind then Some (next_of device packet) else None) ≡ Some (Port port)
         → port < device.ports
-    by_kind device true is = (let same : next_of device packet ≡ Port port = cc in next_low device packet port same)
+    by_kind device true is =
+        (let same : next_of device packet ≡ Port port = cc in next_low device packet port same)
     by_kind device false is = absurd cc
 
     by_found : (o : Option Device) → slice_get net.registers n ≡ o
@@ -193,7 +214,9 @@ there_by net received waiting one other = record { received = one; waiting = oth
 
 spot_on : (net : Network) (step : Step) (lanes : Lanes) → AreThere net.registers lanes
     → AreThere (after net step).registers lanes
-spot_on net step lanes all p r = all_other (IsSpot net.registers p r) (IsSpot (after net step).registers p r) (lanes p r) (λ own. (port_on net step p own.0, own.1)) (all p r)
+spot_on net step lanes all p r =
+    all_other (IsSpot net.registers p r) (IsSpot (after net step).registers p r) (lanes p r)
+    (λ own. (port_on net step p own.0, own.1)) (all p r)
 
 pub stands_on : (net : Network) (step : Step) → JoinsNodes net → Needs net step → StandAtNodes net
     → StandAtNodes (after net step)
@@ -207,17 +230,31 @@ stands_on net (Linked (Hold q packet)) joins (p, peer, first, room) stand =
           lane_there net.registers net.waiting p r _ stand.waiting
           (all_behind _ (net.waiting p r) (stand.waiting p r));
     })
-stands_on net (Linked (Free p packet)) joins needs stand = record { received = stand.received; waiting = stand.waiting }
+stands_on net (Linked (Free p packet)) joins needs stand = record {
+  received = stand.received;
+  waiting = stand.waiting;
+}
 stands_on net (AtNode (Take n packet)) joins needs stand =
-    let own : IsSpot net.registers (port_of n) (prio_of packet) = (joins.endpoints n needs.0, low_prio packet needs.1) in
-    record { received = stand.received; waiting = lane_there net.registers net.waiting (port_of n) (prio_of packet) _ stand.waiting (all_of _ _ own) }
+    let own : IsSpot net.registers (port_of n) (prio_of packet) =
+    (joins.endpoints n needs.0, few_prio packet needs.1) in
+    record {
+      received = stand.received;
+      waiting = lane_there net.registers net.waiting (port_of n) (prio_of packet) _ stand.waiting
+          (all_of _ _ own);
+    }
 stands_on net (AtNode (Leave n packet)) joins needs stand =
     let r = prio_of packet in
-    record { received = lane_there net.registers net.received (port_of n) r _ stand.received (all_behind _ (net.received (port_of n) r) (stand.received (port_of n) r)); waiting = stand.waiting }
+    record {
+      received = lane_there net.registers net.received (port_of n) r _ stand.received
+          (all_behind _ (net.received (port_of n) r) (stand.received (port_of n) r));
+      waiting =
+          stand.waiting;
+    }
 stands_on net (ByDevice (Move p q packet)) joins needs stand =
     let r = prio_of packet in
     let near = first_of_all _ (net.received p r) packet needs.1 (stand.received p r) in
-    let there = subst (λ n. HasPort (slice_get net.registers n) q.port) (sym needs.0) (next_there net p.node packet q.port needs.2) in
+    let there = subst (λ n. HasPort (slice_get net.registers n) q.port) (sym needs.0)
+    (next_there net p.node packet q.port needs.2) in
     let own : IsSpot net.registers q r = (there, near.1) in
     record {
       received =
@@ -227,18 +264,24 @@ stands_on net (ByDevice (Move p q packet)) joins needs stand =
     }
 stands_on net (ByDevice (Drop p packet)) joins needs stand =
     let r = prio_of packet in
-    record { received = lane_there net.registers net.received p r _ stand.received (all_behind _ (net.received p r) (stand.received p r)); waiting = stand.waiting }
+    record {
+      received = lane_there net.registers net.received p r _ stand.received
+          (all_behind _ (net.received p r) (stand.received p r));
+      waiting = stand.waiting;
+    }
 stands_on net (ByDevice (Answer p packet response)) joins needs stand =
     let r = prio_of packet in
     let near = first_of_all _ (net.received p r) packet needs.0 (stand.received p r) in
-    let own : IsSpot net.registers p (prio_of response) = (near.0, low_prio response needs.3) in
+    let own : IsSpot net.registers p (prio_of response) = (near.0, few_prio response needs.3) in
     record {
       received =
           spot_on net (ByDevice (Answer p packet response)) _
-          (lane_there net.registers net.received p r _ stand.received (all_behind _ (net.received p r) (stand.received p r)));
+          (lane_there net.registers net.received p r _ stand.received
+          (all_behind _ (net.received p r) (stand.received p r)));
       waiting =
           spot_on net (ByDevice (Answer p packet response)) _
-          (lane_there net.registers net.waiting p (prio_of response) _ stand.waiting (all_of _ _ own));
+          (lane_there net.registers net.waiting p (prio_of response) _ stand.waiting
+          (all_of _ _ own));
     }
 
 -- ---- all steps
@@ -253,8 +296,10 @@ stand_along start (step ∷ steps) end joins stand legal =
 
 pub empty_stands : (net : Network) → IsEmptyNetwork net → StandAtNodes net
 empty_stands net empty = record {
-  received = λ p r. subst (AllByRecursion (λ item. IsSpot net.registers p r)) (sym (empty.received p r)) tt;
-  waiting = λ p r. subst (AllByRecursion (λ item. IsSpot net.registers p r)) (sym (empty.waiting p r)) tt;
+  received = λ p r. subst (AllByRecursion (λ item. IsSpot net.registers p r))
+      (sym (empty.received p r)) tt;
+  waiting = λ p r. subst (AllByRecursion (λ item. IsSpot net.registers p r))
+      (sym (empty.waiting p r)) tt;
 }
 
 pub all_at_nodes : (start : Network) (steps : List Step) (end : Network) → IsEmptyNetwork start

@@ -11,7 +11,8 @@ use Rattle.fabric_model.specs.Laws.Leaving.{packets_left}
 pub hold_room : (net : Network) (p : PortRef) (r free : ℕ) → held net p + free ≡ net.buffers p
     → (room_in net p r ≡ true) ↔ (3 - r < free)
 hold_room net p r free all = (
-  λ room. (let low = ltb-true (held net p + (3 - r)) (net.buffers p) room in omega (arith, low, all)),
+  λ room. (let low = ltb-true (held net p + (3 - r)) (net.buffers p) room in
+      omega (arith, low, all)),
   λ low. lt-ltb (held net p + (3 - r)) (net.buffers p) (omega (arith, low, all)),
 )
 

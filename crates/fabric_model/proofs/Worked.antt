@@ -29,7 +29,10 @@ other_passes : Passes other
 other_passes = (decides_passes other).0 test_other
 
 pub pair_legal : LegalFrom pair pair_steps (after_all pair pair_steps)
-pair_legal = ((refl, packet_passes, refl), ((port_of 0, refl, refl, refl), (refl, ((refl, refl, refl), refl))))
+pair_legal = (
+  (refl, packet_passes, refl),
+  ((port_of 0, refl, refl, refl), (refl, ((refl, refl, refl), refl))),
+)
 
 pub pair_gone : gone pair pair_steps ≡ first ∷ []
 pair_gone = refl
@@ -40,7 +43,8 @@ kept_too_breaks holding = go (holding.placed 0 (omega arith))
     go : ((place : Place) × StandsAt (items_at kept_too (ended pair held_once)) 0 place) → ⊥
     go at = elsewhere at.0 at.1
       where
-        elsewhere : (place : Place) → StandsAt (items_at kept_too (ended pair held_once)) 0 place → ⊥
+        elsewhere : (place : Place) → StandsAt (items_at kept_too (ended pair held_once)) 0 place
+            → ⊥
         elsewhere (Received p r) stands = omega (arith, stands (Waiting (port_of 0) 0))
         elsewhere (Waiting p r) stands = omega (arith, stands (Received (port_of 1) 0))
         elsewhere (Over e) stands = omega (arith, stands (Waiting (port_of 0) 0))
@@ -56,14 +60,44 @@ left_as_other_breaks unchanged = absurd (cc unchanged.shown)
 
 pub freed_too_early_breaks : FreedAfterHeld pair freed_too_early → ⊥
 freed_too_early_breaks law =
-    let front = law.front (AtNode (Take 0 packet) ∷ Linked (Free (port_of 0) packet) ∷ []) (Linked (Hold (port_of 1) packet) ∷ []) refl (port_of 0) in
+    let front = law.front (AtNode (Take 0 packet) ∷ Linked (Free (port_of 0) packet) ∷ [])
+    (Linked (Hold (port_of 1) packet) ∷ []) refl (port_of 0) in
     absurd (cc front.1)
 
 pub overtaking_legal : LegalFrom fork overtaking (after_all fork overtaking)
-overtaking_legal = ((refl, packet_passes, refl), ((refl, other_passes, refl), ((port_of 0, refl, refl, refl), ((port_of 0, refl, refl, refl), ((refl, refl, refl), ((refl, refl, refl), refl))))))
+overtaking_legal = (
+  (refl, packet_passes, refl),
+  (
+    (refl, other_passes, refl),
+    (
+      (port_of 0, refl, refl, refl),
+      ((port_of 0, refl, refl, refl), ((refl, refl, refl), ((refl, refl, refl), refl))),
+    ),
+  ),
+)
 
 pub overtaking_breaks : InOrder fork overtaking → ⊥
-overtaking_breaks law = omega (arith, law.earlier_first [] (AtNode (Take 0 packet)) (AtNode (Take 0 other) ∷ Linked (Hold (port_of 1) packet) ∷ Linked (Hold (port_of 2) other) ∷ []) (AtNode (Leave 2 other)) (AtNode (Leave 1 packet) ∷ []) first second refl refl refl (λ n. refl, (λ n. refl, (λ n. refl, tt))) (record { transport = refl; source = refl; course = record { port = refl; dest = refl; priority = refl; maintenance = refl; hop = refl } }) (omega arith))
+overtaking_breaks law =
+    omega (
+      arith,
+      law.earlier_first [] (AtNode (Take 0 packet))
+          (AtNode (Take 0 other) ∷ Linked (Hold (port_of 1) packet)
+          ∷ Linked (Hold (port_of 2) other)
+          ∷ []) (AtNode (Leave 2 other)) (AtNode (Leave 1 packet) ∷ []) first second refl refl refl
+          (λ n. refl, (λ n. refl, (λ n. refl, tt)))
+          (record {
+            transport = refl;
+            source = refl;
+            course = record {
+              port = refl;
+              dest = refl;
+              priority = refl;
+              maintenance = refl;
+              hop = refl;
+            };
+          })
+          (omega arith),
+    )
   where
     second : Item
     second = record { number = 1; port = port_of 0; taken = other; now = other }

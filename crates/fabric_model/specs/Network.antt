@@ -123,5 +123,6 @@ id_of net n large = unwrap_or
 -- the port to which a node sends packets for a destination, if it is a switch that names one
 abbrev pub route_at : Network → Option ℕ → ℕ → Option ℕ
 route_at net dest n =
-    option_and_then (λ d. option_and_then (λ device. next_port device d) (slice_get net.registers n))
+    option_and_then
+    (λ d. option_and_then (λ device. next_port device d) (slice_get net.registers n))
     dest

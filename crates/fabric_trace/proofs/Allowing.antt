@@ -41,6 +41,7 @@ use Rattle.fabric_trace.proofs.RaisedRows.{raised-append}
 use Rattle.fabric_trace.proofs.Raising.{HaveRaised, delivered_raises}
 use Rattle.link_port.specs.Turns.{tell_sends}
 use Rattle.fabric_trace.proofs.Allowances.{got_after, freed_after, heard-append, freed-append, allowed-join, says_more, heard_more}
+use Rattle.fabric_trace.proofs.Still.{AreStill, sent_still, fired_still}
 pub use Rattle.fabric_trace.proofs.Allowances.{freed_is, heard_is}
 
 -- ---- of a port, after lines
@@ -62,11 +63,6 @@ raised_on p before xs all low h = record {
 
 -- ---- lines with no step at a link
 
-unfoldable AreStill : List TraceLine → Type 0
-AreStill [] = Unit {0}
-AreStill (Stepped (Linked step) ∷ lines) = ⊥
-AreStill (line ∷ lines) = AreStill lines
-
 still_allowed : (p : PortRef) (xs : List TraceLine) (chars : List Char) (j : ℕ) → AreStill xs
     → FreesAllowed p chars j xs × (freed_after p j xs ≡ j)
 unfolding AreStill
@@ -80,10 +76,7 @@ still_allowed p (Stepped (ByDevice step) ∷ xs) chars j still =
     (let more = still_allowed p xs chars j still in ((tt, more.0), more.1))
 still_allowed p (Signed (Sent q more) ∷ xs) chars j still =
     (let rest = still_allowed p xs chars j still in ((tt, rest.0), rest.1))
-still_allowed p (Signed (Got q more) ∷ xs) chars j still =
-    (let rest =
-    still_allowed p xs (if same_port p q then chars ++ more else chars) j
-    still in ((tt, rest.0), rest.1))
+still_allowed p (Signed (Got q more) ∷ xs) chars j still = absurd still
 still_allowed p (Signed (Fired q) ∷ xs) chars j still =
     (let rest = still_allowed p xs chars j still in ((tt, rest.0), rest.1))
 still_allowed p (Lacked lack ∷ xs) chars j still =
@@ -101,18 +94,6 @@ still_raised p before xs still h =
     let low = h.low in
     let grows = heard_more p xs (got_after p [] before) in
     raised_on p before xs own.0 (omega (arith, same, low, grows)) h
-
-sent_still : (a b : PortRef) (side : Side) (chars : List Char)
-    → AreStill (lines_of a b (sent_notes side chars))
-unfolding AreStill
-sent_still a b side [] = tt
-sent_still a b side (c ∷ chars) = tt
-
-fired_still : (a b : PortRef) (x : Bool)
-    → AreStill (lines_of a b (if x then Notes.Fire A ∷ [] else []))
-unfolding AreStill
-fired_still a b true = tt
-fired_still a b false = tt
 
 -- ---- a delivery
 

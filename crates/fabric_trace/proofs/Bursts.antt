@@ -11,22 +11,19 @@ use Rattle.link_model.specs.declared.event.Event.TheVariants.{Ctl}
 use Rattle.link_model.specs.Output as out
 use Rattle.link_model.specs.Outstanding.{Outstanding, with_next, next_ack}
 use Rattle.link_model.specs.Reports.{has_credit}
-use Rattle.link_model.specs.Places.{Place, start, place_after}
-use Rattle.link_model.specs.Said.{said}
+use Rattle.link_model.specs.Places.{Place}
 use Rattle.link_model.specs.Symbols.{status}
 use Rattle.link_model.specs.Reading.{Plain}
 use Rattle.link_model.specs.Window.{window}
-use Rattle.link_model.proofs.PlacesLaws.{place_after-append}
 use Rattle.link_port.specs.Ports.{PortState, IsPort}
 use Rattle.link_port.specs.States.{prios_of}
-use Rattle.link_port.specs.Turns.{Burst, IsRead, standing, no_burst, symbol_burst, packet_burst, burst_of, turn_sends, turns_to, tell_sends, waiting_in}
+use Rattle.link_port.specs.Turns.{IsRead, standing, no_burst, symbol_burst, packet_burst, burst_of, turn_sends, turns_to, waiting_in}
 use Rattle.link_port.proofs.FirstPackets.{first_has_prio}
-use Rattle.link_port.proofs.SentReads.{none_read, status_read, standing_range, turn_read}
+use Rattle.link_port.proofs.SentReads.{none_read, status_read, standing_range}
 use Rattle.link_rest.specs.Led.{IsAnswer, AreAnswers, chars_of, controls}
-use Rattle.link_rest.proofs.SaidLaws.{said-append}
 use Rattle.link_rest.proofs.AnswerLaws.{answers_read}
 use Rattle.link_sound.proofs.PortBounds.{turn_port}
-use Rattle.link_wires.specs.Wires.{both_bursts, turned, bursts, answers}
+use Rattle.link_wires.specs.Wires.{turned, bursts, answers}
 use Rattle.fabric_trace.specs.Fold.{says, sends, event_leaves, symbol_leaves}
 
 pub sends-append : (output : out.Output) (xs ys : List Event)
@@ -127,29 +124,6 @@ turns_leave (suc n) port is =
     ∙ ap (λ (o : out.Output). sends o (bursts n (turns_to port)).sent) (turn_leaves port is)
     ∙ turns_leave n (turns_to port) (turn_port port is)
 
--- turns change nothing else
-pub turned_is : (n : ℕ) (port : PortState)
-    → turned n port ≡ record port { output = (turned n port).output }
-unfolding turned
-turned_is zero port = refl
-turned_is (suc n) port = turned_is n (turns_to port)
-
-both_read : (first next : Burst) → IsRead first → IsRead next → IsRead (both_bursts first next)
-both_read first next one two = record {
-  says = said-append start first.chars next.chars
-      ∙ (λ i. one.says i ++ said (one.rests i) next.chars)
-      ∙ ap (λ (l : List Event). first.sent ++ l) two.says;
-  rests = place_after-append start first.chars next.chars
-      ∙ ap (λ (p : Place). place_after p next.chars) one.rests ∙ two.rests;
-}
-
-pub turns_read : (n : ℕ) (port : PortState) → IsPort port → IsRead (bursts n port)
-unfolding bursts
-turns_read zero port is = none_read
-turns_read (suc n) port is =
-    both_read (turn_sends port) (bursts n (turns_to port)) (turn_read port is)
-    (turns_read n (turns_to port) (turn_port port is))
-
 -- ---- a status
 
 told_read : (tells : Bool) (port : PortState) → IsPort port
@@ -157,9 +131,6 @@ told_read : (tells : Bool) (port : PortState) → IsPort port
     else no_burst)
 told_read true port is = status_read (standing port) (standing_range port is)
 told_read false port is = none_read
-
-pub tell_read : (port : PortState) → IsPort port → IsRead (tell_sends port)
-tell_read port is = told_read port.tells port is
 
 -- ---- answers
 

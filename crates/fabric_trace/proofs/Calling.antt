@@ -17,12 +17,14 @@ use Rattle.fabric_script.specs.declared.ports.PortRef.{PortRef}
 use Rattle.fabric_model.specs.Network.{Network, same_port}
 use Rattle.fabric_model.specs.Steps.{Step, LegalFrom}
 use Rattle.fabric_model.proofs.Peers.{ArePeers, apart_back}
+use Rattle.link_rest.proofs.Bursting.{turned_is, turns_read, tell_read}
+use Rattle.rio_chars.specs.declared.chars.Char.{Char}
 use Rattle.fabric_trace.specs.Views.{half_of}
 use Rattle.fabric_trace.specs.Known.{Seen, Found, with_wire, port_at, kept_of, wire_state, link_at}
 use Rattle.fabric_trace.specs.Fold.{says, sends, silenced, fired_from, seen}
 use Rattle.fabric_trace.specs.Blocks.{lines_of}
 use Rattle.fabric_trace.specs.Links.{queues_in, IsKept, IsLink}
-use Rattle.fabric_trace.proofs.Bursts.{turns_leave, turned_is, turns_read, tell_read}
+use Rattle.fabric_trace.proofs.Bursts.{turns_leave}
 use Rattle.fabric_trace.proofs.Walks.{AreElsewhere, elsewhere_here}
 use Rattle.fabric_trace.proofs.Viewing.{Shows, link_is, is_link}
 use Rattle.fabric_trace.proofs.Folding.{wire_own, wire_other, half_own, half_other, sent_is, sent_kept, kept_more}
@@ -39,6 +41,46 @@ pub record IsCall (s t : Seen) (p q : PortRef) (steps : List Step) (m : LinkStat
   pub unfaithful : t.unfaithful ≡ found
   pub link : t.unfaithful ≡ None → IsLink t p q
   pub becomes : t.unfaithful ≡ None → link_at t p q ≡ m
+
+-- ---- characters that are sent
+
+-- the wire behind characters that say these events
+wire_says : (s : Seen) (p q : PortRef) (chars : List Char) (events : List Event) → IsLink s p q
+    → says chars ≡ events
+    → wire_state ((seen s (lines_of p q (sent_notes A chars))).wires p) ≡ record {
+      chars = (s.wires p).chars ++ chars;
+      kept = kept_of (s.wires p) ++ events;
+    }
+wire_says s p q chars events is says_them =
+    ap wire_state (sent_is s p q A chars).wire
+    ∙ (λ i. record {
+      chars = (s.wires p).chars ++ chars;
+      kept = (kept_more (s.wires p) chars is.kept_a
+          ∙ ap (λ (es : List Event). kept_of (s.wires p) ++ es) says_them) i;
+    })
+
+-- a call that only sends characters, behind which this link is shown
+sends_call : (s : Seen) (p q : PortRef) (chars : List Char) (m : LinkState)
+    → ArePeers s.network.links p q → IsLink s p q → IsSoundLink m
+    → Shows (seen s (lines_of p q (sent_notes A chars))) p q m
+    → IsCall s (seen s (lines_of p q (sent_notes A chars))) p q [] m s.unfaithful
+sends_call s p q chars m peers is sound shows =
+    let t = seen s (lines_of p q (sent_notes A chars)) in
+    let sent = sent_is s p q A chars in
+    let back = apart_back p q peers.apart in
+    record {
+      legal = sent.network;
+      elsewhere =
+          subst (λ (net : Network). AreElsewhere s.network net p q) (sym sent.network)
+          (elsewhere_here s.network p q);
+      wires = λ c x y. sent.other_wires c x;
+      halves = λ c x y. sent.other_halves c x;
+      unfaithful = sent.unfaithful;
+      link = λ none. is_link t p q m sound shows
+          (subst IsKept (sym sent.wire) (sent_kept (s.wires p) chars is.kept_a))
+          (subst IsKept (sym (sent.other_wires q back)) is.kept_b);
+      becomes = λ none. link_is t p q m sound.port_a sound.port_b shows;
+    }
 
 -- ---- turns
 
@@ -66,26 +108,10 @@ turns_call s p q n peers is =
           ∙ (λ i. record { place = l.a.place; output = output i; input = l.a.input })
           ∙ sym (ap half_of (turned_is n l.a));
       half_b = sent.other_halves q back;
-      wire_a = ap wire_state sent.wire ∙ (λ i. record {
-        chars = (s.wires p).chars ++ chars;
-        kept = (kept_more (s.wires p) chars is.kept_a
-            ∙ ap (λ (es : List Event). kept_of (s.wires p) ++ es) read.says) i;
-      });
+      wire_a = wire_says s p q chars (bursts n l.a).sent is read.says;
       wire_b = ap wire_state (sent.other_wires q back);
     } in
-    record {
-      legal = sent.network;
-      elsewhere =
-          subst (λ (net : Network). AreElsewhere s.network net p q) (sym sent.network)
-          (elsewhere_here s.network p q);
-      wires = λ c x y. sent.other_wires c x;
-      halves = λ c x y. sent.other_halves c x;
-      unfaithful = sent.unfaithful;
-      link = λ none. is_link t p q m sound shows
-          (subst IsKept (sym sent.wire) (sent_kept (s.wires p) chars is.kept_a))
-          (subst IsKept (sym (sent.other_wires q back)) is.kept_b);
-      becomes = λ none. link_is t p q m sound.port_a sound.port_b shows;
-    }
+    sends_call s p q chars m peers is sound shows
 
 -- ---- statuses
 
@@ -122,27 +148,10 @@ tells_call s p q peers is =
       half_a = sent.half
           ∙ (λ i. record { place = l.a.place; output = output i; input = l.a.input });
       half_b = sent.other_halves q back;
-      wire_a = ap wire_state sent.wire
-          ∙ (λ i. record {
-            chars = (s.wires p).chars ++ chars;
-            kept = (kept_more (s.wires p) chars is.kept_a
-                ∙ ap (λ (es : List Event). kept_of (s.wires p) ++ es) read.says) i;
-          });
+      wire_a = wire_says s p q chars (tell_sends l.a).sent is read.says;
       wire_b = ap wire_state (sent.other_wires q back);
     } in
-    record {
-      legal = sent.network;
-      elsewhere =
-          subst (λ (net : Network). AreElsewhere s.network net p q) (sym sent.network)
-          (elsewhere_here s.network p q);
-      wires = λ c x y. sent.other_wires c x;
-      halves = λ c x y. sent.other_halves c x;
-      unfaithful = sent.unfaithful;
-      link = λ none. is_link t p q m sound shows
-          (subst IsKept (sym sent.wire) (sent_kept (s.wires p) chars is.kept_a))
-          (subst IsKept (sym (sent.other_wires q back)) is.kept_b);
-      becomes = λ none. link_is t p q m sound.port_a sound.port_b shows;
-    }
+    sends_call s p q chars m peers is sound shows
 
 -- ---- time-outs
 

@@ -1,4 +1,5 @@
--- A delivery with an event that was not sent is the same of the characters up to the one that completed it.
+-- A delivery with an event that was not sent is the same of the characters up to the one that
+-- completed it.
 use Rattle.std.proofs.Common.{◌≡◌, ℕ, suc, ◌+◌, true, false, List, [], ◌∷◌, length, take, Option, Some, None, refl, sym, ap, ◌∙◌, subst, arith, if◌then◌else◌}
 use Rattle.std.proofs.lemmas.List.{take_all}
 use Rattle.rio_chars.specs.declared.chars.Char.{Char}
@@ -11,33 +12,40 @@ use Rattle.link_port.specs.Steps.{is_acted}
 use Rattle.link_wires.specs.Kept.{behind}
 use Rattle.link_wires.specs.Deliveries.{Told, Flow, Delivered, Through, Undetected, begun, done, met, comes, goes_on, come, ended, flows, delivered, told_of}
 use Rattle.link_wires.proofs.DeliveryLaws.{flows-append}
+use Rattle.link_wires.proofs.Throughs.{through_count, ended_count}
 
 -- where events completed at one place lead: on, or to an event that was not sent at that place
 abbrev IsAt : ℕ → Delivered → Type 0
 IsAt at (Through flow) = Unit {0}
 IsAt at (Undetected told e) = told.count ≡ suc at
 
-met_at : (at : ℕ) (e : Event) (kept : Option (List Event)) (flow : Flow) → IsAt at (met at e kept flow)
+met_at : (at : ℕ) (e : Event) (kept : Option (List Event)) (flow : Flow)
+    → IsAt at (met at e kept flow)
 met_at at e None flow = refl
 met_at at e (Some kept) flow = tt
 
 comes_at : (flow : Flow) (at : ℕ) (e : Event) → IsAt at (comes flow (at, e))
 comes_at flow at e =
-    elim (is_acted flow.port e) as (λ b. IsAt at (if b then met at e (behind e flow.kept) flow else Through (done e [] flow.kept flow))) [
+    elim (is_acted flow.port e) as
+    (λ b. IsAt at
+    (if b then met at e (behind e flow.kept) flow else Through (done e [] flow.kept flow))) [
       | true ↦ met_at at e (behind e flow.kept) flow
       | false ↦ tt
     ]
 
-on_at : (at : ℕ) (more : Flow → Delivered) (d : Delivered) → ((f : Flow) → IsAt at (more f)) → IsAt at d → IsAt at (goes_on more d)
+on_at : (at : ℕ) (more : Flow → Delivered) (d : Delivered) → ((f : Flow) → IsAt at (more f))
+    → IsAt at d → IsAt at (goes_on more d)
 on_at at more (Through f) next h = next f
 on_at at more (Undetected told e) next h = h
 
 come_at : (at : ℕ) (es : List Event) (flow : Flow) → IsAt at (come (placed at es) flow)
 unfolding come
 come_at at [] flow = tt
-come_at at (e ∷ es) flow = on_at at (come (placed at es)) (comes flow (at, e)) (come_at at es) (comes_at flow at e)
+come_at at (e ∷ es) flow = on_at at (come (placed at es)) (comes flow (at, e)) (come_at at es)
+    (comes_at flow at e)
 
-ended_at : (at : ℕ) (place : Place) (count : ℕ) (d : Delivered) → IsAt at d → IsAt at (ended place count d)
+ended_at : (at : ℕ) (place : Place) (count : ℕ) (d : Delivered) → IsAt at d
+    → IsAt at (ended place count d)
 ended_at at place count (Through flow) h = tt
 ended_at at place count (Undetected told e) h = h
 
@@ -45,15 +53,15 @@ ended_at at place count (Undetected told e) h = h
 one_at : (c : Char) (flow : Flow) → IsAt flow.told.count (flows (c ∷ []) flow)
 one_at c flow =
     let at = flow.told.count in
-    ended_at at (place_after flow.port.place (c ∷ [])) (at + 1) (come (run flow.port.place at (c ∷ [])) flow)
-    (subst (λ (es : List (ℕ × Event)). IsAt at (come es flow)) (sym (run-one flow.port.place at c)) (come_at at (step flow.port.place c).gives flow))
+    ended_at at (place_after flow.port.place (c ∷ [])) (at + 1)
+    (come (run flow.port.place at (c ∷ [])) flow)
+    (subst (λ (es : List (ℕ × Event)). IsAt at (come es flow)) (sym (run-one flow.port.place at c))
+    (come_at at (step flow.port.place c).gives flow))
 
-ended_count : (place : Place) (count : ℕ) (d : Delivered) (flow : Flow) → ended place count d ≡ Through flow → flow.told.count ≡ count
-ended_count place count (Through f) flow is = let same : (record f { port = record f.port { place = place }; told = record f.told { count = count } }) ≡ flow = cc in ap (λ (g : Flow). g.told.count) (sym same)
-ended_count place count (Undetected told e) flow is = absurd cc
-
-one_count : (c : Char) (flow next : Flow) → flows (c ∷ []) flow ≡ Through next → next.told.count ≡ flow.told.count + 1
-one_count c flow next is = ended_count (place_after flow.port.place (c ∷ [])) (flow.told.count + 1) (come (run flow.port.place flow.told.count (c ∷ [])) flow) next is
+one_count : (c : Char) (flow next : Flow) → flows (c ∷ []) flow ≡ Through next → next.told.count
+    ≡ flow.told.count + 1
+one_count c flow next is = ended_count (place_after flow.port.place (c ∷ [])) (flow.told.count + 1)
+    (come (run flow.port.place flow.told.count (c ∷ [])) flow) next is
 
 none_flows : (flow : Flow) (told : Told) (e : Event) → flows [] flow ≡ Undetected told e → ⊥
 unfolding run come
@@ -61,44 +69,39 @@ none_flows flow told e is = absurd cc
 
 -- what completes it is so many characters, counted from where the flow begins
 abbrev IsCut : List Char → Flow → Told → Event → Type 0
-IsCut chars flow told e = (n : ℕ) × (told.count ≡ flow.told.count + suc n) × (flows (take (suc n) chars) flow ≡ Undetected told e)
+IsCut chars flow told e = (n : ℕ) × (told.count ≡ flow.told.count + suc n)
+    × (flows (take (suc n) chars) flow ≡ Undetected told e)
 
-by_first : (c : Char) (chars : List Char) (flow : Flow) (told : Told) (e : Event) (d : Delivered) → flows (c ∷ []) flow ≡ d
+by_first : (c : Char) (chars : List Char) (flow : Flow) (told : Told) (e : Event) (d : Delivered)
+    → flows (c ∷ []) flow ≡ d
     → ((next : Flow) → flows chars next ≡ Undetected told e → IsCut chars next told e)
     → flows (c ∷ chars) flow ≡ Undetected told e → IsCut (c ∷ chars) flow told e
 by_first c chars flow told e (Through next) first later is =
-    let rest : flows chars next ≡ Undetected told e = sym (flows-append (c ∷ []) chars flow ∙ ap (goes_on (flows chars)) first) ∙ is in
+    let rest : flows chars next ≡ Undetected told e =
+    sym (flows-append (c ∷ []) chars flow ∙ ap (goes_on (flows chars)) first) ∙ is in
     let more = later next rest in
     let counted = one_count c flow next first in (
       suc more.0,
       omega (arith, counted, more.1),
-      flows-append (c ∷ []) (take (suc more.0) chars) flow ∙ ap (goes_on (flows (take (suc more.0) chars))) first ∙ more.2,
+      flows-append (c ∷ []) (take (suc more.0) chars) flow
+          ∙ ap (goes_on (flows (take (suc more.0) chars))) first ∙ more.2,
     )
 by_first c chars flow told e (Undetected other f) first later is =
-    let same : Undetected other f ≡ Undetected told e = sym (flows-append (c ∷ []) chars flow ∙ ap (goes_on (flows chars)) first) ∙ is in
-    let at : IsAt flow.told.count (Undetected told e) = subst (IsAt flow.told.count) (first ∙ same) (one_at c flow) in
+    let same : Undetected other f ≡ Undetected told e =
+    sym (flows-append (c ∷ []) chars flow ∙ ap (goes_on (flows chars)) first) ∙ is in
+    let at : IsAt flow.told.count (Undetected told e) = subst (IsAt flow.told.count) (first ∙ same)
+    (one_at c flow) in
     (0, omega (arith, at), first ∙ same)
 
-cut : (chars : List Char) (flow : Flow) (told : Told) (e : Event) → flows chars flow ≡ Undetected told e → IsCut chars flow told e
+cut : (chars : List Char) (flow : Flow) (told : Told) (e : Event) → flows chars flow
+    ≡ Undetected told e → IsCut chars flow told e
 cut [] flow told e is = absurd (none_flows flow told e is)
 cut (c ∷ chars) flow told e is =
-    by_first c chars flow told e (flows (c ∷ []) flow) refl (λ next rest. cut chars next told e rest) is
+    by_first c chars flow told e (flows (c ∷ []) flow) refl
+    (λ next rest. cut chars next told e rest) is
 
--- a delivery of which every event was sent takes all characters
-pub through_count : (port : PortState) (kept : List Event) (chars : List Char) (flow : Flow) → delivered port kept chars ≡ Through flow → flow.told.count ≡ length chars
-through_count port kept chars flow is =
-    let count = ended_count (place_after port.place chars) (0 + length chars) (come (run port.place 0 chars) (begun port kept)) flow is in
-    omega (arith, count)
-
-ended_place : (place : Place) (count : ℕ) (d : Delivered) (flow : Flow) → ended place count d ≡ Through flow → flow.port.place ≡ place
-ended_place place count (Through f) flow is = let same : (record f { port = record f.port { place = place }; told = record f.told { count = count } }) ≡ flow = cc in ap (λ (g : Flow). g.port.place) (sym same)
-ended_place place count (Undetected told e) flow is = absurd cc
-
--- and leaves the framer where it stands after them
-pub through_place : (port : PortState) (kept : List Event) (chars : List Char) (flow : Flow) → delivered port kept chars ≡ Through flow → flow.port.place ≡ place_after port.place chars
-through_place port kept chars flow is = ended_place (place_after port.place chars) (0 + length chars) (come (run port.place 0 chars) (begun port kept)) flow is
-
-delivered_cut : (port : PortState) (kept : List Event) (chars : List Char) (told : Told) (e : Event) → delivered port kept chars ≡ Undetected told e
+delivered_cut : (port : PortState) (kept : List Event) (chars : List Char) (told : Told) (e : Event)
+    → delivered port kept chars ≡ Undetected told e
     → delivered port kept (take told.count chars) ≡ Undetected told e
 delivered_cut port kept chars told e is =
     let at = cut chars (begun port kept) told e is in
@@ -109,7 +112,10 @@ all_taken : (chars : List Char) (n : ℕ) → n ≡ length chars → take n char
 all_taken chars n is = take_all n chars (omega (arith, is))
 
 -- the characters that a delivery took, taken by themselves
-pub taken_again : (port : PortState) (kept : List Event) (chars : List Char) (d : Delivered) → delivered port kept chars ≡ d
+pub taken_again : (port : PortState) (kept : List Event) (chars : List Char) (d : Delivered)
+    → delivered port kept chars ≡ d
     → delivered port kept (take (told_of d).count chars) ≡ d
-taken_again port kept chars (Through flow) is = ap (delivered port kept) (all_taken chars flow.told.count (through_count port kept chars flow is)) ∙ is
+taken_again port kept chars (Through flow) is =
+    ap (delivered port kept)
+    (all_taken chars flow.told.count (through_count port kept chars flow is)) ∙ is
 taken_again port kept chars (Undetected told e) is = delivered_cut port kept chars told e is

@@ -15,10 +15,11 @@ use Rattle.link_wires.specs.Deliveries.{Told, Flow, Delivered, Through, Undetect
 use Rattle.link_wires.specs.Wires.{answers}
 use Rattle.link_wires.specs.Kept.{behind_all}
 use Rattle.link_wires.proofs.ActedLaws.{IsFound, delivered_found}
+use Rattle.link_wires.proofs.Throughs.{through_count}
 use Rattle.link_machine.specs.States.{LinkState, turned_round, at_end}
 use Rattle.link_machine.specs.Calls.{sent_notes, delivery, after_delivery, first_takes, has_chars, delivery_from, delivered_from, move_note, told_notes, delivery_notes}
 use Rattle.link_machine.specs.Queues as link
-use Rattle.link_machine.specs.Queues.{Queues, queues_of, Walks}
+use Rattle.link_machine.specs.Queues.{Queues, queues_of}
 use Rattle.link_machine.specs.Sound.{IsSoundLink}
 use Rattle.link_machine.proofs.Machine.{delivery_keeps, delivery_walks, delivery_steps}
 use Rattle.fabric_script.specs.declared.ports.PortRef.{PortRef}
@@ -32,7 +33,7 @@ use Rattle.fabric_trace.specs.Fold.{says, sends, wire_sent, half_sent, taken_fro
 use Rattle.fabric_trace.specs.Blocks.{lines_of}
 use Rattle.fabric_trace.specs.Links.{queues_in, IsKept, IsLink}
 use Rattle.fabric_trace.proofs.Bursts.{answers_say, answers_leave}
-use Rattle.fabric_trace.proofs.Cuts.{through_count, taken_again}
+use Rattle.fabric_trace.proofs.Cuts.{taken_again}
 use Rattle.fabric_trace.proofs.Walks.{AreElsewhere, AreLed, net_steps, walks_led, steps_said}
 use Rattle.fabric_trace.proofs.Viewing.{Shows, link_is, is_link}
 use Rattle.fabric_trace.proofs.Folding.{seen-append, lines-append, wire_own, wire_other, half_own, half_other, IsSent, sent_is, sent_kept, kept_more, acted_kept, acted_left, moves_seen, network_is}

@@ -31,7 +31,7 @@ use Rattle.fabric_trace.specs.Blocks.{lines_of}
 use Rattle.fabric_trace.specs.Parts.{Part, Begins, Lacks, Ends, Names, Steps, Serves, Turns, Tells, Delivers, Fires, Made, Done, Then}
 use Rattle.fabric_trace.specs.Firsts.{FindsFirst}
 use Rattle.fabric_trace.specs.Working.{NoneFailed, NeverFail}
-use Rattle.fabric_trace.proofs.Folding.{seen-append, half_own}
+use Rattle.fabric_trace.proofs.Folding.{seen-append, half_own, edited_found}
 use Rattle.fabric_trace.proofs.Keeping.{IsGood, good_peers, legal_links, part_keeps}
 
 -- ---- a sender that sends does not fail, and one that has failed stays so
@@ -115,11 +115,6 @@ sent_fails s p chars c =
 edited_halves : (s : Seen) (edit : Option (PortRef × Edit)) → (edited_by s edit).halves ≡ s.halves
 edited_halves s None = refl
 edited_halves s (Some edit) = refl
-
-edited_found : (s : Seen) (edit : Option (PortRef × Edit))
-    → (edited_by s edit).unfaithful ≡ s.unfaithful
-edited_found s None = refl
-edited_found s (Some edit) = refl
 
 -- what quiet lines change of nothing that may fail
 record StaysQuiet (s t : Seen) : Type 0 where

@@ -21,7 +21,7 @@ use Rattle.fabric_trace.specs.Faithful.{ActsOnSent, trace_goes_on, names_unsent,
 use Rattle.fabric_trace.specs.Firsts.{FindsFirst}
 use Rattle.fabric_trace.specs.Runs.{begins}
 use Rattle.fabric_trace.specs.Settled.{under_way, Settled}
-use Rattle.fabric_trace.proofs.Folding.{sent_kept, kept_is, acted_kept}
+use Rattle.fabric_trace.proofs.Folding.{sent_kept, kept_is, acted_kept, fired_found}
 
 -- ---- what a delivery leaves, also where an event was not sent
 
@@ -39,7 +39,10 @@ met_leaves start flow at e (Some kept) is h =
 comes_leaves : (start : List Event) (flow : Flow) (placed : ℕ × Event) → Leaves start (Through flow)
     → Leaves start (comes flow placed)
 comes_leaves start flow placed h =
-    elim (is_acted flow.port placed.1) as (λ b. Leaves start (if b then met placed.0 placed.1 (behind placed.1 flow.kept) flow else Through (done placed.1 [] flow.kept flow))) [
+    elim (is_acted flow.port placed.1) as
+    (λ b. Leaves start
+    (if b then met placed.0 placed.1 (behind placed.1 flow.kept) flow else Through
+    (done placed.1 [] flow.kept flow))) [
       | true ↦ met_leaves start flow placed.0 placed.1 (behind placed.1 flow.kept) refl h
       | false ↦ ap (λ (acted : List Event). behind_all acted start) (append-nil flow.told.acted) ∙ h
     ]
@@ -87,7 +90,9 @@ AreKept s = (p : PortRef) → IsKept (s.wires p)
 with_kept : (wires : PortRef → Wire) (p : PortRef) (wire : Wire)
     → ((c : PortRef) → IsKept (wires c)) → IsKept wire → (c : PortRef)
     → IsKept (with_wire wires p wire c)
-with_kept wires p wire all own c = elim (same_port c p) as (λ x. IsKept (if x then wire else wires c)) [ true ↦ own | false ↦ all c ]
+with_kept wires p wire all own c =
+    elim (same_port c p) as (λ x. IsKept (if x then wire else wires c))
+    [ true ↦ own | false ↦ all c ]
 
 edited_keep : (s : Seen) (edit : Option (PortRef × Edit)) → AreKept s → AreKept (edited_by s edit)
 edited_keep s None all = all
@@ -98,9 +103,11 @@ got_keep : (s : Seen) (peer : Option PortRef) (q : PortRef) (chars : List Char) 
     → AreKept (got_from s peer q chars)
 got_keep s None q chars all = all
 got_keep s (Some p) q chars all =
-    let left = left_of (kept_of (s.wires p)) (taken_from s p q chars) (delivered_leaves (port_at s q) (kept_of (s.wires p)) chars) in
+    let left = left_of (kept_of (s.wires p)) (taken_from s p q chars)
+    (delivered_leaves (port_at s q) (kept_of (s.wires p)) chars) in
     with_kept s.wires p _ all
-    (acted_kept (s.wires p) (drop (length chars) (s.wires p).chars) (told_of (taken_from s p q chars)).acted left.0 (all p) left.1)
+    (acted_kept (s.wires p) (drop (length chars) (s.wires p).chars)
+    (told_of (taken_from s p q chars)).acted left.0 (all p) left.1)
 
 fired_keep : (s : Seen) (peer : Option PortRef) (p : PortRef) → AreKept s
     → AreKept (fired_from s peer p)
@@ -137,17 +144,6 @@ sent_exactly s p q chars kept =
     delivered_exact (port_at s q) (s.wires p).acted (s.wires p).sent (kept_of (s.wires p)) chars
     (kept.found ∙ ap Some (sym (kept_is (s.wires p) kept)))
 
--- what is found stands until a port gets characters
-stays_fired : (s : Seen) (peer : Option PortRef) (p : PortRef)
-    → (fired_from s peer p).unfaithful ≡ s.unfaithful
-stays_fired s None p = refl
-stays_fired s (Some q) p = refl
-
-stays_edited : (s : Seen) (edit : Option (PortRef × Edit))
-    → (edited_by s edit).unfaithful ≡ s.unfaithful
-stays_edited s None = refl
-stays_edited s (Some edit) = refl
-
 -- where a trace goes on, nothing was found
 on_unfound : (s : Seen) (port : Option PortRef) (lines : List TraceLine) → Settled s port lines
     → FindsFirst s lines → trace_goes_on lines ≡ true → s.unfaithful ≡ None
@@ -159,7 +155,7 @@ on_unfound s port (Signed (Sent p chars) ∷ lines) settled first on =
     on_unfound (seen_line s (Signed (Sent p chars))) port lines settled.1 first.1 on
 on_unfound s port (Signed (Got q chars) ∷ lines) settled first on = first.0
 on_unfound s port (Signed (Fired p) ∷ lines) settled first on =
-    sym (stays_fired s (peer_of s p) p) ∙ on_unfound
+    sym (fired_found s (peer_of s p) p) ∙ on_unfound
     (seen_line s (Signed (Fired p))) port lines settled.1 first.1 on
 on_unfound s port (Lacked lack ∷ lines) settled first on =
     on_unfound s port lines settled.1 first.1 on
@@ -179,7 +175,7 @@ named_found s port (Signed (Sent p chars) ∷ lines) settled named none =
 named_found s port (Signed (Got q chars) ∷ lines) settled named none = absurd cc
 named_found s port (Signed (Fired p) ∷ lines) settled named none =
     named_found (seen_line s (Signed (Fired p))) port lines settled.1 named
-    (stays_fired s (peer_of s p) p ∙ none)
+    (fired_found s (peer_of s p) p ∙ none)
 named_found s port (Lacked lack ∷ lines) settled named none =
     named_found s port lines settled.1 named none
 named_found s port (Ended ∷ lines) settled named none = absurd cc
@@ -193,15 +189,20 @@ found_none : (q : PortRef) (e : Option Event) → found_at q e ≡ None → e �
 found_none q None is = refl
 found_none q (Some e) is = absurd cc
 
-module _ (s : Seen) (p q : PortRef) (chars : List Char) (port : Option PortRef) (lines : List TraceLine) (kept : IsKept (s.wires p)) (peer : peer_of s q ≡ Some p) where
+module _ (s : Seen) (p q : PortRef) (chars : List Char) (port : Option PortRef)
+    (lines : List TraceLine) (kept : IsKept (s.wires p)) (peer : peer_of s q ≡ Some p) where
   finds : (signed s (Got q chars)).unfaithful ≡ found_at q (undetected (taken_from s p q chars))
   finds = ap (λ (o : Option PortRef). (got_from s o q chars).unfaithful) peer
 
   delivery_faithful : Settled (signed s (Got q chars)) port lines
       → FindsFirst (signed s (Got q chars)) lines → IsFaithful s p q chars lines
   delivery_faithful settled first = record {
-    sent = λ on. (let none = on_unfound (signed s (Got q chars)) port lines settled first on in (sent_exactly s p q chars kept).0 (found_none q (undetected (taken_from s p q chars)) (sym finds ∙ none)));
-    unsent = λ named sent. (let none = (sent_exactly s p q chars kept).1 sent in named_found (signed s (Got q chars)) port lines settled named (finds ∙ ap (found_at q) none));
+    sent = λ on. (let none = on_unfound (signed s (Got q chars)) port lines settled first on in
+        (sent_exactly s p q chars kept).0
+        (found_none q (undetected (taken_from s p q chars)) (sym finds ∙ none)));
+    unsent = λ named sent. (let none = (sent_exactly s p q chars kept).1 sent in
+        named_found (signed s (Got q chars)) port lines settled named
+        (finds ∙ ap (found_at q) none));
   }
 
 -- ---- whole traces and their fronts
@@ -209,15 +210,19 @@ module _ (s : Seen) (p q : PortRef) (chars : List Char) (port : Option PortRef) 
 pub made_faithful : (s : Seen) (port : Option PortRef) (lines : List TraceLine) → AreKept s
     → Settled s port lines → FindsFirst s lines → Faithful s lines
 made_faithful s port [] kept settled first = tt
-made_faithful s port (line ∷ lines) kept settled first =
-    (by_line line settled.1 first.1, made_faithful (seen_line s line) (under_way port line) lines (line_keep s line kept) settled.1 first.1)
+made_faithful s port (line ∷ lines) kept settled first = (
+  by_line line settled.1 first.1,
+  made_faithful (seen_line s line) (under_way port line) lines
+      (line_keep s line kept) settled.1 first.1,
+)
   where
     by_line : (line : TraceLine) → Settled (seen_line s line) (under_way port line) lines
         → FindsFirst (seen_line s line) lines → FaithfulLine s line lines
     by_line (Begun line) settled first = tt
     by_line (Stepped step) settled first = tt
     by_line (Signed (Sent p chars)) settled first = tt
-    by_line (Signed (Got q chars)) settled first = λ p peer. delivery_faithful s p q chars port lines (kept p) peer settled first
+    by_line (Signed (Got q chars)) settled first = λ p peer. delivery_faithful s p q chars port
+        lines (kept p) peer settled first
     by_line (Signed (Fired p)) settled first = tt
     by_line (Lacked lack) settled first = tt
     by_line Ended settled first = tt

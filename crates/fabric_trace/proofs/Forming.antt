@@ -37,43 +37,62 @@ pub record StandsAt (net : Network) (node : ℕ) : Type 0 where
 pub switch_stands : (net : Network) (node : ℕ) → IsSwitch net node → StandsAt net node
 switch_stands net node switch = by_found (slice_get net.registers node) refl switch
   where
-    by_found : (found : Option Device) → slice_get net.registers node ≡ found → option_map is_switch found ≡ Some true → StandsAt net node
+    by_found : (found : Option Device) → slice_get net.registers node ≡ found
+        → option_map is_switch found ≡ Some true → StandsAt net node
     by_found None at is = absurd cc
     by_found (Some device) at is = record { device = device; stands = at }
 
-module _ (s : Seen) (node : ℕ) (device : Device) (good : IsGood s) (formed : IsFormed s.network) (stands : slice_get s.network.registers node ≡ Some device) where
-  answer_form : (port : ℕ) (packet : List ℕ) (asks : Option Request) (step : switch.Step) → port < device.ports → Passes packet → request_of packet ≡ asks
-      → answer_step device (faces_in s.network node device) port packet asks ≡ Some step → HasForm step
+module _ (s : Seen) (node : ℕ) (device : Device) (good : IsGood s) (formed : IsFormed s.network)
+    (stands : slice_get s.network.registers node ≡ Some device) where
+  answer_form : (port : ℕ) (packet : List ℕ) (asks : Option Request) (step : switch.Step) → port
+      < device.ports → Passes packet → request_of packet ≡ asks
+      → answer_step device (faces_in s.network node device) port packet asks ≡ Some step
+      → HasForm step
   answer_form port packet None step there passes asks is = absurd cc
   answer_form port packet (Some request) step there passes asks is =
       let response = response_bytes (answered device request port).response in
-      let within : IsWithin device = device_at s.network.registers node device stands formed.registers in
+      let within : IsWithin device = device_at s.network.registers node device stands
+      formed.registers in
       let most = within.ports in
-      let made = if_some (has_room (face_at (faces_in s.network node device) port) (prio_of response)) (Answered port packet response) step is in
-      subst HasForm made.1 (responses_pass device packet request port within (omega arith) passes asks)
+      let made =
+      if_some (has_room (face_at (faces_in s.network node device) port) (prio_of response))
+      (Answered port packet response) step is in
+      subst HasForm made.1
+      (responses_pass device packet request port within (omega arith) passes asks)
 
-  to_form : (port : ℕ) (packet : List ℕ) (next : Next) (step : switch.Step) → port < device.ports → Passes packet → step_to device (faces_in s.network node device) port packet next ≡ Some step → HasForm step
+  to_form : (port : ℕ) (packet : List ℕ) (next : Next) (step : switch.Step) → port < device.ports
+      → Passes packet → step_to device (faces_in s.network node device) port packet next ≡ Some step
+      → HasForm step
   to_form port packet Nowhere step there passes is =
       let same : Dropped port packet ≡ step = cc in
       subst HasForm same tt
-  to_form port packet RegisterUnit step there passes is = answer_form port packet (request_of packet) step there passes refl is
+  to_form port packet RegisterUnit step there passes is =
+      answer_form port packet (request_of packet) step there passes refl is
   to_form port packet (Port to) step there passes is =
-      let made = if_some (has_room (face_at (faces_in s.network node device) to) (prio_of packet)) (Moved port to packet) step is in
+      let made = if_some (has_room (face_at (faces_in s.network node device) to) (prio_of packet))
+      (Moved port to packet) step is in
       subst HasForm made.1 tt
 
-  head_form : (port r : ℕ) (head : Option (List ℕ)) (step : switch.Step) → port < device.ports → head_of (face_at (faces_in s.network node device) port) r ≡ head
+  head_form : (port r : ℕ) (head : Option (List ℕ)) (step : switch.Step) → port < device.ports
+      → head_of (face_at (faces_in s.network node device) port) r ≡ head
       → step_of_head device (faces_in s.network node device) port head ≡ Some step → HasForm step
   head_form port r None step there head is = absurd cc
   head_form port r (Some packet) step there head is =
       let p : PortRef = record { node = node; port = port } in
-      let own : head_of (face_in s.network p) r ≡ Some packet = ap (λ (f : Face). head_of f r) (sym (face_is s.network node device port there)) ∙ head in
-      to_form port packet (next_of device packet) step there (passes_first s good p packet (head_held s.network p r packet (good_by_priority good) own).first) is
+      let own : head_of (face_in s.network p) r ≡ Some packet =
+      ap (λ (f : Face). head_of f r) (sym (face_is s.network node device port there))
+      ∙ head in
+      to_form port packet (next_of device packet) step there
+      (passes_first s good p packet
+      (head_held s.network p r packet (good_by_priority good) own).first) is
 
-  first_form : (found : Option switch.Step) → first_step device (faces_in s.network node device) ≡ found → HasForm (unwrap_or found Nothing)
+  first_form : (found : Option switch.Step) → first_step device (faces_in s.network node device)
+      ≡ found → HasForm (unwrap_or found Nothing)
   first_form None is = tt
   first_form (Some step) is =
       let faces = faces_in s.network node device in
-      let of_prio = greatest_first-is (λ prio. least_first (step_at device faces prio) device.ports) 4 step is in
+      let of_prio = greatest_first-is (λ prio. least_first (step_at device faces prio) device.ports)
+      4 step is in
       let at = least_first-is (step_at device faces of_prio.0) device.ports step of_prio.2 in
       head_form at.0 of_prio.0 (head_of (face_at faces at.0) of_prio.0) step at.1 refl at.2
 
@@ -82,7 +101,8 @@ module _ (s : Seen) (node : ℕ) (device : Device) (good : IsGood s) (formed : I
   step_form = first_form (first_step device (faces_in s.network node device)) refl
 
 -- A switch has a move, if only the one that no packet of it can go.
-pub move_exists : (s : Seen) (node : ℕ) → IsGood s → IsFormed s.network → IsSwitch s.network node → (step : switch.Step) × IsMove s.network node (step_lines node step)
+pub move_exists : (s : Seen) (node : ℕ) → IsGood s → IsFormed s.network → IsSwitch s.network node
+    → (step : switch.Step) × IsMove s.network node (step_lines node step)
 move_exists s node good formed kind =
     let found = switch_stands s.network node kind in (
       step_of found.device (faces_in s.network node found.device),

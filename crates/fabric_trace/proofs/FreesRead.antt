@@ -15,6 +15,7 @@ use Rattle.link_wires.specs.Deliveries.{Delivered, Through, Undetected as Unsent
 use Rattle.link_wires.specs.Wires.{bursts, answers}
 use Rattle.link_wires.specs.declared.moves.Move.{Move}
 use Rattle.link_wires.specs.declared.moves.Move.TheVariants.{Held, Freed}
+use Rattle.link_wires.proofs.Throughs.{through_place}
 use Rattle.link_machine.specs.Calls.{sent_notes, has_chars, is_silent, delivery_from, move_note, told_notes, delivery_notes, pump_notes, time_out_notes, tell_notes}
 use Rattle.link_machine.specs.Queues as queues
 use Rattle.fabric_script.specs.declared.ports.PortRef.{PortRef}
@@ -29,12 +30,13 @@ use Rattle.fabric_trace.specs.Blocks.{port_at_side, lines_of}
 use Rattle.fabric_trace.specs.Frees.{IsSaid, Gotten, nothing_got, gets, completed, FreesSaid}
 use Rattle.fabric_trace.specs.Links.{IsLink}
 use Rattle.fabric_trace.specs.Parts.{Part, Begins, Lacks, Ends, Names, Steps, Serves, Turns, Tells, Delivers, Fires, Made, Done, Then}
-use Rattle.fabric_trace.proofs.Cuts.{taken_again, through_place}
+use Rattle.fabric_trace.proofs.Cuts.{taken_again}
 use Rattle.fabric_trace.proofs.Folding.{seen-append, lines-append, half_own, half_other, moves_seen}
 use Rattle.fabric_trace.proofs.Heard.{freed_count, HaveFreed, delivered_frees}
 use Rattle.fabric_trace.proofs.Keeping.{IsGood, good_peers, part_keeps}
 use Rattle.fabric_trace.proofs.Walks.{net_steps}
-use Rattle.fabric_trace.proofs.FreesStill.{gets_all, gets-append, frees-append, said-join, all_got, IsFreed, AreStill, still_freed, sent_still, fired_still}
+use Rattle.fabric_trace.proofs.FreesStill.{gets_all, gets-append, frees-append, said-join, all_got, IsFreed, still_freed}
+use Rattle.fabric_trace.proofs.Still.{AreStill, sent_still, fired_still}
 pub use Rattle.fabric_trace.proofs.FreesStill.{frees_all}
 
 -- ---- a delivery

@@ -12,10 +12,7 @@ use Rattle.link_model.specs.Said.{said}
 use Rattle.link_port.specs.Turns.{timed_out}
 use Rattle.link_sound.specs.Meanings.{oldest_of}
 use Rattle.link_watch.specs.declared.note.Note.TheVariants as Notes
-use Rattle.link_watch.specs.declared.side.Side.{Side}
-use Rattle.link_watch.specs.declared.side.Side.TheVariants.{A}
 use Rattle.link_wires.specs.declared.edits.Edit.{Edit}
-use Rattle.link_machine.specs.Calls.{sent_notes}
 use Rattle.fabric_script.specs.declared.ports.PortRef.{PortRef}
 use Rattle.fabric_model.specs.Network.{same_port}
 use Rattle.fabric_model.specs.Steps.{Linked, AtNode, ByDevice}
@@ -24,8 +21,8 @@ use Rattle.fabric_trace.specs.Lines.{Sent, Got, Fired, TraceLine, Begun, Stepped
 use Rattle.fabric_trace.specs.Views.{Half, half_of}
 use Rattle.fabric_trace.specs.Known.{Seen, with_half, peer_of, port_at}
 use Rattle.fabric_trace.specs.Fold.{edit_of, edited_by, event_leaves, sends, says, half_sent, fired_from, signed, seen}
-use Rattle.fabric_trace.specs.Blocks.{lines_of}
 use Rattle.fabric_trace.specs.Frees.{Gotten, nothing_got, gets, frees_by, FreeSaid, FreesSaid}
+use Rattle.fabric_trace.proofs.Still.{AreStill}
 
 -- ---- folds
 
@@ -73,12 +70,6 @@ pub record IsFreed (before : List TraceLine) (s : Seen) (p : PortRef) : Type 0 w
   pub oldest : s.unfaithful ≡ None → oldest_of (s.halves p).output ≡ frees_all p before % 32
 
 -- ---- lines in which a port gets and frees nothing
-
-unfoldable pub AreStill : List TraceLine → Type 0
-AreStill [] = Unit {0}
-AreStill (Signed (Got q chars) ∷ lines) = ⊥
-AreStill (Stepped (Linked step) ∷ lines) = ⊥
-AreStill (line ∷ lines) = AreStill lines
 
 record StaysFreed (s t : Seen) (c : PortRef) : Type 0 where
   pub place : (t.halves c).place ≡ (s.halves c).place
@@ -238,15 +229,3 @@ still_freed (Undetected number q e ∷ lines) before s c still h =
     (still_freed lines (before ++ Undetected number q e ∷ []) s c still
     (one_freed before s s (Undetected number q e) c (λ k. refl) refl (λ k j. tt) (stays_here s c)
     h))
-
-pub sent_still : (a b : PortRef) (side : Side) (chars : List Char)
-    → AreStill (lines_of a b (sent_notes side chars))
-unfolding AreStill
-sent_still a b side [] = tt
-sent_still a b side (c ∷ chars) = tt
-
-pub fired_still : (a b : PortRef) (x : Bool)
-    → AreStill (lines_of a b (if x then Notes.Fire A ∷ [] else []))
-unfolding AreStill
-fired_still a b true = tt
-fired_still a b false = tt

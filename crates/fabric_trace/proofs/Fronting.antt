@@ -1,5 +1,5 @@
 -- What is true of lines is true of each front of them.
-use Rattle.std.proofs.Common.{◌≡◌, ◌⊎◌, inl, inr, ℕ, ◌+◌, ◌++◌, Bool, true, false, List, [], ◌∷◌, map, length, take, refl, sym, ap, ◌∙◌, subst, append_assoc, arith, if◌then◌else◌}
+use Rattle.std.proofs.Common.{◌≡◌, ◌⊎◌, inl, inr, ℕ, ◌+◌, ◌++◌, Bool, true, false, List, [], ◌∷◌, length, take, refl, sym, ap, ◌∙◌, subst, append_assoc, arith, if◌then◌else◌}
 use Rattle.std.proofs.lemmas.List.{append-nil}
 use Rattle.rio_chars.specs.declared.chars.Char.{Char}
 use Rattle.link_model.specs.declared.event.Event.{Event}
@@ -10,9 +10,7 @@ use Rattle.link_wires.specs.Deliveries.{told_of}
 use Rattle.link_wires.specs.Kept.{IsSubsequence}
 use Rattle.link_wires.specs.Kept.IsSubsequence.{Ends as EndsWithin, Takes, Skips}
 use Rattle.link_wires.specs.Wires.{bursts, answers}
-use Rattle.link_wires.specs.declared.moves.Move.{Move}
-use Rattle.link_wires.specs.declared.moves.Move.TheVariants.{Held, Freed}
-use Rattle.link_machine.specs.Calls.{sent_notes, has_chars, delivery_from, move_note, told_notes, is_silent}
+use Rattle.link_machine.specs.Calls.{sent_notes, has_chars, delivery_from, told_notes, is_silent}
 use Rattle.fabric_script.specs.declared.ports.PortRef.{PortRef}
 use Rattle.fabric_trace.specs.Lines.{TraceLine, Begun, Stepped, Signed, Lacked, Ended, Undetected, Sent, Got, Fired}
 use Rattle.fabric_trace.specs.Known.{Seen, link_at}
@@ -26,6 +24,7 @@ use Rattle.fabric_trace.proofs.Coming.{none_within, numbered-append}
 use Rattle.fabric_trace.proofs.Folding.{seen-append}
 use Rattle.fabric_trace.proofs.HoldsStill.{got-append, holds-append}
 use Rattle.fabric_trace.proofs.Making.{one_part, made-append}
+use Rattle.fabric_trace.proofs.Still.{GotNone, moves_none}
 use Rattle.link_port.specs.Turns.{tell_sends}
 
 -- ---- laws that are read from the front
@@ -62,24 +61,6 @@ cuts (x ∷ xs) ys (u ∷ us) vs is =
     cuts_more x u xs ys us vs same (cuts xs ys us vs rest)
 
 -- ---- a port gets characters at the first line of a part, if it does
-
-unfoldable pub GotNone : List TraceLine → Type 0
-GotNone [] = Unit {0}
-GotNone (Signed (Got q chars) ∷ lines) = ⊥
-GotNone (line ∷ lines) = GotNone lines
-
-sent_none : (a b : PortRef) (side : Side) (chars : List Char)
-    → GotNone (lines_of a b (sent_notes side chars))
-unfolding GotNone
-sent_none a b side [] = tt
-sent_none a b side (c ∷ chars) = tt
-
-moves_none : (a b : PortRef) (side : Side) (moves : List Move) (chars : List Char)
-    → GotNone (lines_of a b (map (move_note side) moves ++ sent_notes side chars))
-unfolding GotNone
-moves_none a b side [] chars = sent_none a b side chars
-moves_none a b side (Held packet ∷ moves) chars = moves_none a b side moves chars
-moves_none a b side (Freed packet ∷ moves) chars = moves_none a b side moves chars
 
 abbrev pub GetsFirst : List TraceLine → Type 0
 GetsFirst [] = Unit {0}

@@ -2,7 +2,7 @@
 use Rattle.std.proofs.Common.{◌≡◌, ◌≢◌, inl, inr, ℕ, ◌+◌, ◌%◌, ◌<◌, ◌≤◌, nat_le, Bool, true, false, List, length, refl, sym, ap, ◌∙◌, subst, arith, if◌then◌else◌}
 use Rattle.std.proofs.lemmas.Bool.{leb-true, ltb-true, and_parts}
 use Rattle.link_model.specs.Output as out
-use Rattle.link_model.specs.Output.{Stype0, PacketAccepted, PacketRetry, PacketNotAccepted, LinkResponse, OtherStype0, stype0, hears, hears_report, accepted, retried, responded}
+use Rattle.link_model.specs.Output.{Stype0, PacketAccepted, PacketRetry, PacketNotAccepted, LinkResponse, OtherStype0, hears, accepted, retried}
 use Rattle.link_model.specs.Outstanding.{Outstanding, distance, is_oldest}
 use Rattle.link_port.specs.States.{prios_of, IsOutput}
 use Rattle.link_sound.specs.Meanings.{oldest_of}
@@ -54,7 +54,7 @@ error_row n w Tell is = record {
   few = omega arith;
 }
 
-oldest_some : (w : Outstanding) (ack : ℕ) → is_oldest w ack ≡ true → 0 < length w.prios
+pub oldest_some : (w : Outstanding) (ack : ℕ) → is_oldest w ack ≡ true → 0 < length w.prios
 oldest_some w ack is = ltb-true 0 (length w.prios) (and_parts _ _ is).0
 
 accepted_row : (n : ℕ) (w : Outstanding) (ack : ℕ) → w.oldest ≡ n % 32

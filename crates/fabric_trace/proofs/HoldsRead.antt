@@ -16,6 +16,7 @@ use Rattle.link_wires.specs.Kept.{IsSubsequence}
 use Rattle.link_wires.specs.Wires.{bursts, answers}
 use Rattle.link_wires.specs.declared.moves.Move.{Move}
 use Rattle.link_wires.specs.declared.moves.Move.TheVariants.{Held, Freed}
+use Rattle.link_wires.proofs.Throughs.{through_place}
 use Rattle.link_machine.specs.Calls.{sent_notes, has_chars, is_silent, delivery_from, move_note, told_notes, delivery_notes, pump_notes, time_out_notes, tell_notes}
 use Rattle.link_machine.specs.Queues as link
 use Rattle.fabric_script.specs.declared.ports.PortRef.{PortRef}
@@ -30,11 +31,12 @@ use Rattle.fabric_trace.specs.Blocks.{port_at_side, lines_of}
 use Rattle.fabric_trace.specs.Holds.{got, holds, numbered, HoldsCame}
 use Rattle.fabric_trace.specs.Parts.{Part, Begins, Lacks, Ends, Names, Steps, Serves, Turns, Tells, Delivers, Fires, Made, Done, Then}
 use Rattle.fabric_trace.proofs.Coming.{held_in, HaveCome, within-append, numbered-append, delivered_comes}
-use Rattle.fabric_trace.proofs.Cuts.{taken_again, through_place}
+use Rattle.fabric_trace.proofs.Cuts.{taken_again}
 use Rattle.fabric_trace.proofs.Folding.{seen-append, lines-append, half_own, half_other, moves_seen}
 use Rattle.fabric_trace.proofs.Keeping.{IsGood, good_peers, part_keeps}
 use Rattle.fabric_trace.proofs.Walks.{net_steps}
-use Rattle.fabric_trace.proofs.HoldsStill.{IsRead, AreStill, still_read, sent_still, fired_still}
+use Rattle.fabric_trace.proofs.HoldsStill.{IsRead, still_read}
+use Rattle.fabric_trace.proofs.Still.{AreStill, sent_still, fired_still}
 pub use Rattle.fabric_trace.proofs.HoldsStill.{got-append, holds-append}
 
 -- ---- a delivery

@@ -1,25 +1,22 @@
 -- What a port got and held along lines, and lines in which it gets and holds nothing.
-use Rattle.std.proofs.Common.{◌≡◌, ℕ, ◌%◌, ◌++◌, Bool, true, false, List, [], ◌∷◌, length, Option, Some, None, refl, sym, ap, ◌∙◌, subst, append_assoc, if◌then◌else◌}
+use Rattle.std.proofs.Common.{◌≡◌, ℕ, ◌%◌, ◌++◌, true, false, List, [], ◌∷◌, length, Option, Some, None, refl, sym, ap, ◌∙◌, subst, append_assoc, if◌then◌else◌}
 use Rattle.std.proofs.lemmas.List.{append-nil}
 use Rattle.rio_chars.specs.declared.chars.Char.{Char}
 use Rattle.link_model.specs.Places.{start, place_after}
 use Rattle.link_port.specs.States.{expected_of}
 use Rattle.link_watch.specs.declared.note.Note.TheVariants as Notes
-use Rattle.link_watch.specs.declared.side.Side.{Side}
-use Rattle.link_watch.specs.declared.side.Side.TheVariants.{A}
 use Rattle.link_wires.specs.Kept.{IsSubsequence}
 use Rattle.link_wires.specs.declared.edits.Edit.{Edit}
-use Rattle.link_machine.specs.Calls.{sent_notes}
 use Rattle.fabric_script.specs.declared.ports.PortRef.{PortRef}
 use Rattle.fabric_model.specs.Network.{same_port}
-use Rattle.fabric_model.specs.Steps.{Hold, Free, Linked, AtNode, ByDevice}
+use Rattle.fabric_model.specs.Steps.{Linked, AtNode, ByDevice}
 use Rattle.fabric_model.proofs.Peers.{port_is}
 use Rattle.fabric_trace.specs.Lines.{Sent, Got, Fired, TraceLine, Begun, Stepped, Signed, Lacked, Ended, Undetected}
 use Rattle.fabric_trace.specs.Views.{Half}
 use Rattle.fabric_trace.specs.Known.{Seen, with_half, peer_of}
 use Rattle.fabric_trace.specs.Fold.{edit_of, edited_by, says, fired_from, seen}
-use Rattle.fabric_trace.specs.Blocks.{lines_of}
 use Rattle.fabric_trace.specs.Holds.{got_by, got, held_by, holds, numbered, HoldsCame}
+use Rattle.fabric_trace.proofs.Still.{AreStill}
 
 pub got-append : (q : PortRef) (xs ys : List TraceLine) → got q (xs ++ ys) ≡ got q xs ++ got q ys
 got-append q [] ys = refl
@@ -42,12 +39,6 @@ pub record IsRead (before : List TraceLine) (s : Seen) (q : PortRef) : Type 0 wh
   pub expected : s.unfaithful ≡ None → expected_of (s.halves q).input ≡ length (holds q before) % 32
 
 -- ---- lines in which a port gets and holds nothing
-
-unfoldable pub AreStill : List TraceLine → Type 0
-AreStill [] = Unit {0}
-AreStill (Signed (Got q chars) ∷ lines) = ⊥
-AreStill (Stepped (Linked (Hold q packet)) ∷ lines) = ⊥
-AreStill (line ∷ lines) = AreStill lines
 
 -- what is read of a port stays
 record StaysRead (s t : Seen) (c : PortRef) : Type 0 where
@@ -130,15 +121,7 @@ still_read (Begun line ∷ lines) before s c still h =
     still_more _ lines before _ c
     (still_read lines (before ++ Begun line ∷ []) _ c still
     (one_read before s _ (Begun line) c refl refl (edited_stays s (edit_of line) c) h))
-still_read (Stepped (Linked (Hold q packet)) ∷ lines) before s c still h = absurd still
-still_read (Stepped (Linked (Free q packet)) ∷ lines) before s c still h =
-    still_more _ lines before _ c
-    (still_read lines (before ++ Stepped (Linked (Free q packet)) ∷ []) _ c still
-    (one_read before s _ (Stepped (Linked (Free q packet))) c refl refl (record {
-      place = refl;
-      input = refl;
-      unfaithful = refl;
-    }) h))
+still_read (Stepped (Linked step) ∷ lines) before s c still h = absurd still
 still_read (Stepped (AtNode step) ∷ lines) before s c still h =
     still_more _ lines before _ c
     (still_read lines (before ++ Stepped (AtNode step) ∷ []) _ c still
@@ -179,15 +162,3 @@ still_read (Undetected number q e ∷ lines) before s c still h =
     still_more _ lines before _ c
     (still_read lines (before ++ Undetected number q e ∷ []) s c still
     (one_read before s s (Undetected number q e) c refl refl (stays_here s c) h))
-
-pub sent_still : (a b : PortRef) (side : Side) (chars : List Char)
-    → AreStill (lines_of a b (sent_notes side chars))
-unfolding AreStill
-sent_still a b side [] = tt
-sent_still a b side (c ∷ chars) = tt
-
-pub fired_still : (a b : PortRef) (x : Bool)
-    → AreStill (lines_of a b (if x then Notes.Fire A ∷ [] else []))
-unfolding AreStill
-fired_still a b true = tt
-fired_still a b false = tt

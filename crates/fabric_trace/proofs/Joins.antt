@@ -60,8 +60,10 @@ record Joined (known : Known) (net : Network) : Type 0 where
 counts_made : (known : Known) (line : Line)
     → map (λ node. node_ports (Some node)) known.nodes ++ map count_ports (made_by line)
     ≡ map (λ node. node_ports (Some node)) (nodes_after known.nodes line)
-counts_made known (Endpoint name id) = sym (map-append (λ node. node_ports (Some node)) known.nodes _)
-counts_made known (Switch name ports) = sym (map-append (λ node. node_ports (Some node)) known.nodes _)
+counts_made known (Endpoint name id) =
+    sym (map-append (λ node. node_ports (Some node)) known.nodes _)
+counts_made known (Switch name ports) =
+    sym (map-append (λ node. node_ports (Some node)) known.nodes _)
 counts_made known _ = append-nil _
 
 own_made : (line : Line) → AllByRecursion HasOwn (map kind_and_ports (made_by line))
@@ -73,15 +75,19 @@ port_grows : (net : Network) (line : Line) (p : PortRef) → IsPortOf net.regist
     → IsPortOf (set_up net line).registers p
 port_grows net line p is =
     count_has (set_up net line).registers p.node p.port
-    (subst (λ xs. p.port < get_or xs p.node 0) (sym (set_up-map count_ports (λ device linked routes port lock large. refl) net line))
-    (count_more (map count_ports net.registers) (map count_ports (made_by line)) p.node p.port (has_count net.registers p.node p.port is)))
+    (subst (λ xs. p.port < get_or xs p.node 0)
+    (sym (set_up-map count_ports (λ device linked routes port lock large. refl) net line))
+    (count_more (map count_ports net.registers) (map count_ports (made_by line)) p.node p.port
+    (has_count net.registers p.node p.port is)))
 
 -- a port that is known is one of a node
 known_port : (known : Known) (net : Network) (p : PortRef) → Joined known net
     → p.port < ports_of known.nodes p.node → IsPortOf net.registers p
 known_port known net p joined within =
     count_has net.registers p.node p.port
-    (subst (λ n. p.port < n) (count_at node_ports known.nodes p.node refl ∙ ap (λ xs. get_or xs p.node 0) (sym joined.counted)) within)
+    (subst (λ n. p.port < n)
+    (count_at node_ports known.nodes p.node refl
+    ∙ ap (λ xs. get_or xs p.node 0) (sym joined.counted)) within)
 
 links_made : (known : Known) (new : List ℕ) (net : Network) (line : Line) → Joined known net
     → MayBe known new line
@@ -89,12 +95,15 @@ links_made : (known : Known) (new : List ℕ) (net : Network) (line : Line) → 
 links_made known new net line joined may = by_line line may
   where
     grows : (line : Line) → AllByRecursion (JoinsPorts (set_up net line).registers) net.links
-    grows line = all_weaker (JoinsPorts net.registers) (JoinsPorts (set_up net line).registers) (λ link own. (port_grows net line link.0 own.0, port_grows net line link.1 own.1)) net.links joined.ends
+    grows line = all_weaker (JoinsPorts net.registers) (JoinsPorts (set_up net line).registers)
+        (λ link own. (port_grows net line link.0 own.0, port_grows net line link.1 own.1)) net.links
+        joined.ends
 
     by_line : (line : Line) → MayBe known new line
         → AllByRecursion (JoinsPorts (set_up net line).registers) (links_after net.links line)
     by_line (Link a b) may =
-        all-append (JoinsPorts (set_up net (Link a b)).registers) net.links ((a, b) ∷ []) (grows (Link a b)) (
+        all-append (JoinsPorts (set_up net (Link a b)).registers) net.links ((a, b) ∷ [])
+        (grows (Link a b)) (
           (
             port_grows net (Link a b) a (known_port known net a joined may.fit.0.2),
             port_grows net (Link a b) b (known_port known net b joined may.fit.1.0.2),
@@ -106,11 +115,13 @@ links_made known new net line joined may = by_line line may
 joined_after : (known : Known) (new : List ℕ) (net : Network) (line : Line) → Joined known net
     → MayBe known new line → Joined (known_after known new line) (set_up net line)
 joined_after known new net line joined may = record {
-  counted = set_up-map count_ports (λ device linked routes port lock large. refl) net line ∙ ap (λ xs. xs ++ map count_ports (made_by line)) joined.counted ∙ counts_made known line;
+  counted = set_up-map count_ports (λ device linked routes port lock large. refl) net line
+      ∙ ap (λ xs. xs ++ map count_ports (made_by line)) joined.counted ∙ counts_made known line;
   own =
       subst (AllByRecursion HasOwn)
       (sym (set_up-map kind_and_ports (λ device linked routes port lock large. refl) net line))
-      (all-append HasOwn (map kind_and_ports net.registers) (map kind_and_ports (made_by line)) joined.own (own_made line));
+      (all-append HasOwn (map kind_and_ports net.registers) (map kind_and_ports (made_by line))
+      joined.own (own_made line));
   ends =
       subst (AllByRecursion (JoinsPorts (set_up net line).registers)) (sym (set_up-links net line))
       (links_made known new net line joined may);
@@ -122,7 +133,8 @@ joined_after known new net line joined may = record {
 own_port : (devices : List Device) (n : ℕ) → AllByRecursion HasOwn (map kind_and_ports devices)
     → option_map is_switch (slice_get devices n) ≡ Some false → HasPort (slice_get devices n) 0
 own_port [] n own endpoint = absurd cc
-own_port (device ∷ devices) zero own endpoint = (let kind : is_switch device ≡ false = cc in own.0 kind)
+own_port (device ∷ devices) zero own endpoint =
+    (let kind : is_switch device ≡ false = cc in own.0 kind)
 own_port (device ∷ devices) (suc n) own endpoint = own_port devices n own.1 endpoint
 
 peer_ports : (devices : List Device) (links : List (PortRef × PortRef)) (p q : PortRef)

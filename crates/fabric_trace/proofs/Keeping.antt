@@ -1,5 +1,5 @@
 -- Every part of a trace is legal and keeps the links sound.
-use Rattle.std.proofs.Common.{◌≡◌, ℕ, ◌+◌, ◌<◌, ◌++◌, map, IsTrue, ◌∙◌, Bool, true, false, List, [], ◌∷◌, get_or, arith, Option, Some, None, refl, sym, ap, subst, if◌then◌else◌}
+use Rattle.std.proofs.Common.{◌≡◌, ℕ, ◌+◌, ◌<◌, ◌++◌, map, IsTrue, ◌∙◌, Bool, true, false, List, [], ◌∷◌, Option, Some, None, refl, sym, ap, subst, if◌then◌else◌}
 use Rattle.rio_chars.specs.declared.chars.Char.{Char}
 use Rattle.rio_packets.specs.Fields.{prio_of}
 use Rattle.rio_packets.specs.LinkForm.{Passes}
@@ -32,9 +32,10 @@ use Rattle.fabric_trace.specs.Links.{AreLinks}
 use Rattle.fabric_trace.specs.Parts.{packet_of, Part, Begins, Lacks, Ends, Names, Steps, Serves, Turns, Tells, Delivers, Fires, Made, Done, Then}
 use Rattle.fabric_trace.proofs.Calling.{IsCall, turns_call, tells_call, fires_call}
 use Rattle.fabric_trace.proofs.Delivering.{delivers_call}
-use Rattle.fabric_trace.proofs.Folding.{seen-append}
+use Rattle.fabric_trace.proofs.Folding.{seen-append, edited_net}
 use Rattle.fabric_trace.proofs.Serving.{apart_peer, by_pair, edited_link, with_more, fewer_links, more_links}
 use Rattle.link_port.specs.Turns.{tell_sends}
+pub use Rattle.fabric_model.proofs.Nodes.{few_prio}
 
 pub steps_of-append : (xs ys : List TraceLine) → steps_of (xs ++ ys) ≡ steps_of xs ++ steps_of ys
 steps_of-append [] ys = refl
@@ -149,14 +150,6 @@ edit_keeps s (Some edit) good = record {
   links = λ none a b peer. edited_link s edit.0 edit.1 a b (good.links none a b peer);
 }
 
-begun_net : (s : Seen) (edit : Option (PortRef × Edit)) → (edited_by s edit).network ≡ s.network
-begun_net s None = refl
-begun_net s (Some edit) = refl
-
-pub few_prio : (packet : List ℕ) → Passes packet → prio_of packet < 4
-few_prio packet is = let second : get_or packet 1 0 < 256 =
-    is.range 1 0 (omega (arith, is.least)) in omega (arith, second)
-
 -- a step that leaves links sound
 step_keeps : (s : Seen) (step : Step) → IsGood s → Needs s.network step
     → (AreLinks s → AreLinks (seen_line s (Stepped step)))
@@ -241,7 +234,7 @@ kept_by {s} is kept = subst (IsKept s) (sym is) kept
 pub part_keeps : {s : Seen} {lines : List TraceLine} → IsGood s → Part s lines → IsKept s lines
 part_keeps {s} good (Begins line is) =
     kept_by is (record {
-      legal = begun_net s (edit_of line);
+      legal = edited_net s (edit_of line);
       good = edit_keeps s (edit_of line) good;
     })
 part_keeps {s} good (Lacks lack is) = kept_by is (record { legal = refl; good = good })

@@ -24,6 +24,7 @@ pub mod Happening
 pub mod Wiring
 pub mod Faith
 pub mod Coming
+pub mod Still
 pub mod HoldsStill
 pub mod HoldsRead
 pub mod Ending

@@ -1,16 +1,17 @@
 -- What is allowed after a symbol is no less than what it frees, row by row of the table.
 use Rattle.std.proofs.Common.{◌≡◌, ◌≢◌, inl, inr, ℕ, ◌+◌, ◌%◌, ◌<◌, ◌≤◌, ◌==◌, nat_le, ◌++◌, Bool, true, false, List, [], ◌∷◌, length, refl, sym, ap, ◌∙◌, subst, arith, if◌then◌else◌}
-use Rattle.std.proofs.lemmas.Bool.{leb-true, ltb-true, and_parts, cases_lt}
+use Rattle.std.proofs.lemmas.Bool.{leb-true, cases_lt}
 use Rattle.std.proofs.lemmas.Bool.Decides.{eqb_tells}
 use Rattle.link_model.specs.declared.event.Event.{Event}
 use Rattle.link_model.specs.declared.event.Event.TheVariants.{Ctl, Pkt, Bad}
 use Rattle.link_model.specs.Output as out
-use Rattle.link_model.specs.Output.{Stype0, PacketAccepted, PacketRetry, PacketNotAccepted, LinkResponse, OtherStype0, stype0, hears, hears_report, accepted, retried}
+use Rattle.link_model.specs.Output.{Stype0, PacketAccepted, PacketRetry, PacketNotAccepted, LinkResponse, OtherStype0, stype0, hears, accepted, retried}
 use Rattle.link_model.specs.Outstanding.{Outstanding, distance, is_oldest, without_oldest, from_ack}
 use Rattle.link_port.specs.States.{prios_of, IsOutput}
 use Rattle.link_sound.specs.Meanings.{oldest_of}
 use Rattle.link_sound.proofs.Hearing.{oldest_cases}
 use Rattle.fabric_trace.specs.Allowance.{raised_by, raised, raised_all}
+use Rattle.fabric_trace.proofs.HeardRows.{oldest_some}
 
 -- ---- the allowance only grows
 
@@ -85,9 +86,6 @@ error_row n m w is low = record {
   allowed = omega (arith, low);
   few = omega arith;
 }
-
-oldest_some : (w : Outstanding) (ack : ℕ) → is_oldest w ack ≡ true → 0 < length w.prios
-oldest_some w ack is = ltb-true 0 (length w.prios) (and_parts _ _ is).0
 
 above : (n a : ℕ) → n ≤ a → (n ≡ a → ⊥) → n + 1 ≤ a
 above n a low apart =

@@ -13,9 +13,15 @@ use Rattle.fabric_trace.proofs.Rounds.{rounds_come}
 use Rattle.fabric_trace.proofs.Running.{link_made, move_made}
 use Rattle.fabric_trace.proofs.Starting.{good_start, settles_rest}
 
-pub rounds_rest : (net : Network) (n : ℕ) (before block : List TraceLine) → IsSetUp net → Made (begins net) before → (seen (begins net) before).unfaithful ≡ None
-    → Rounds IsSettle n (seen (begins net) before) block → Rounds (SettlesTo IsSettle) n (seen (begins net) before) block
+pub rounds_rest : (net : Network) (n : ℕ) (before block : List TraceLine) → IsSetUp net
+    → Made (begins net) before → (seen (begins net) before).unfaithful ≡ None
+    → Rounds IsSettle n (seen (begins net) before) block
+    → Rounds (SettlesTo IsSettle) n (seen (begins net) before) block
 rounds_rest net n before block is made none rounds =
     (rounds_come IsSettle (SettlesTo IsSettle)
-    (λ s a b lines good still peers settles. (link_made s a b lines good still peers settles, (settles, settles_rest s a b lines good still peers settles)))
-    move_made n (seen (begins net) before) block (made_keeps (good_start net is) made).good none rounds).1
+    (λ s a b lines good still peers settles. (
+      link_made s a b lines good still peers settles,
+      (settles, settles_rest s a b lines good still peers settles),
+    ))
+    move_made n (seen (begins net) before) block (made_keeps (good_start net is) made).good none
+    rounds).1

@@ -21,6 +21,7 @@ use Rattle.fabric_script.specs.declared.lines.Numbered.{Numbered}
 use Rattle.fabric_model.specs.Network.{IsEndpoint, link_in, port_of, room_out}
 use Rattle.fabric_model.specs.Steps.{Take, Leave, Move as MoveOn, Drop, Answer, AtNode}
 use Rattle.fabric_model.proofs.Peers.{ArePeers, link_peers}
+use Rattle.fabric_model.proofs.Nodes.{few_prio}
 use Rattle.fabric_trace.specs.Lines.{TraceLine, Begun, Stepped, Lacked, Full, Empty, Short, Early, NoStep}
 use Rattle.fabric_trace.specs.Known.{Seen, Found, peer_of, link_at}
 use Rattle.fabric_trace.specs.Fold.{edit_of, edited_by, seen}
@@ -30,7 +31,7 @@ use Rattle.fabric_trace.specs.Rounds.{Follows, Rounds}
 use Rattle.fabric_trace.specs.Runs.{BlockThen, Names as NamesLast, RunsFrom}
 use Rattle.fabric_trace.specs.Parts.{Begins, Lacks, Ends, Names, Steps, Serves, Turns, Delivers, Fires, Made, Done, Then}
 use Rattle.fabric_trace.proofs.Faces.{StepNeeds, step_needs, CollectNeeds, collect_needs}
-use Rattle.fabric_trace.proofs.Keeping.{few_prio, IsGood, good_by_priority, made_keeps}
+use Rattle.fabric_trace.proofs.Keeping.{IsGood, good_by_priority, made_keeps}
 use Rattle.fabric_trace.proofs.Making.{one_part, made-append, made_by}
 use Rattle.fabric_trace.proofs.Rounds.{by_test, rounds_come}
 pub use Rattle.fabric_trace.proofs.EitherEnd.{acts_reach, fired_round, silent_round}

@@ -25,8 +25,11 @@ link_rests : (s : Seen) (port : PortRef) (link : Option (PortRef × PortRef))
     (block : List TraceLine) → IsGood s → s.unfaithful ≡ None → link_in s.network.links port ≡ link
     → WithLink link (IsSettle s) block → WithLink link (SettlesTo IsSettle s) block
 link_rests s port None block good none is settles = settles
-link_rests s port (Some link) block good none is settles =
-    (settles, λ still. settles_rest s link.0 link.1 block good none (link_peers s.network.links port link good.proper is) settles still)
+link_rests s port (Some link) block good none is settles = (
+  settles,
+  λ still. settles_rest s link.0 link.1 block good none
+      (link_peers s.network.links port link good.proper is) settles still,
+)
 
 block_rests : (line : Line) (s : Seen) (block : List TraceLine) → IsGood s → s.unfaithful ≡ None
     → IsBlock s line block → IsBlockAtRest s line block
@@ -34,14 +37,18 @@ block_rests (Settle port) s block good none is =
     link_rests s port (link_in s.network.links port) block good none refl is
 block_rests (Run n) s block good none is =
     (rounds_come IsSettle (SettlesTo IsSettle)
-    (λ s a b lines good still peers settles. (link_made s a b lines good still peers settles, (settles, settles_rest s a b lines good still peers settles)))
+    (λ s a b lines good still peers settles. (
+      link_made s a b lines good still peers settles,
+      (settles, settles_rest s a b lines good still peers settles),
+    ))
     move_made n s block good none is).1
 block_rests _ s block good none is = is
 
 follows_by : (found : Option Found) (More Known : List TraceLine → Type 0)
     (Last : Found → List TraceLine → Type 0) (rest : List TraceLine)
     →
-    (found ≡ None → More rest → Known rest) → Follows found More Last rest → Follows found Known Last rest
+    (found ≡ None → More rest → Known rest) → Follows found More Last rest
+    → Follows found Known Last rest
 follows_by None More Known Last rest more is = more refl is
 follows_by (Some e) More Known Last rest more is = is
 
@@ -55,17 +62,20 @@ event_rests : (s : Seen) (line : Line) (More Known : Seen → List TraceLine →
     (Last : Found → List TraceLine → Type 0) (lines : List TraceLine) → IsGood s
     → s.unfaithful ≡ None
     →
-    ((t : Seen) (rest : List TraceLine) → IsGood t → t.unfaithful ≡ None → More t rest → Known t rest)
+    ((t : Seen) (rest : List TraceLine) → IsGood t → t.unfaithful ≡ None → More t rest
+    → Known t rest)
     → EventThen IsBlock More Last s line lines → EventThen IsBlockAtRest Known Last s line lines
 event_rests s line More Known Last lines good none more own =
     let block = own.0 in
     let t = seen s (Begun line ∷ block) in
-    let begun : Made s (Begun line ∷ block) = Then (Begun line ∷ []) block refl (Begins line refl) (block_made line s block good none own.3) in (
+    let begun : Made s (Begun line ∷ block) = Then (Begun line ∷ []) block refl (Begins line refl)
+    (block_made line s block good none own.3) in (
       block,
       own.1,
       own.2,
       block_rests line s block good none own.3,
-      follows_by t.unfaithful (More t) (Known t) Last own.1 (λ still follows. more t own.1 (made_keeps good begun).good still follows) own.4,
+      follows_by t.unfaithful (More t) (Known t) Last own.1
+          (λ still follows. more t own.1 (made_keeps good begun).good still follows) own.4,
     )
 
 runs_by : (script : List Numbered) (s : Seen) (lines : List TraceLine) → IsGood s
@@ -74,10 +84,13 @@ runs_by [] s lines good none run = run
 runs_by (line ∷ script) s lines good none run =
     match_by (BlockThen (λ t rest. RunsFrom t script rest) (Names line.number) s line.line lines)
     (RunsFrom s script lines)
-    (EventThen IsBlockAtRest (λ t rest. RunsBy IsBlockAtRest t script rest) (Names line.number) s line.line lines)
+    (EventThen IsBlockAtRest (λ t rest. RunsBy IsBlockAtRest t script rest) (Names line.number) s
+    line.line lines)
     (RunsBy IsBlockAtRest s script lines)
     (is_event line.line)
-    (λ own. event_rests s line.line (λ t rest. RunsFrom t script rest) (λ t rest. RunsBy IsBlockAtRest t script rest) (Names line.number) lines good none (runs_by script) own)
+    (λ own. event_rests s line.line (λ t rest. RunsFrom t script rest)
+    (λ t rest. RunsBy IsBlockAtRest t script rest) (Names line.number) lines good none
+    (runs_by script) own)
     (λ more. runs_by script s lines good none more) run
 
 blocks_by : (script : List Numbered) (s : Seen) (lines : List TraceLine) → IsGood s
@@ -86,10 +99,13 @@ blocks_by [] s lines good none run = run
 blocks_by (line ∷ script) s lines good none run =
     match_by (BlockThen (λ t rest. BlocksFrom t script rest) NamesNothing s line.line lines)
     (BlocksFrom s script lines)
-    (EventThen IsBlockAtRest (λ t rest. BlocksBy IsBlockAtRest t script rest) NamesNothing s line.line lines)
+    (EventThen IsBlockAtRest (λ t rest. BlocksBy IsBlockAtRest t script rest) NamesNothing s
+    line.line lines)
     (BlocksBy IsBlockAtRest s script lines)
     (is_event line.line)
-    (λ own. event_rests s line.line (λ t rest. BlocksFrom t script rest) (λ t rest. BlocksBy IsBlockAtRest t script rest) NamesNothing lines good none (blocks_by script) own)
+    (λ own. event_rests s line.line (λ t rest. BlocksFrom t script rest)
+    (λ t rest. BlocksBy IsBlockAtRest t script rest) NamesNothing lines good none
+    (blocks_by script) own)
     (λ more. blocks_by script s lines good none more) run
 
 pub traces_rest : (script : List Numbered) (lines : List TraceLine) → MaySetUpAll bare script

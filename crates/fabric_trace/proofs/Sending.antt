@@ -28,6 +28,7 @@ use Rattle.link_port.proofs.FirstPackets.{first_has_prio}
 use Rattle.link_port.specs.Answers.{IsReply}
 use Rattle.link_rest.specs.Led.{AreAnswers}
 use Rattle.link_rest.proofs.AnswerLaws.{IsNarrow, port_narrow, acts_narrow, AreAnswers-append}
+use Rattle.link_rest.proofs.Bursting.{turns_read, tell_read}
 use Rattle.link_sound.proofs.PortBounds.{turn_port}
 use Rattle.link_watch.specs.declared.note.Note.TheVariants as Notes
 use Rattle.link_watch.specs.declared.side.Side.{Side}
@@ -47,7 +48,7 @@ use Rattle.fabric_trace.specs.Known.{Seen, peer_of, port_at, kept_of, link_at}
 use Rattle.fabric_trace.specs.Fold.{says, seen_line, seen}
 use Rattle.fabric_trace.specs.Blocks.{port_at_side, line_of, lines_of}
 use Rattle.fabric_trace.specs.Parts.{Part, Begins, Lacks, Ends, Names, Steps, Serves, Turns, Tells, Delivers, Fires, Made, Done, Then}
-use Rattle.fabric_trace.proofs.Bursts.{startable_has, turns_read, answers_say, tell_read}
+use Rattle.fabric_trace.proofs.Bursts.{startable_has, answers_say}
 use Rattle.fabric_trace.proofs.Folding.{lines-append}
 use Rattle.fabric_trace.proofs.Keeping.{IsGood, part_keeps}
 use Rattle.fabric_trace.proofs.Lanes.{packets-append, lane_at}

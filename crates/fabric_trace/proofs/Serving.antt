@@ -25,7 +25,7 @@ use Rattle.maint_registers.specs.Devices.{Device}
 use Rattle.fabric_model.specs.Network.{Item, Network, same_port, peer_in, with_lane, first_packet, to_send, room_out}
 use Rattle.fabric_model.specs.Steps.{behind_first, without_first, with_waiting}
 use Rattle.fabric_model.specs.Laws.Proper.{AreProper}
-use Rattle.fabric_model.proofs.Peers.{ArePeers, port_is, apart_back, peer_back, same_port-refl, unlinked_apart}
+use Rattle.fabric_model.proofs.Peers.{ArePeers, port_is, apart_back, peer_back, same_port-refl, unlinked_apart, some_is}
 use Rattle.fabric_trace.specs.Views.{packets_in, lists_in, queue}
 use Rattle.fabric_trace.specs.Known.{Wire, Seen, with_wire, port_at, kept_of, wire_state, link_at}
 use Rattle.fabric_trace.specs.Fold.{changed, edited_by}
@@ -76,10 +76,6 @@ same_link s t a b first second is =
       wire_b = ap wire_state second.wire;
     })
     (subst IsKept (sym first.wire) is.kept_a) (subst IsKept (sym second.wire) is.kept_b)
-
-some_is : {X : Type 0} (o : Option X) (x y : X) → o ≡ Some x → o ≡ Some y → x ≡ y
-some_is None x y p q = absurd cc
-some_is (Some z) x y p q = cc
 
 -- a port is not its own peer
 pub apart_peer : (links : List (PortRef × PortRef)) (p q : PortRef) → AreProper links

@@ -1,15 +1,16 @@
 -- What lines of set-up make of the devices and the links of a network.
-use Rattle.std.proofs.Common.{◌≡◌, ℕ, true, false, List, [], ◌∷◌, ◌++◌, map, refl, sym, ◌∙◌, append-nil}
+use Rattle.std.proofs.Common.{◌≡◌, ℕ, ◌+◌, ◌<◌, true, false, List, [], ◌∷◌, ◌++◌, length, map, take, drop, get_or, refl, sym, ap, ◌∙◌, append-nil, take-append-drop}
 use Rattle.std.proofs.lemmas.Bool.{false≢true}
-use Rattle.std.proofs.lemmas.List.{map-append}
+use Rattle.std.proofs.lemmas.List.{map-append, drop_more}
 use Rattle.maint_registers.specs.Devices.{Device, is_switch, new_endpoint, new_switch, with_link}
 use Rattle.fabric_script.specs.declared.lines.Line.{Line}
 use Rattle.fabric_script.specs.declared.lines.Line.TheVariants.{Endpoint, Switch, Link, Buffers, Route, Default, Lock, Large, Credits}
 use Rattle.fabric_script.specs.Known.{links_after}
 use Rattle.fabric_script.specs.Lines.{is_event}
+use Rattle.fabric_script.specs.declared.lines.Numbered.{Numbered}
 use Rattle.fabric_model.specs.Network.{Network}
 use Rattle.fabric_model.proofs.Devices.{map-with_device}
-use Rattle.fabric_trace.specs.Settings.{routed, defaulted, held_by, large_set, with_end, set_up}
+use Rattle.fabric_trace.specs.Settings.{routed, defaulted, held_by, large_set, with_end, set_up, set_up_all}
 
 pub set_up-links : (net : Network) (line : Line)
     → (set_up net line).links ≡ links_after net.links line
@@ -88,3 +89,18 @@ pub set_up-kinds : (net : Network) (line : Line)
     → map is_switch (set_up net line).registers ≡ map is_switch net.registers
     ++ map is_switch (made_by line)
 set_up-kinds net line = set_up-map is_switch (λ device linked routes port lock large. refl) net line
+
+-- ---- lines and more lines
+
+pub set_up_all-append : (net : Network) (lines more : List Numbered)
+    → set_up_all net (lines ++ more) ≡ set_up_all (set_up_all net lines) more
+set_up_all-append net [] more = refl
+set_up_all-append net (line ∷ lines) more = set_up_all-append (set_up net line.line) lines more
+
+-- the lines as those before a place, the one there, and those behind it
+pub lines_at : (lines : List Numbered) (i : ℕ) (line : Numbered) → i < length lines
+    → line ≡ get_or lines i line → lines ≡ take i lines ++ line ∷ drop (i + 1) lines
+lines_at lines i line within at =
+    sym (take-append-drop i lines)
+    ∙ ap (λ rest. take i lines ++ rest) (drop_more lines i line within
+    ∙ ap (λ x. x ∷ drop (i + 1) lines) (sym at))

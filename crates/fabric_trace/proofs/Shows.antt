@@ -34,8 +34,10 @@ front_shown script front rest may whole at_rest =
       steps = lawful_steps net (steps_of front) _ is (front_legal net front rest is made);
       wires = fold_front front rest net.links (λ p. []) (wires_fold net (front ++ rest) is made);
       owned = owned_front front rest (start script) (made_owned good made);
-      holds = λ q. cut_came q (start script) front (λ lines all. holds_came net lines q is all) (cut front rest refl made);
-      frees = λ p. frees_front p nothing_got 0 front rest (frees_said net (front ++ rest) p is made);
+      holds = λ q. cut_came q (start script) front (λ lines all. holds_came net lines q is all)
+          (cut front rest refl made);
+      frees = λ p. frees_front p nothing_got 0 front rest
+          (frees_said net (front ++ rest) p is made);
       noted = λ p. noted_front p front rest false (made_noted p false made);
       allowed = λ p. allowed_front p front rest [] 0 (frees_allowed net (front ++ rest) p is made);
       faithful = made_faithful (start script) None front (begins_kept net) settled first;
@@ -50,14 +52,16 @@ pub fronts_shown : (script : List Numbered) (front rest : List TraceLine) → Ma
     → Runs script (front ++ rest) → Shown script front
 fronts_shown script front rest may runs =
     front_shown script front rest may
-    (runs_rest script (start script) None (front ++ rest) (good_start (set_up_all bare script) (set_up_bare script may)) refl tt runs)
+    (runs_rest script (start script) None (front ++ rest)
+    (good_start (set_up_all bare script) (set_up_bare script may)) refl tt runs)
     (record { behind = rest; rests = inl (traces_rest script (front ++ rest) may runs) })
 
 pub blocks_shown : (script : List Numbered) (front rest : List TraceLine) → MaySetUpAll bare script
     → Begins script (front ++ rest) → Shown script front
 blocks_shown script front rest may begun =
     front_shown script front rest may
-    (blocks_rest begun.done (start script) None (front ++ rest) (good_start (set_up_all bare script) (set_up_bare script may)) refl tt begun.blocks)
+    (blocks_rest begun.done (start script) None (front ++ rest)
+    (good_start (set_up_all bare script) (set_up_bare script may)) refl tt begun.blocks)
     (record { behind = rest; rests = inr (fronts_rest script (front ++ rest) may begun) })
 
 pub runs_shown : (script : List Numbered) (lines : List TraceLine) → MaySetUpAll bare script

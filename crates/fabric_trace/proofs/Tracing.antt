@@ -120,7 +120,7 @@ module _ (s : Seen) (node : ℕ) (device : Device) (good : IsGood s) (formed : I
       (passes_first s good (port_of node) packet
       (head_held s.network (port_of node) at.0 packet (good_by_priority good) at.2).first) refl
 
-  collect_form : HasResponseForm (collected device (face_in s.network (port_of node)))
+  pub collect_form : HasResponseForm (collected device (face_in s.network (port_of node)))
   collect_form = held_form (first_held (face_in s.network (port_of node))) refl
 
 collect_exists : (s : Seen) (node : ℕ) → IsReady s → IsEndpoint s.network node

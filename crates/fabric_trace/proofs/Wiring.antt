@@ -4,13 +4,10 @@ use Rattle.std.proofs.lemmas.List.{take-append-drop}
 use Rattle.rio_chars.specs.declared.chars.Char.{Char}
 use Rattle.link_watch.specs.declared.note.Note.{Note}
 use Rattle.link_watch.specs.declared.note.Note.TheVariants as Notes
-use Rattle.link_watch.specs.declared.side.Side.{Side}
 use Rattle.link_watch.specs.declared.side.Side.TheVariants.{A, B}
 use Rattle.link_wires.specs.Deliveries.{told_of}
 use Rattle.link_wires.specs.Wires.{bursts, answers}
 use Rattle.link_wires.specs.declared.edits.Edit.{Edit}
-use Rattle.link_wires.specs.declared.moves.Move.{Move}
-use Rattle.link_wires.specs.declared.moves.Move.TheVariants.{Held, Freed}
 use Rattle.link_machine.specs.Calls.{sent_notes, has_chars, is_silent, delivery_from, move_note, told_notes, delivery_notes, pump_notes, time_out_notes, tell_notes}
 use Rattle.fabric_script.specs.declared.ports.PortRef.{PortRef}
 use Rattle.fabric_model.specs.Network.{Network, same_port, peer_in}
@@ -25,6 +22,7 @@ use Rattle.fabric_trace.specs.Parts.{Part, Begins, Lacks, Ends, Names, Steps, Se
 use Rattle.fabric_trace.specs.Wires.{WireChars, with_chars, edited_chars, taken_chars, signed_chars, on_wires, WireFold}
 use Rattle.fabric_trace.proofs.Folding.{network_is}
 use Rattle.fabric_trace.proofs.Keeping.{IsGood, legal_links, part_keeps}
+use Rattle.fabric_trace.proofs.Still.{GotNone, sent_none, moves_none, fired_none}
 use Rattle.link_port.specs.Turns.{tell_sends}
 
 -- ---- the characters of the fold
@@ -53,7 +51,7 @@ keep_chars wires p wire same = λ i q. one q (same_port q p) refl i
     one q true is = same ∙ ap (λ x. (wires x).chars) (sym (port_is q p is))
     one q false is = refl
 
-edited_is : (s : Seen) (edit : Option (PortRef × Edit))
+pub edited_is : (s : Seen) (edit : Option (PortRef × Edit))
     → chars_of (edited_by s edit) ≡ edited_chars (chars_of s) edit
 edited_is s None = refl
 edited_is s (Some edit) =
@@ -78,7 +76,7 @@ fired_is s (Some q) p =
     let first = keep_chars s.wires p (silenced (s.wires p)) refl in
     keep_chars one q (silenced (s.wires q)) (ap (λ (w : WireChars). w q) (sym first)) ∙ first
 
-signed_is : (s : Seen) (sign : Sign)
+pub signed_is : (s : Seen) (sign : Sign)
     → chars_of (signed s sign) ≡ signed_chars s.network.links (chars_of s) sign
 signed_is s (Sent p chars) = set_chars s.wires p (wire_sent (s.wires p) chars)
 signed_is s (Got q chars) = got_is s (peer_of s q) q chars
@@ -95,7 +93,7 @@ line_is s (Undetected number q e) = refl
 
 -- ---- links stay
 
-line_links : (s : Seen) (line : TraceLine) → (seen_line s line).network.links ≡ s.network.links
+pub line_links : (s : Seen) (line : TraceLine) → (seen_line s line).network.links ≡ s.network.links
 line_links s line = ap (λ (n : Network). n.links) (network_is s (line ∷ [])) ∙ by_line line
   where
     by_line : (line : TraceLine)
@@ -106,6 +104,11 @@ line_links s line = ap (λ (n : Network). n.links) (network_is s (line ∷ [])) 
     by_line (Lacked lack) = refl
     by_line Ended = refl
     by_line (Undetected number q e) = refl
+
+pub seen_links : (s : Seen) (lines : List TraceLine)
+    → (seen s lines).network.links ≡ s.network.links
+seen_links s [] = refl
+seen_links s (line ∷ lines) = seen_links (seen_line s line) lines ∙ line_links s line
 
 -- ---- joining
 
@@ -125,11 +128,6 @@ fold-append (x ∷ xs) ys s links is first rest =
 
 -- ---- lines in which no port got anything
 
-unfoldable GotNone : List TraceLine → Type 0
-GotNone [] = Unit {0}
-GotNone (Signed (Got q chars) ∷ lines) = ⊥
-GotNone (line ∷ lines) = GotNone lines
-
 quiet : (lines : List TraceLine) (links : List (PortRef × PortRef)) (wires : WireChars)
     → GotNone lines → WireFold links wires lines
 unfolding GotNone
@@ -142,25 +140,6 @@ quiet (Signed (Fired p) ∷ lines) links wires none = (tt, quiet lines links _ n
 quiet (Lacked lack ∷ lines) links wires none = (tt, quiet lines links _ none)
 quiet (Ended ∷ lines) links wires none = (tt, quiet lines links _ none)
 quiet (Undetected number q e ∷ lines) links wires none = (tt, quiet lines links _ none)
-
-sent_quiet : (a b : PortRef) (side : Side) (chars : List Char)
-    → GotNone (lines_of a b (sent_notes side chars))
-unfolding GotNone
-sent_quiet a b side [] = tt
-sent_quiet a b side (c ∷ chars) = tt
-
-told_quiet : (a b : PortRef) (side : Side) (moves : List Move) (chars : List Char)
-    → GotNone (lines_of a b (map (move_note side) moves ++ sent_notes side chars))
-unfolding GotNone
-told_quiet a b side [] chars = sent_quiet a b side chars
-told_quiet a b side (Held packet ∷ moves) chars = told_quiet a b side moves chars
-told_quiet a b side (Freed packet ∷ moves) chars = told_quiet a b side moves chars
-
-fired_quiet : (a b : PortRef) (x : Bool)
-    → GotNone (lines_of a b (if x then Notes.Fire A ∷ [] else []))
-unfolding GotNone
-fired_quiet a b true = tt
-fired_quiet a b false = tt
 
 -- ---- parts
 
@@ -188,7 +167,7 @@ delivery_fold s p q n links back has =
       },
       quiet (lines_of p q (map (move_note B) told.moves ++ sent_notes B
           (answers told.replies).chars)) links _
-          (told_quiet p q B told.moves (answers told.replies).chars),
+          (moves_none p q B told.moves (answers told.replies).chars),
     )
 
 part_fold : {s : Seen} {lines : List TraceLine} (links : List (PortRef × PortRef))
@@ -208,11 +187,11 @@ part_fold {s} links same good (Serves step needs is) =
 part_fold {s} links same good (Turns p q n peer none is) =
     subst (WireFold links (chars_of s)) (sym is)
     (quiet (lines_of p q (pump_notes A n (link_at s p q))) links (chars_of s)
-    (sent_quiet p q A (bursts n (link_at s p q).a).chars))
+    (sent_none p q A (bursts n (link_at s p q).a).chars))
 part_fold {s} links same good (Tells p q peer none is) =
     subst (WireFold links (chars_of s)) (sym is)
     (quiet (lines_of p q (tell_notes A (link_at s p q))) links (chars_of s)
-    (sent_quiet p q A (tell_sends (link_at s p q).a).chars))
+    (sent_none p q A (tell_sends (link_at s p q).a).chars))
 part_fold {s} links same good (Delivers p q n peer none has is) =
     let back = peer_back s.network.links q p good.proper peer in
     subst (WireFold links (chars_of s)) (sym is)
@@ -221,7 +200,7 @@ part_fold {s} links same good (Delivers p q n peer none has is) =
 part_fold {s} links same good (Fires p q peer none silent is) =
     subst (WireFold links (chars_of s)) (sym is)
     (quiet (lines_of p q (time_out_notes A (link_at s p q))) links (chars_of s)
-    (fired_quiet p q (is_silent (link_at s p q))))
+    (fired_none p q (is_silent (link_at s p q))))
 
 pub made_fold : {s : Seen} {lines : List TraceLine} (links : List (PortRef × PortRef))
     → s.network.links ≡ links → IsGood s → Made s lines → WireFold links (chars_of s) lines

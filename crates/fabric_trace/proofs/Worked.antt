@@ -188,11 +188,13 @@ moving_breaks settled = absurd (cc settled.quiet.wire_a)
 
 -- the acceptance is acted on
 pub acted_breaks : Faithful (begins pair) acted_from_nowhere → ⊥
-unfolding run place_after kind spelled is_spelling crc5_value crc5_of crc5_message field_bits bits number division_steps complemented
+unfolding run place_after kind spelled is_spelling crc5_value crc5_of crc5_message field_bits bits
+    number division_steps complemented
 acted_breaks faithful = no_more ((faithful.0 near refl).sent refl) refl refl
 
 pub unsent_breaks : Faithful (begins pair) named_though_sent → ⊥
-unfolding run place_after kind spelled is_spelling crc5_value crc5_of crc5_message field_bits bits number division_steps complemented
+unfolding run place_after kind spelled is_spelling crc5_value crc5_of crc5_message field_bits bits
+    number division_steps complemented
 unsent_breaks faithful =
     (faithful.1.0 near refl).unsent refl (Takes (Ctl (packet_accepted 0 31)) Ends)
 
@@ -237,7 +239,8 @@ twice_breaks known one said =
 -- ---- frees
 
 pub pieces_said : FreesSaid near accepted_in_pieces 0 freed
-unfolding run place_after kind spelled is_spelling crc5_value crc5_of crc5_message field_bits bits number division_steps complemented
+unfolding run place_after kind spelled is_spelling crc5_value crc5_of crc5_message field_bits bits
+    number division_steps complemented
 pieces_said = (
   λ own. record {
     event = Ctl (packet_accepted 0 31);
@@ -258,11 +261,13 @@ unfolding run
 allowed_breaks allowed = let low = allowed.0 refl in omega (arith, low)
 
 pub once_allowed : FreesAllowed near accepted_chars 0 freed
-unfolding run place_after kind spelled is_spelling crc5_value crc5_of crc5_message field_bits bits number division_steps complemented
+unfolding run place_after kind spelled is_spelling crc5_value crc5_of crc5_message field_bits bits
+    number division_steps complemented
 once_allowed = (λ own. omega arith, tt)
 
 pub too_many_breaks : FreesAllowed near accepted_chars 0 freed_twice → ⊥
-unfolding run place_after kind spelled is_spelling crc5_value crc5_of crc5_message field_bits bits number division_steps complemented
+unfolding run place_after kind spelled is_spelling crc5_value crc5_of crc5_message field_bits bits
+    number division_steps complemented
 too_many_breaks allowed = let low = allowed.1.0 refl in omega (arith, low)
 
 -- ---- what is sent, and time-outs
@@ -271,7 +276,8 @@ nothing_there : (packet : List ℕ) → Contains [] packet → ⊥
 nothing_there packet there = let within = there.1 in omega (arith, within)
 
 pub sent_breaks : AreOwned (begins pair) sent_from_nowhere → ⊥
-unfolding run place_after kind spelled is_spelling crc5_value crc5_of crc5_message field_bits bits number division_steps complemented packet_event carried fed shifted shifted_times
+unfolding run place_after kind spelled is_spelling crc5_value crc5_of crc5_message field_bits bits
+    number division_steps complemented packet_event carried fed shifted shifted_times
 sent_breaks owned =
     elim owned.0.1.0 [ inl own ↦ nothing_there packet own | inr own ↦ nothing_there packet own ]
 

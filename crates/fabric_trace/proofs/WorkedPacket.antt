@@ -56,7 +56,10 @@ unfolding with_crc with_more fed shifted shifted_times
 form = LinkForm-made (body_of 0 15 false 2 1 (0xca ∷ 0xfe ∷ 0x00 ∷ 0x01 ∷ [])) body
 
 pub packet_runs : Runs packet_script packet_trace
-unfolding run place_after kind spelled is_spelling crc5_value crc5_of crc5_message field_bits bits number division_steps complemented packet_event carried fed shifted shifted_times with_crc with_more symbol_bytes symbol_chars_of bytes_with_ack packet_chars_of bursts turned highest_below window come sends replies greatest_first
+unfolding run place_after kind spelled is_spelling crc5_value crc5_of crc5_message field_bits bits
+    number division_steps complemented packet_event carried fed shifted shifted_times with_crc
+    with_more symbol_bytes symbol_chars_of bytes_with_ack packet_chars_of bursts turned
+    highest_below window come sends replies greatest_first
 packet_runs = (
   Stepped (AtNode (Take 0 packet)) ∷ [],
   _,
@@ -98,7 +101,10 @@ packet_runs = (
 
 -- a status of the one port, and none of the other
 pub telling_runs : Runs telling_script telling_trace
-unfolding run place_after kind spelled is_spelling crc5_value crc5_of crc5_message field_bits bits number division_steps complemented packet_event carried fed shifted shifted_times with_crc with_more symbol_bytes symbol_chars_of bytes_with_ack packet_chars_of bursts turned highest_below window come sends replies greatest_first
+unfolding run place_after kind spelled is_spelling crc5_value crc5_of crc5_message field_bits bits
+    number division_steps complemented packet_event carried fed shifted shifted_times with_crc
+    with_more symbol_bytes symbol_chars_of bytes_with_ack packet_chars_of bursts turned
+    highest_below window come sends replies greatest_first
 telling_runs = (
   Signed (Sent near status_chars) ∷ [],
   _,

@@ -38,7 +38,8 @@ SettleAll Link (link ∷ links) s lines =
 
 -- A switch makes one step after another, until no packet of it can go.
 pub data ServesAll : Seen → ℕ → List TraceLine → Type 0 where
-  Rests : {s : Seen} {node : ℕ} {lines : List TraceLine} → IsMove s.network node (Lacked NoStep ∷ [])
+  Rests : {s : Seen} {node : ℕ} {lines : List TraceLine}
+      → IsMove s.network node (Lacked NoStep ∷ [])
       → lines ≡ [] → ServesAll s node lines
   Goes : {s : Seen} {node : ℕ} {lines : List TraceLine} (step : DeviceStep) (rest : List TraceLine)
       → IsMove s.network node (Stepped (ByDevice step) ∷ [])

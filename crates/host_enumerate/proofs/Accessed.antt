@@ -5,7 +5,8 @@ use Rattle.std.proofs.lemmas.Option.{slice_get-get_or, slice_get_past, slice_get
 use Rattle.std.proofs.lemmas.Bool.{cases_lt, eqb-true, eqb-false}
 use mathlib.Core.Path.{fun_ext}
 use Rattle.fabric_script.specs.declared.ports.PortRef.{PortRef}
-use Rattle.maint_registers.specs.Devices.{Device, IsDevice, IsSameDevice, is_switch, new_endpoint}
+use Rattle.maint_registers.specs.Devices.{Device, IsDevice, IsSameDevice, new_endpoint}
+use Rattle.maint_registers.proofs.SameLaws.{same_kind}
 use Rattle.fabric_map.specs.Topology.{Topology, IsTopology}
 use Rattle.fabric_map.specs.Routes.{Registers}
 use Rattle.fabric_map.specs.Fitting.{Fits}
@@ -39,10 +40,6 @@ with_device-keeps registers node device keeps other = go (eqb other node) refl
     go true is = subst (λ n. Keeps (registers n) device) (sym (eqb-true other node is)) keeps
     go false is = keeps_itself (registers other)
 
-is_switch-same : (before after : Device) → IsSameDevice before after
-    → is_switch after ≡ is_switch before
-is_switch-same before after same = ap (λ k. is_switch (record before { kind = k })) same.kind
-
 pub fits-with : (topology : Topology) (registers : Registers) (node : ℕ) (device : Device)
     → Fits topology registers → Keeps (registers node) device
     → Fits topology (with_device registers node device)
@@ -52,9 +49,9 @@ fits-with topology registers node device fits keeps = record {
   large_ids = λ other inside. subst (λ n. n < 65536) (sym (kept other).same.large_id)
       (fits.large_ids other inside);
   locks = λ other inside. (kept other).lock (fits.locks other inside);
-  endpoints = λ other inside is. is_switch-same (registers other) (after other) (kept other).same
+  endpoints = λ other inside is. same_kind (registers other) (after other) (kept other).same
       ∙ fits.endpoints other inside is;
-  switches = λ other ports inside is. is_switch-same (registers other) (after other)
+  switches = λ other ports inside is. same_kind (registers other) (after other)
       (kept other).same ∙ fits.switches other ports inside is;
   ports = λ other inside. (kept other).same.ports ∙ fits.ports other inside;
   linked = λ other port inside below. ap (λ l. l / 2 ^ port % 2) (kept other).same.linked
@@ -84,7 +81,7 @@ registers_of-set devices node device inside = fun_ext (λ other. at other (eqb o
         get_or-set_other devices node other device (new_endpoint 0 false)
         (eqb-false other node is)
 
-ports_of_switch-same : (before after : Device) → IsSameDevice before after
+pub ports_of_switch-same : (before after : Device) → IsSameDevice before after
     → ports_of_switch after ≡ ports_of_switch before
 ports_of_switch-same before after same =
     ap (λ k. ports_of_switch (record after { kind = k })) same.kind

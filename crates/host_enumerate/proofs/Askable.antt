@@ -39,30 +39,36 @@ split-onward path front rest more port same =
         let head : port ≡ z = cc in
         inr (on, split ∙ ap (λ n. front ++ n ∷ on) (sym head))
 
+-- a path with fewer than two ports does not go on behind a first one
+pub never_empty : (first : ℕ) (rest : List ℕ) → ¬ ([] ≡ first ∷ rest)
+never_empty first rest same = absurd (cc)
+
+pub never_single : (x first : ℕ) (front rest : List ℕ) (port : ℕ)
+    → ¬ (x ∷ [] ≡ first ∷ front ++ port ∷ rest)
+never_single x first [] rest port same = absurd (cc)
+never_single x first (y ∷ front) rest port same = absurd (cc)
+
 module _ (topology : Topology) (registers : Registers) (host_id : ℕ) where
   -- the empty path passes no switch
   pub opened-empty : IsOpened topology registers host_id []
   opened-empty = record {
-    onwards = λ first front rest port at is enters. absurd (none first (front ++ port ∷ rest) is);
-    home = λ first front rest port at is enters. absurd (none first (front ++ port ∷ rest) is);
-    not_host = λ first front rest port at is enters. absurd (none first (front ++ port ∷ rest) is);
+    onwards = λ first front rest port at is enters. absurd
+        (never_empty first (front ++ port ∷ rest) is);
+    home = λ first front rest port at is enters. absurd
+        (never_empty first (front ++ port ∷ rest) is);
+    not_host = λ first front rest port at is enters. absurd
+        (never_empty first (front ++ port ∷ rest) is);
   }
-    where
-      none : (first : ℕ) (rest : List ℕ) → ¬ ([] ≡ first ∷ rest)
-      none first rest same = absurd (cc)
 
   -- nor does a path of one port
   pub opened-first : (x : ℕ) → IsOpened topology registers host_id (x ∷ [])
   opened-first x = record {
-    onwards = λ first front rest port at is enters. absurd (none first front rest port is);
-    home = λ first front rest port at is enters. absurd (none first front rest port is);
-    not_host = λ first front rest port at is enters. absurd (none first front rest port is);
+    onwards = λ first front rest port at is enters. absurd
+        (never_single x first front rest port is);
+    home = λ first front rest port at is enters. absurd (never_single x first front rest port is);
+    not_host = λ first front rest port at is enters. absurd
+        (never_single x first front rest port is);
   }
-    where
-      none : (first : ℕ) (front rest : List ℕ) (port : ℕ)
-          → ¬ (x ∷ [] ≡ first ∷ front ++ port ∷ rest)
-      none first [] rest port same = absurd (cc)
-      none first (y ∷ front) rest port same = absurd (cc)
 
   -- an open path goes on through a switch that sends by the next port and home
   pub opened-onward : (path : List ℕ) (at : PortRef) (more : ℕ)

@@ -143,5 +143,6 @@ cleared_askable topology now old new host_id below path at is_now askable apart 
           (λ _. ap (λ (d : Device). d.base_id) found.2.same.rest)),
       subst (λ t. IsApart t path at.node) (sym is_now) apart,
       ap is_switch (became old new at.node found.0 found.1)
-          ∙ (is_switch-kind found.0 (old at.node) (ap (λ (d : Device). d.kind) found.2.same.rest) ∙ is),
+          ∙ (is_switch-kind found.0 (old at.node) (ap (λ (d : Device). d.kind) found.2.same.rest)
+          ∙ is),
     )

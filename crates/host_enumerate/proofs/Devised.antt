@@ -190,7 +190,10 @@ module _ (known : Known) (new : List ℕ) (devices : List Device) (stage : Stage
 
   -- a new node behind the others
   few_longer : (name : List ℕ) → length known.names < 64 → length (known.names ++ name ∷ []) ≤ 64
-  few_longer name less = let more = length-append known.names (name ∷ []) in omega (arith, less, more)
+  few_longer name less =
+      let more = length-append known.names (name ∷ [])
+      in
+      omega (arith, less, more)
 
   ends_longer : (node : Node) (later : Known) → later.nodes ≡ known.nodes ++ node ∷ []
       → later.links ≡ known.links → (p q : PortRef) → peer_in later.links p ≡ Some q

@@ -138,4 +138,5 @@ entry-left topology old mid new path at id port id_value port_value one two lead
     entry-set old mid new at.node id port id_value port_value is_id is_port id_fits port_fits first
     (two at (record (mid at.node) {
       routes = slice_set (mid at.node).routes (mid at.node).select (port_value % 0x100);
-    }) leads (entry-written (mid at.node) port_value (still_switch old mid at.node id_value is first)))
+    }) leads (entry-written (mid at.node) port_value
+    (still_switch old mid at.node id_value is first)))

@@ -99,114 +99,117 @@ module _ (topology : Topology) (host_id port : ℕ) (switch : Found)
     (behind : (before : Registers)
     → IsUnderway one before now one_id devices next (onward switch.path port)
     → IsUnderwayBehind one before looked one_id devices_looked next_looked switch.path port answer)
-    (is_found : IsFoundBehind one looked one_id devices devices_looked switch.path port answer) where
-  known : IsFoundBehind topology looked host_id devices devices_looked switch.path port answer
-  known =
-      subst (λ n. IsFoundBehind topology looked n devices devices_looked switch.path port answer)
-      is_id
-      (subst (λ t. IsFoundBehind t looked one_id devices devices_looked switch.path port answer)
-      is_one is_found)
+    (is_found : IsFoundBehind one looked one_id devices devices_looked switch.path port answer)
+  where
+    known : IsFoundBehind topology looked host_id devices devices_looked switch.path port answer
+    known =
+        subst (λ n. IsFoundBehind topology looked n devices devices_looked switch.path port answer)
+        is_id
+        (subst (λ t. IsFoundBehind t looked one_id devices devices_looked switch.path port answer)
+        is_one is_found)
 
-  behind_here : (before : Registers)
-      → IsUnderway topology before now host_id devices next (onward switch.path port)
-      → IsUnderwayBehind topology before looked host_id devices_looked next_looked switch.path port
-      answer
-  behind_here before underway =
-      subst (λ n. IsUnderwayBehind topology before looked n devices_looked next_looked switch.path
-      port answer) is_id
-      (subst (λ t. IsUnderwayBehind t before looked one_id devices_looked next_looked switch.path
-      port answer) is_one
-      (behind before (underway-as topology one before now host_id one_id next devices
-      (onward switch.path port) is_one is_id underway)))
+    behind_here : (before : Registers)
+        → IsUnderway topology before now host_id devices next (onward switch.path port)
+        → IsUnderwayBehind topology before looked host_id devices_looked next_looked switch.path
+        port
+        answer
+    behind_here before underway =
+        subst (λ n. IsUnderwayBehind topology before looked n devices_looked next_looked switch.path
+        port answer) is_id
+        (subst (λ t. IsUnderwayBehind t before looked one_id devices_looked next_looked switch.path
+        port answer) is_one
+        (behind before (underway-as topology one before now host_id one_id next devices
+        (onward switch.path port) is_one is_id underway)))
 
-  -- nothing new is behind the port
-  pub found_past : answer ≡ None → IsFound topology looked host_id devices_looked switch
-  found_past is =
-      let facts = subst (λ a. IsFoundBehind topology looked host_id devices devices_looked
-      switch.path port a) is known in
-      found_later topology now looked host_id devices devices_looked switch found facts.0 facts.1
+    -- nothing new is behind the port
+    pub found_past : answer ≡ None → IsFound topology looked host_id devices_looked switch
+    found_past is =
+        let facts = subst (λ a. IsFoundBehind topology looked host_id devices devices_looked
+        switch.path port a) is known in
+        found_later topology now looked host_id devices devices_looked switch found facts.0 facts.1
 
-  pub underway_past : answer ≡ None → (before : Registers)
-      → IsUnderway topology before now host_id devices next (onward switch.path port)
-      → IsUnderway topology before looked host_id devices_looked next_looked
-      (onward switch.path (port + 1))
-  underway_past is before underway =
-      subst (λ a. IsUnderwayBehind topology before looked host_id devices_looked next_looked
-      switch.path port a) is (behind_here before underway)
-
-  -- a switch is
-  module _ (child : Found) (is : answer ≡ Some child) where
-    facts : IsFound topology looked host_id devices_looked child
-        × (child.path ≡ onward switch.path port) × (length devices < length devices_looked)
-    facts = subst (λ a. IsFoundBehind topology looked host_id devices devices_looked
-        switch.path port a) is known
-
-    pub child_found : IsFound topology looked host_id devices_looked child
-    child_found = facts.0
-
-    pub child_more : length devices < length devices_looked
-    child_more = facts.2
-
-    pub child_underway : (before : Registers)
+    pub underway_past : answer ≡ None → (before : Registers)
         → IsUnderway topology before now host_id devices next (onward switch.path port)
         → IsUnderway topology before looked host_id devices_looked next_looked
-        (onward child.path 0)
-    child_underway before underway =
+        (onward switch.path (port + 1))
+    underway_past is before underway =
         subst (λ a. IsUnderwayBehind topology before looked host_id devices_looked next_looked
         switch.path port a) is (behind_here before underway)
 
-    pub child_few : (before : Registers)
-        → IsUnderway topology before now host_id devices next (onward switch.path port)
-        → length devices_looked ≤ 64
-    child_few before underway =
-        most topology before looked host_id next_looked devices_looked (onward child.path 0)
-        (child_underway before underway)
+    -- a switch is
+    module _ (child : Found) (is : answer ≡ Some child) where
+      facts : IsFound topology looked host_id devices_looked child
+          × (child.path ≡ onward switch.path port) × (length devices < length devices_looked)
+      facts = subst (λ a. IsFoundBehind topology looked host_id devices devices_looked
+          switch.path port a) is known
 
-    -- and its ports were tried
-    module _ (two : Topology) (two_id : ℕ) (is_two : two ≡ topology) (is_two_id : two_id ≡ host_id)
-        (after : Registers) (devices_after : List Device) (next_after : ℕ)
-        (explored : (before : Registers)
-        → IsUnderway two before looked two_id devices_looked next_looked (onward child.path 0)
-        → IsUnderway two before after two_id devices_after next_after
-        (onward child.path child.ports))
-        (found_after : IsFound two after two_id devices_after child) where
-      child_after : IsFound topology after host_id devices_after child
-      child_after = found-as two topology after two_id host_id devices_after child (sym is_two)
-          (sym is_two_id) found_after
+      pub child_found : IsFound topology looked host_id devices_looked child
+      child_found = facts.0
 
-      explored_here : (before : Registers)
+      pub child_more : length devices < length devices_looked
+      child_more = facts.2
+
+      pub child_underway : (before : Registers)
           → IsUnderway topology before now host_id devices next (onward switch.path port)
-          → IsUnderway topology before after host_id devices_after next_after
-          (onward child.path child.ports)
-      explored_here before underway =
-          underway-from topology two before after host_id two_id next_after devices_after
-          (onward child.path child.ports) is_two is_two_id
-          (explored before (underway-as topology two before looked host_id two_id next_looked
-          devices_looked (onward child.path 0) is_two is_two_id
-          (child_underway before underway)))
+          → IsUnderway topology before looked host_id devices_looked next_looked
+          (onward child.path 0)
+      child_underway before underway =
+          subst (λ a. IsUnderwayBehind topology before looked host_id devices_looked next_looked
+          switch.path port a) is (behind_here before underway)
 
-      pub underway_back : (before : Registers)
+      pub child_few : (before : Registers)
           → IsUnderway topology before now host_id devices next (onward switch.path port)
-          → IsUnderway topology before after host_id devices_after next_after
-          (onward switch.path (port + 1))
-      underway_back before underway =
-          let done = explored_here before underway in
-          underway-closed topology before after host_id next_after devices_after switch.path
-          child_after.at port child.ports
-          (subst (λ l. IsUnderway topology before after host_id devices_after next_after
-          (onward l child.ports)) facts.1 done)
-          (ap (λ l. entered topology l) (sym facts.1) ∙ child_after.leads)
-          (followed-ports topology child_after.at.node child.ports
-          (apart_from_host topology child_after.at.node child.ports
-          done.proper.host_is_endpoint child_after.switch) child_after.switch)
+          → length devices_looked ≤ 64
+      child_few before underway =
+          most topology before looked host_id next_looked devices_looked (onward child.path 0)
+          (child_underway before underway)
 
-      pub found_back : (before : Registers)
-          → IsUnderway topology before now host_id devices next (onward switch.path port)
-          → IsFound topology after host_id devices_after switch
-      found_back before underway =
-          let done = explored_here before underway in
-          found_later topology now after host_id devices devices_after switch found
-          (opened-front topology after host_id switch.path (port ∷ [])
-          (subst (λ l. IsOpened topology after host_id l) facts.1 child_after.opened))
-          (done.walked.fronts switch.path port
-          (subst (λ l. Contains (paths_of devices_after) l) facts.1 child_after.listed))
+      -- and its ports were tried
+      module _ (two : Topology) (two_id : ℕ) (is_two : two ≡ topology)
+          (is_two_id : two_id ≡ host_id)
+          (after : Registers) (devices_after : List Device) (next_after : ℕ)
+          (explored : (before : Registers)
+          → IsUnderway two before looked two_id devices_looked next_looked (onward child.path 0)
+          → IsUnderway two before after two_id devices_after next_after
+          (onward child.path child.ports))
+          (found_after : IsFound two after two_id devices_after child) where
+        child_after : IsFound topology after host_id devices_after child
+        child_after = found-as two topology after two_id host_id devices_after child (sym is_two)
+            (sym is_two_id) found_after
+
+        explored_here : (before : Registers)
+            → IsUnderway topology before now host_id devices next (onward switch.path port)
+            → IsUnderway topology before after host_id devices_after next_after
+            (onward child.path child.ports)
+        explored_here before underway =
+            underway-from topology two before after host_id two_id next_after devices_after
+            (onward child.path child.ports) is_two is_two_id
+            (explored before (underway-as topology two before looked host_id two_id next_looked
+            devices_looked (onward child.path 0) is_two is_two_id
+            (child_underway before underway)))
+
+        pub underway_back : (before : Registers)
+            → IsUnderway topology before now host_id devices next (onward switch.path port)
+            → IsUnderway topology before after host_id devices_after next_after
+            (onward switch.path (port + 1))
+        underway_back before underway =
+            let done = explored_here before underway in
+            underway-closed topology before after host_id next_after devices_after switch.path
+            child_after.at port child.ports
+            (subst (λ l. IsUnderway topology before after host_id devices_after next_after
+            (onward l child.ports)) facts.1 done)
+            (ap (λ l. entered topology l) (sym facts.1) ∙ child_after.leads)
+            (followed-ports topology child_after.at.node child.ports
+            (apart_from_host topology child_after.at.node child.ports
+            done.proper.host_is_endpoint child_after.switch) child_after.switch)
+
+        pub found_back : (before : Registers)
+            → IsUnderway topology before now host_id devices next (onward switch.path port)
+            → IsFound topology after host_id devices_after switch
+        found_back before underway =
+            let done = explored_here before underway in
+            found_later topology now after host_id devices devices_after switch found
+            (opened-front topology after host_id switch.path (port ∷ [])
+            (subst (λ l. IsOpened topology after host_id l) facts.1 child_after.opened))
+            (done.walked.fronts switch.path port
+            (subst (λ l. Contains (paths_of devices_after) l) facts.1 child_after.listed))

@@ -33,6 +33,5 @@ mod Numbering
 pub mod NewDevices
 pub mod Devised
 pub mod NewFabrics
-mod Changed
 pub mod LinesLeft
 pub mod HostLaws

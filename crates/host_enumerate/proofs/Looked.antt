@@ -150,7 +150,8 @@ module _ (topology later_topology : Topology) (now mid later : Registers) (host_
     endpoint_looked is_kind id is is_endpoint before underway =
         let known = some_tried is_kind is before underway in
         endpoint_passed topology now host_id next devices switch port found some mid later link.0
-        same becomes link.1 below apart after devices_after next_after is_kind known.0 opened_here id
+        same becomes link.1 below apart after devices_after next_after is_kind known.0 opened_here
+        id
         is_endpoint before known.1
 
     pub some_found : (is_kind : Kind) → kind ≡ Some is_kind
@@ -180,9 +181,11 @@ module _ (topology later_topology : Topology) (now mid later : Registers) (host_
         let known = some_tried is_kind is some.0 some.1 in (
           subst (λ l. IsFound topology after host_id devices_after
               record { path = l; ports = ports; entry = entry }) (sym is_path)
-              (switch_found topology now host_id next devices switch port found some mid later link.0
+              (switch_found topology now host_id next devices switch port found some mid later
+              link.0
               same becomes link.1 below apart after devices_after next_after is_kind known.0
-              opened_here ports entry is_switch some.0 (onward (onward switch.path port) 0) known.1),
+              opened_here ports entry is_switch some.0 (onward (onward switch.path port) 0)
+              known.1),
           is_path,
           some_more is_kind is,
         )

@@ -10,7 +10,7 @@ use Rattle.fabric_map.specs.declared.map.Kind.{Kind}
 use Rattle.fabric_map.specs.declared.map.Kind.TheVariants.{Endpoint, Switch}
 use Rattle.fabric_map.specs.declared.map.Device.{Device}
 use Rattle.fabric_map.specs.Topology.{Topology, port_at, entered, node_at}
-use Rattle.fabric_map.specs.Walked.{Before, onward, IsMet}
+use Rattle.fabric_map.specs.Walked.{onward, IsMet}
 use Rattle.fabric_map.specs.Routes.{Registers}
 use Rattle.fabric_map.specs.Fitting.{Fits}
 use Rattle.fabric_map.specs.Ways.{IsOpened}
@@ -19,6 +19,7 @@ use Rattle.fabric_map.proofs.Order.{onward-not_empty}
 use Rattle.fabric_map.proofs.Leading.{some_from_same}
 use Rattle.fabric_map.proofs.Few.{entered-inside}
 use Rattle.fabric_map.proofs.Growing.{path_listed, device_on, described-listed, described-switch, described-endpoint, node_at-entered}
+use Rattle.fabric_map.proofs.Steps.{empty-before}
 use Rattle.host_enumerate.specs.declared.walk.Found.{Found}
 use Rattle.host_enumerate.specs.Asking.{IsAskable, IsApart, AreSame, Becomes}
 use Rattle.host_enumerate.specs.Setting.{with_entry}
@@ -32,10 +33,6 @@ use Rattle.host_enumerate.proofs.Stepping.{entered-linked, followed-ports, follo
 use Rattle.host_enumerate.proofs.Askable.{opened-onward, apart-listed, not_host-next}
 use Rattle.host_enumerate.proofs.Keeping.{next-with_entry, underway-same, underway-255, next-home}
 use Rattle.host_enumerate.proofs.Asked.{most, askable-listed, askable-next}
-
-before_onward : (path : List ℕ) (port : ℕ) → Before [] (onward path port)
-before_onward [] port = tt
-before_onward (x ∷ path) port = tt
 
 -- a switch is listed as one
 switch_at : (topology : Topology) (host_id n : ℕ) (earlier : List Device) (member : Device)
@@ -75,7 +72,7 @@ module _ (topology : Topology) (now : Registers) (host_id next : ℕ) (devices :
   found_askable =
       subst (λ l. IsAskable topology now host_id l found.at) member.2
       (askable-listed topology some.0 now host_id next devices (onward switch.path port) underway
-      member.0 found.at (before_onward switch.path port) member.1
+      member.0 found.at (empty-before switch.path port) member.1
       (subst (λ l. IsOpened topology now host_id l) (sym member.2) found.opened)
       (ap (λ l. entered topology l) member.2 ∙ found.leads))
 
@@ -239,7 +236,7 @@ module _ (topology : Topology) (now : Registers) (host_id next : ℕ) (devices :
         (sends_on fits) (sends_home fits_later) not_host)
         behind_enters
         (not_host-next topology (paths_of devices) (onward switch.path port) underway.walked
-        switch.path found.at end port underway.proper (before_onward switch.path port) found.listed
+        switch.path found.at end port underway.proper (empty-before switch.path port) found.listed
         found.leads (λ _ is. apart (is ∙ sym found.entry)) behind_enters)
 
     -- what is behind it was met
@@ -288,7 +285,7 @@ module _ (topology : Topology) (now : Registers) (host_id next : ℕ) (devices :
           other p enters = subst (λ (q : PortRef). q.node ≢ topology.host)
               (same_Some end p (sym behind_enters ∙ enters))
               (not_host-next topology (paths_of devices) (onward switch.path port) underway.walked
-              switch.path found.at end port underway.proper (before_onward switch.path port)
+              switch.path found.at end port underway.proper (empty-before switch.path port)
               found.listed found.leads (λ _ is. apart (is ∙ sym found.entry)) behind_enters)
 
       pub path_still : (before : Registers) (bound : List ℕ)

@@ -1,4 +1,5 @@
--- Devices of a fabric that is set up: what they are, and what stays of it when one of them is changed.
+-- Devices of a fabric that is set up: what they are, and what stays of it when one of them is
+-- changed.
 use Rattle.std.proofs.Common.{◌≡◌, ◌≢◌, ℕ, zero, suc, ◌/◌, ◌%◌, ◌^◌, ◌<◌, ◌≤◌, ◌||◌, Bool, true, false, List, [], ◌∷◌, ◌++◌, map, length, length-set, slice_get, Option, Some, None, option_map, if◌then◌else◌, arith, ◌⊎◌, inl, inr, refl, sym, ap, subst, ◌∙◌}
 use Rattle.std.proofs.Math.Nat.{zero-div}
 use Rattle.std.proofs.lemmas.Bool.{cases_eq, cases_Bool}
@@ -72,6 +73,18 @@ new_switch_is linked node ports most none = record {
   shown = λ port less. rw (none port) (bit_none port);
 }
 
+-- its links, its lock and its default port may be any
+stays_device : (held : Device) (links lock port : ℕ) → IsDevice held
+    → IsDevice (record held { linked = links; lock = lock; default_port = port })
+stays_device held links lock port is = record {
+  most_ports = is.most_ports;
+  endpoint_ports = is.endpoint_ports;
+  switch_id = is.switch_id;
+  switch_large = is.switch_large;
+  destinations = is.destinations;
+  selected = is.selected;
+}
+
 module _ (linked : PortRef → Bool) (node : ℕ) (held : Device) (is : IsNew linked node held) where
   pub routed_is : (id port : ℕ) → IsNew linked node (routed id port held)
   routed_is id port = record {
@@ -92,14 +105,7 @@ module _ (linked : PortRef → Bool) (node : ℕ) (held : Device) (is : IsNew li
 
   pub defaulted_is : (port : ℕ) → IsNew linked node (defaulted port held)
   defaulted_is port = record {
-    device = record {
-      most_ports = is.device.most_ports;
-      endpoint_ports = is.device.endpoint_ports;
-      switch_id = is.device.switch_id;
-      switch_large = is.device.switch_large;
-      destinations = is.device.destinations;
-      selected = is.device.selected;
-    };
+    device = stays_device held held.linked held.lock port is.device;
     id = is.id;
     large_id = is.large_id;
     lock = is.lock;
@@ -109,14 +115,7 @@ module _ (linked : PortRef → Bool) (node : ℕ) (held : Device) (is : IsNew li
 
   pub held_by_is : (id : ℕ) → id < 65536 → IsNew linked node (held_by id held)
   held_by_is id below = record {
-    device = record {
-      most_ports = is.device.most_ports;
-      endpoint_ports = is.device.endpoint_ports;
-      switch_id = is.device.switch_id;
-      switch_large = is.device.switch_large;
-      destinations = is.device.destinations;
-      selected = is.device.selected;
-    };
+    device = stays_device held held.linked id held.default_port is.device;
     id = is.id;
     large_id = is.large_id;
     lock = below;
@@ -171,14 +170,8 @@ also_other linked a p apart = go (cases_Bool (same_port a p))
 linked_at_is : (linked : PortRef → Bool) (a : PortRef) (held : Device)
     → IsNew linked a.node held → IsNew (also linked a) a.node (linked_at a.port held)
 linked_at_is linked a held is = record {
-  device = record {
-    most_ports = is.device.most_ports;
-    endpoint_ports = is.device.endpoint_ports;
-    switch_id = is.device.switch_id;
-    switch_large = is.device.switch_large;
-    destinations = is.device.destinations;
-    selected = is.device.selected;
-  };
+  device = stays_device held (with_link held.linked a.port) held.lock held.default_port
+      is.device;
   id = is.id;
   large_id = is.large_id;
   lock = is.lock;
@@ -198,7 +191,8 @@ linked_at_is linked a held is = record {
         bit_others held.linked a.port port apart
         ∙ (is.shown port less
         ∙ sym (ap (λ b. if b then 1 else 0)
-        (also_other linked a (port_at a.node port) (λ same. apart (ap (λ (p : PortRef). p.port) same)))))
+        (also_other linked a (port_at a.node port)
+        (λ same. apart (ap (λ (p : PortRef). p.port) same)))))
 
 also_elsewhere : (linked : PortRef → Bool) (a : PortRef) (node : ℕ) (held : Device) → node ≢ a.node
     → IsNew linked node held → IsNew (also linked a) node held

@@ -114,7 +114,8 @@ pub same_after_read : (old new : Registers) (at : PortRef) (offset : ℕ)
 same_after_read old new at offset becomes node = becomes node ∙ go (node == at.node) refl
   where
     go : (is : Bool) → (node == at.node) ≡ is
-        → (if is then (answered (old at.node) at.port (Read offset)).device else old node) ≡ old node
+        → (if is then (answered (old at.node) at.port (Read offset)).device else old node)
+        ≡ old node
     go true is =
         after_read_stays (old at.node) (value_at (old at.node) offset at.port)
         ∙ ap old (sym (eqb-true node at.node is))

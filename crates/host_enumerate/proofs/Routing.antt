@@ -44,11 +44,13 @@ pub opened-front : (topology : Topology) (registers : Registers) (host_id : ℕ)
     → IsOpened topology registers host_id front
 opened-front topology registers host_id front rest opened = record {
   onwards = λ first before later port at is enters.
-      opened.onwards first before (later ++ rest) port at (longer first before later port is) enters;
+      opened.onwards first before (later ++ rest) port at (longer first before later port is)
+      enters;
   home = λ first before later port at is enters.
       opened.home first before (later ++ rest) port at (longer first before later port is) enters;
   not_host = λ first before later port at is enters.
-      opened.not_host first before (later ++ rest) port at (longer first before later port is) enters;
+      opened.not_host first before (later ++ rest) port at (longer first before later port is)
+      enters;
 }
   where
     longer : (first : ℕ) (before later : List ℕ) (port : ℕ)

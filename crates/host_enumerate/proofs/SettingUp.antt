@@ -36,7 +36,8 @@ informed topology registers path at information proper fits enters is told =
     many = (fits.devices at.node (entered-inside topology path at proper enters)).most_ports
 
     few : at.port < 256
-    few = omega (arith, (entered-port topology path at proper enters).port, proper.most_ports at.node)
+    few = omega
+        (arith, (entered-port topology path at proper enters).port, proper.most_ports at.node)
 
 -- what is known of the switch while it is set up
 pub record IsStage (topology now : Topology) (old new : Registers) (at : PortRef)

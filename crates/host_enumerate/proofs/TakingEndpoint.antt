@@ -197,7 +197,8 @@ module _ (topology : Topology) (before now mid after : Registers) (host_id next 
       not_empty p same = absurd (cc)
 
   -- a device that is not passed stays
-  unpassed : (node : ℕ) → node ≢ at.node → ((port : ℕ) → ¬ Passes topology (first ∷ []) rest node port)
+  unpassed : (node : ℕ) → node ≢ at.node
+      → ((port : ℕ) → ¬ Passes topology (first ∷ []) rest node port)
       → after node ≡ now node
   unpassed node apart none = routed.others node none ∙ beside node apart
 
@@ -282,7 +283,8 @@ module _ (topology : Topology) (before now mid after : Registers) (host_id next 
           stays (none leads) (held-beside host_id devices endpoint member (before node) (now node)
           held id refl least.free leads)
       go [] (Some port) is leads =
-          stays (host_path is) (held-endpoint host_id devices endpoint member (before node) (now node)
+          stays (host_path is)
+          (held-endpoint host_id devices endpoint member (before node) (now node)
           held (host_kind is))
         where
           host_kind : member.path ≡ [] → (given : ℕ) × (member.kind ≡ Endpoint given)

@@ -32,7 +32,8 @@ module _ (topology : Topology) (now : Registers) (host_id next : ℕ) (devices :
   pub apart_takable : IsTakable host_id (now at.node) → IsApart topology path at.node
   apart_takable takable =
       apart_unmet topology some.0 now host_id next devices path at some.1 is_next askable
-      (unmet_takable topology some.0 now host_id next devices path at some.1 is_next askable takable)
+      (unmet_takable topology some.0 now host_id next devices path at some.1 is_next askable
+      takable)
 
   pub apart_free : (now at.node).lock ≡ 0xffff → IsApart topology path at.node
   apart_free free = apart_takable (inl free)
@@ -103,7 +104,8 @@ module _ (topology : Topology) (now : Registers) (host_id next : ℕ) (devices :
       refl,
       refl,
       underway-same topology before now host_id next devices path underway after met.2,
-      met-tagged topology before now host_id next devices path underway at askable.leads met.0 met.1,
+      met-tagged topology before now host_id next devices path underway at askable.leads met.0
+          met.1,
     )
 
     pub met_opened : IsOpened topology after host_id path

@@ -171,18 +171,19 @@ module _ (topology : Topology) (before now : Registers) (host_id next : ℕ)
         → IsUnderway topology before after host_id
         (devices ++ met_as devices (Switch ports entry) path ∷ []) next_after (onward path 0)
         × IsOpened topology after host_id path
-    switch_tried ports entry is_kind (is, is_ports, is_entry, is_next_id, (held, becomes, set_up)) = (
-      subst (λ n. IsUnderway topology before after host_id
-          (devices ++ met_as devices (Switch ports entry) path ∷ []) n (onward path 0))
-          (sym is_next_id)
-          (subst (λ n. IsUnderway topology before after host_id
-          (devices ++ met_as devices (Switch n entry) path ∷ []) next (onward path 0))
-          (sym is_ports)
-          (subst (λ n. IsUnderway topology before after host_id
-          (devices ++ met_as devices (Switch (mid at.node).ports n) path ∷ []) next
-          (onward path 0)) (sym is_entry) on)),
-      opened-apart topology mid after host_id at.node held path opened_mid becomes apart,
-    )
+    switch_tried ports entry is_kind
+        (is, is_ports, is_entry, is_next_id, (held, becomes, set_up)) = (
+          subst (λ n. IsUnderway topology before after host_id
+              (devices ++ met_as devices (Switch ports entry) path ∷ []) n (onward path 0))
+              (sym is_next_id)
+              (subst (λ n. IsUnderway topology before after host_id
+              (devices ++ met_as devices (Switch n entry) path ∷ []) next (onward path 0))
+              (sym is_ports)
+              (subst (λ n. IsUnderway topology before after host_id
+              (devices ++ met_as devices (Switch (mid at.node).ports n) path ∷ []) next
+              (onward path 0)) (sym is_entry) on)),
+          opened-apart topology mid after host_id at.node held path opened_mid becomes apart,
+        )
       where
         on : IsUnderway topology before after host_id
             (devices ++ met_as devices (Switch (mid at.node).ports at.port) path ∷ []) next
@@ -328,7 +329,8 @@ module _ (topology : Topology) (before now : Registers) (host_id next : ℕ)
                 × IsOpened topology after host_id path
             by_path [] empty = host_tried id empty (given.0 empty)
             by_path (first ∷ rest) same =
-                endpoint_tried id first rest same kind_is (given.1 (λ empty. not_empty (sym empty ∙ same)))
+                endpoint_tried id first rest same kind_is
+                (given.1 (λ empty. not_empty (sym empty ∙ same)))
               where
                 not_empty : [] ≡ first ∷ rest → ⊥
                 not_empty same = absurd (cc)

@@ -20,7 +20,8 @@ end_of maint.WriteFault = WriteFault
 end_of maint.NoMemory = NoMemory
 
 -- The walk ends at the first device with the lock of another host, which is on this path and has
--- this lock. Devices that were met before keep the host's lock, and all others, the locked one among
+-- this lock. Devices that were met before keep the host's lock, and all others, the locked one
+-- among
 -- them, are as before. `before` and `after` are the registers of all devices.
 pub record EndsAtLock (topology : Topology) (before after : Registers) (path : List ℕ)
     (id : ℕ) : Type 0 where

@@ -10,6 +10,7 @@ use Rattle.fabric_model.specs.Network.{Item}
 use Rattle.fabric_model.specs.Laws.History.{Left, ended_by, taken_by, taken, gone, WasTaken}
 use Rattle.fabric_model.specs.Laws.Holding.{how_often}
 use Rattle.fabric_model.specs.Laws.Leaving.{IsAfterMoves, moves}
+use Rattle.fabric_model.proofs.Boards.{all-parts}
 use Rattle.fabric_trace.specs.Lines.{steps_of}
 use Rattle.fabric_trace.specs.Runs.{start, set_up_all, bare}
 use Rattle.fabric_trace.proofs.Starting.{lawful}
@@ -23,7 +24,7 @@ use Rattle.io_law.specs.Telling.{Told, Came, told, told_by, and_told}
 use Rattle.io_law.specs.Items.{asked, asked_by, network_at, came, IsSentBy}
 use Rattle.io_law.specs.Laws.{DonesAnswerRequests}
 use Rattle.io_law.specs.Replies.{number_of, Arrival, Served, arrived_by, arrived, served_by, served_at, reply_to, Sent, sent_by, sent_at, IsServed, IsReplyTo}
-use Rattle.io_law.proofs.Arriving.{all_parts, same_after}
+use Rattle.io_law.proofs.Arriving.{same_after}
 use Rattle.io_law.proofs.Dones.{IsAReply, all_replied, arrived_came, DoneBy, done_by}
 use Rattle.io_law.proofs.Fit.{fit_comes, first_fit}
 use Rattle.io_law.proofs.Items.{one_line_each}
@@ -160,7 +161,7 @@ module _ {names : List (List ℕ)} {script : List Numbered} {io : List NumberedI
       let P = λ (x : Item). IsAfterMoves x.taken (how_often x.number (moves net steps)) x.now
       × WasTaken net steps x in
       let mine = (subst (AllByRecursion P) (goes_gone goes own_before ∙ leaves)
-      (all_parts P (gone net (steps_of before.trace))
+      (all-parts P (gone net (steps_of before.trace))
       (gone (network_at script before) (steps_of (added goes)))
       (subst (AllByRecursion P) (gathered_goes (ended_by Left) goes)
       shown.unchanged.same)).1).0 in

@@ -9,7 +9,7 @@ use Rattle.fabric_model.specs.Network.{Item}
 use Rattle.fabric_model.specs.Laws.History.{Left, ended_by, gone, WasTaken}
 use Rattle.fabric_model.specs.Laws.Holding.{how_often}
 use Rattle.fabric_model.specs.Laws.Leaving.{IsAfterMoves, AsItWas, OnceMore, moves}
-use Rattle.fabric_model.proofs.Boards.{all-append, all_weaker}
+use Rattle.fabric_model.proofs.Boards.{all-append, all_weaker, all-parts}
 use Rattle.fabric_trace.specs.Fold.{seen}
 use Rattle.fabric_trace.specs.Lines.{steps_of}
 use Rattle.fabric_trace.specs.Runs.{start, set_up_all, bare}
@@ -87,12 +87,6 @@ packets_come (Goes before comes goes) set_up none =
 
 -- ---- what holds of all that left holds of all that came
 
-pub all_parts : {X : Type 0} (P : X → Type 0) (xs ys : List X) → AllByRecursion P (xs ++ ys)
-    → AllByRecursion P xs × AllByRecursion P ys
-all_parts P [] ys all = (tt, all)
-all_parts P (x ∷ xs) ys all =
-    let rest = all_parts P xs ys all.1 in ((all.0, rest.0), rest.1)
-
 all_act : (P : Item → Type 0) (task : IoTask) (what : Happened) (items : List Item)
     → AllByRecursion P items → AllByRecursion P (came_behind task what items)
 all_act P (Take node) (Answers.Left packet) items all = all
@@ -120,7 +114,7 @@ pub all_come : {names : List (List ℕ)} {script : List Numbered} {first s : IoS
     → AllByRecursion P (came comes)
 all_come P (Here is) all = tt
 all_come {names} {script} {first} {s} P (Goes before comes goes) all =
-    let parts = all_parts P (gone (start script).network (steps_of before.trace))
+    let parts = all-parts P (gone (start script).network (steps_of before.trace))
     (gone (network_at script before) (steps_of (added goes)))
     (subst (AllByRecursion P) (gathered_goes (ended_by Left) goes) all) in
     all-append P (came comes) (came_by goes) (all_come P comes parts.0)

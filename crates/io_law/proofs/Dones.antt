@@ -16,7 +16,6 @@ use Rattle.fabric_trace.specs.Runs.{start}
 use Rattle.fabric_ports.specs.Events.{happened}
 use Rattle.fabric_ports.specs.declared.answers.Happened.{Happened}
 use Rattle.fabric_ports.specs.declared.answers.Happened.TheVariants as Answers
-use Rattle.io_memory.specs.declared.meeting.Met.{Met}
 use Rattle.io_memory.specs.declared.meeting.Met.TheVariants.{Done}
 use Rattle.io_script.specs.declared.lines.NumberedIo.{NumberedIo}
 use Rattle.io_rounds.specs.Stations.{memory_of, met_by}
@@ -34,6 +33,7 @@ use Rattle.io_law.proofs.Sending.{last_none}
 use Rattle.io_law.proofs.Taking.{goes_taken}
 use Rattle.io_law.proofs.Tracing.{added, trace_goes, event_legal, sent_comes, fit_set_up, gathered_goes}
 use Rattle.io_law.proofs.Turning.{IsAsked, goes_asked}
+use Rattle.io_law.proofs.ReadLaws.{came_node, came_met}
 
 -- ---- each response that is taken is a reply of a node
 
@@ -202,12 +202,6 @@ record IsDoneEvent (s : IoState) (task : IoTask) (what : Happened) (node tid sta
   pub task_is : task ≡ Take node
   pub what_is : what ≡ Answers.Left packet
   pub met : met_by (memory_of s.stations node) packet ≡ Done tid status load
-
-came_node : {a b : ℕ} {x y : Met} → Some (Came a x) ≡ Some (Came b y) → a ≡ b
-came_node is = cc
-
-came_met : {a b : ℕ} {x y : Met} → Some (Came a x) ≡ Some (Came b y) → x ≡ y
-came_met is = cc
 
 done_event : (s : IoState) (task : IoTask) (what : Happened) (node tid status : ℕ)
     (load : Option (List ℕ)) → told_behind s task what ≡ Some (Came node (Done tid status load))

@@ -331,19 +331,20 @@ pub fit_comes : {names : List (List ℕ)} {script : List Numbered} {first s : Io
 fit_comes (Here is) fit = subst IsFit (sym is) fit
 fit_comes (Goes before comes goes) fit = fit_goes goes (fit_comes comes fit)
 
+-- a station at first keeps nothing
+pub new_none : (count n : ℕ) → kept_of_node (replicate count new_station) n ≡ None
+new_none zero zero = refl
+new_none zero (suc n) = refl
+new_none (suc count) zero = refl
+new_none (suc count) (suc n) = new_none count n
+
 pub first_fit : (names : List (List ℕ)) (io : List NumberedIo) → IsFit (first_state names io)
 first_fit names io = record {
   tasks = tasks_fit _ _ (lines io);
-  kept = λ n. subst (KeptFit n) (sym (none (length names) n)) tt;
+  kept = λ n. subst (KeptFit n) (sym (new_none (length names) n)) tt;
 }
   where
     lines : (io : List NumberedIo)
         → AllByRecursion RestFit (map (λ (line : NumberedIo). Carry line.io) io ++ Finish ∷ [])
     lines [] = (tt, tt)
     lines (line ∷ io) = (tt, lines io)
-
-    none : (count n : ℕ) → kept_of_node (replicate count new_station) n ≡ None
-    none zero zero = refl
-    none zero (suc n) = refl
-    none (suc count) zero = refl
-    none (suc count) (suc n) = none count n

@@ -6,15 +6,13 @@ use Rattle.std.proofs.Math.Seq.{map-set_same}
 use Rattle.std.proofs.lemmas.Bool.{eqb-true, eqb-false}
 use Rattle.std.proofs.lemmas.List.{get_or-set_same, get_or-set_other}
 use Rattle.rio_packets.specs.Fields.{ftype_of}
-use Rattle.io_packets.specs.declared.io.Io.{Io}
-use Rattle.io_packets.specs.declared.io.Io.TheVariants.{NRead, NWrite, NWriteR, SWrite, Reply as Answer, BadRead, BadWriteR, BadWrite, Other as NoIo}
 use Rattle.io_packets.specs.Reading.{io_of}
-use Rattle.io_packets.specs.Serving.{is_within, put_at, memory_after}
-use Rattle.io_memory.specs.declared.meeting.Met.TheVariants.{Read, Written, Failed}
-use Rattle.io_memory.specs.Meeting.{met_at, met_of, held}
+use Rattle.io_packets.specs.Serving.{put_at, memory_after}
+use Rattle.io_memory.specs.declared.meeting.Met.TheVariants.{Written, Failed}
+use Rattle.io_memory.specs.Meeting.{met_of, held}
+use Rattle.io_memory.proofs.MeetLaws.{after_held}
 use Rattle.io_rounds.specs.Stations.{new_station, station_at, memory_of, with_memory, met_by, met_at_node, stations_after, stations_met}
 use Rattle.io_law.specs.Telling.{memory_behind}
-use Rattle.std.specs.Prelude.{◌+◌, slice_range}
 
 -- ---- a packet at a memory
 
@@ -24,28 +22,6 @@ behind_write : (memory : List ℕ) (ftype addr : ℕ) (load : List ℕ) (b : Boo
     ≡ held memory ((if b then Written addr load else Failed ftype) ∷ [])
 behind_write memory ftype addr load true = refl
 behind_write memory ftype addr load false = refl
-
-behind_met : (memory : List ℕ) (ftype : ℕ) (io : Io)
-    → memory_after memory io ≡ held memory (met_at memory ftype io ∷ [])
-behind_met memory ftype (NRead tid addr size) = by (is_within memory addr size)
-  where
-    by : (b : Bool)
-        → memory
-        ≡ held memory
-        ((if b then Read addr (slice_range memory addr (addr + size)) else Failed ftype) ∷ [])
-    by true = refl
-    by false = refl
-behind_met memory ftype (NWrite addr load) =
-    behind_write memory ftype addr load (is_within memory addr (length load))
-behind_met memory ftype (NWriteR tid addr load) =
-    behind_write memory ftype addr load (is_within memory addr (length load))
-behind_met memory ftype (SWrite addr load) =
-    behind_write memory ftype addr load (is_within memory addr (length load))
-behind_met memory ftype (Answer status tid load) = refl
-behind_met memory ftype (BadRead tid) = refl
-behind_met memory ftype (BadWriteR tid) = refl
-behind_met memory ftype BadWrite = refl
-behind_met memory ftype NoIo = refl
 
 -- ---- the memory of one node among others
 
@@ -117,7 +93,7 @@ memory_came stations at packet n = by_memory (memory_of stations at) refl
         ≡ (if b then memory_behind (memory_of stations n) (met_of memory packet)
         else memory_of stations n)
     by_some memory is true same =
-        ap (λ m. Some m) (behind_met memory (ftype_of packet) (io_of packet))
+        ap (λ m. Some m) (after_held memory (ftype_of packet) (io_of packet))
         ∙ ap (λ m. memory_behind m (met_of memory packet)) (sym (moved is same))
     by_some memory is false other = refl
 

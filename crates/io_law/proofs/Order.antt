@@ -14,10 +14,11 @@ use Rattle.fabric_model.specs.Laws.Tables.{is_answer}
 use Rattle.fabric_model.proofs.Flows.{in_order_of_course}
 use Rattle.fabric_model.proofs.Holding.{how_often-append, holding_exactly}
 use Rattle.fabric_model.proofs.Joining.{legal_parts}
+use Rattle.fabric_model.proofs.Boards.{all-parts}
+use Rattle.fabric_model.proofs.Room.{at_most_first}
 use Rattle.io_law.specs.Laws.{ComesBefore}
 use Rattle.io_law.proofs.Places.{slice_get-append, slice_get-front, get_below, find_number, find_step}
 use Rattle.io_law.proofs.Plain.{NoAnswers, routes_stand}
-use Rattle.io_law.proofs.Arriving.{all_parts}
 use Rattle.io_law.proofs.Tracing.{gathered-append}
 
 -- ---- one at a time
@@ -30,14 +31,10 @@ takes_few net (ByDevice (Move p q packet)) = omega arith
 takes_few net (ByDevice (Drop p packet)) = omega arith
 takes_few net (ByDevice (Answer p packet response)) = omega arith
 
-only_few : (items : List Item) → length (only_first items) ≤ 1
-only_few [] = omega arith
-only_few (item ∷ items) = omega arith
-
 leaves_few : (net : Network) (step : Step) → length (ended_by Left net step) ≤ 1
 leaves_few net (Linked step) = omega arith
 leaves_few net (AtNode (Takes n packet)) = omega arith
-leaves_few net (AtNode (Leave n packet)) = only_few (net.received (port_of n) (prio_of packet))
+leaves_few net (AtNode (Leave n packet)) = at_most_first (net.received (port_of n) (prio_of packet))
 leaves_few net (ByDevice (Move p q packet)) = omega arith
 leaves_few net (ByDevice (Drop p packet)) = omega arith
 leaves_few net (ByDevice (Answer p packet response)) = omega arith
@@ -98,9 +95,9 @@ module _ (start : Network) (steps : List Step) (end : Network) (empty : IsEmptyN
       let net = after_all start before in
       let flat : steps ≡ before ++ first ∷ (between ++ last ∷ later) =
       parts ∙ append_assoc before (first ∷ between) (last ∷ later) in
-      let all = all_parts (λ step. is_answer step ≡ false) before
+      let all = all-parts (λ step. is_answer step ≡ false) before
       (first ∷ (between ++ last ∷ later)) (subst NoAnswers flat none) in
-      let mid = (all_parts (λ step. is_answer step ≡ false) between (last ∷ later) all.1.1).0 in
+      let mid = (all-parts (λ step. is_answer step ≡ false) between (last ∷ later) all.1.1).0 in
       let many = in_order_of_course start steps end empty proper legal before first between last
       later x z flat takes
       (subst (λ n. ended_by Left n last ≡ z ∷ []) (after_joined start before (first ∷ between))

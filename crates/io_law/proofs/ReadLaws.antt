@@ -47,10 +47,10 @@ met_stands None packet addr load is =
 met_stands (Some memory) packet addr load is =
     (memory, refl, reads_held memory (packet ∷ []) 0 addr load (ap (λ m. Some m) is))
 
-came_node : {a b : ℕ} {x y : Met} → Some (Came a x) ≡ Some (Came b y) → a ≡ b
+pub came_node : {a b : ℕ} {x y : Met} → Some (Came a x) ≡ Some (Came b y) → a ≡ b
 came_node is = cc
 
-came_met : {a b : ℕ} {x y : Met} → Some (Came a x) ≡ Some (Came b y) → x ≡ y
+pub came_met : {a b : ℕ} {x y : Met} → Some (Came a x) ≡ Some (Came b y) → x ≡ y
 came_met is = cc
 
 event_stands : (s : IoState) (task : IoTask) (what : Happened) (node addr : ℕ)

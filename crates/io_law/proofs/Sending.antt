@@ -8,7 +8,7 @@ use Rattle.fabric_model.specs.Network.{Network, Item}
 use Rattle.fabric_model.specs.Steps.{Step, after}
 use Rattle.fabric_model.specs.Laws.History.{taken_by, taken}
 use Rattle.fabric_model.specs.Laws.Tables.{is_answer}
-use Rattle.fabric_model.proofs.Boards.{all-append}
+use Rattle.fabric_model.proofs.Boards.{all-append, all-parts}
 use Rattle.fabric_trace.specs.Lines.{TraceLine, steps_of}
 use Rattle.fabric_trace.specs.Runs.{start, set_up_all, bare}
 use Rattle.fabric_trace.specs.SetUps.{IsSetUp}
@@ -16,7 +16,6 @@ use Rattle.fabric_trace.proofs.Keeping.{steps_of-append}
 use Rattle.fabric_trace.proofs.Starting.{lawful}
 use Rattle.io_rounds.specs.Going.{IoState, IoGoes, IoComes, Here, Goes}
 use Rattle.io_law.specs.Items.{network_at, asked_by, replied_by, asked, replied}
-use Rattle.io_law.proofs.Arriving.{all_parts}
 use Rattle.io_law.proofs.Fit.{IsFit, fit_comes}
 use Rattle.io_law.proofs.Numbers.{GivesNone, GivesOne, gives}
 use Rattle.io_law.proofs.Places.{slice_get-seam}
@@ -148,7 +147,7 @@ pub last_none : (script : List Numbered) (before : IoState) (lines : List TraceL
     → t.trace ≡ before.trace ++ lines → NoAnswers (steps_of t.trace)
     → NoAnswers (steps_of before.trace) × NoAnswers (steps_of lines)
 last_none script before lines t is none =
-    all_parts (λ step. is_answer step ≡ false) (steps_of before.trace) (steps_of lines)
+    all-parts (λ step. is_answer step ≡ false) (steps_of before.trace) (steps_of lines)
     (subst NoAnswers (ap steps_of is ∙ steps_of-append before.trace lines) none)
 
 goes_rises : {names : List (List ℕ)} {script : List Numbered} {s t : IoState}
@@ -208,11 +207,11 @@ pub all_sent : {names : List (List ℕ)} {script : List Numbered} {first s : IoS
 all_sent P (Here is) fit plain all = record { asks_are = tt; replies_are = tt }
 all_sent {names} {script} {first} {s} P (Goes before comes goes) fit plain all =
     let parts = last_none script before (added goes) s (trace_goes goes) plain in
-    let both = all_parts P (taken (start script).network (steps_of before.trace))
+    let both = all-parts P (taken (start script).network (steps_of before.trace))
     (taken (network_at script before) (steps_of (added goes)))
     (subst (AllByRecursion P) (gathered_goes taken_by goes) all) in
     let first_part = all_sent P comes fit parts.0 both.0 in
-    let more = all_parts P (asked_by goes) (replied_by goes)
+    let more = all-parts P (asked_by goes) (replied_by goes)
     (subst (AllByRecursion P) (goes_taken goes (fit_comes comes fit) parts.1) both.1) in
     record {
       asks_are = all-append P (asked comes) (asked_by goes) first_part.asks_are more.0;

@@ -1,5 +1,5 @@
 -- A node replies to what it serves, in order, by the memory that the lines before leave.
-use Rattle.std.proofs.Common.{◌≡◌, ◌≤◌, ℕ, zero, suc, replicate, Bool, true, false, eqb, List, [], ◌∷◌, ◌++◌, length, map, take, Option, Some, None, refl, sym, ap, ◌∙◌, subst, arith, if◌then◌else◌}
+use Rattle.std.proofs.Common.{◌≡◌, ◌≤◌, ℕ, Bool, true, false, eqb, List, [], ◌∷◌, ◌++◌, length, map, take, Option, Some, None, refl, sym, ap, ◌∙◌, subst, arith, if◌then◌else◌}
 use Rattle.std.specs.Prelude.{slice_get, unwrap_or, option_map}
 use Rattle.std.specs.List.{AllByRecursion}
 use Rattle.std.proofs.Math.Seq.{take-append_seam}
@@ -26,7 +26,7 @@ use Rattle.fabric_ports.specs.declared.answers.Happened.{Happened}
 use Rattle.fabric_ports.specs.declared.answers.Happened.TheVariants as Answers
 use Rattle.io_packets.specs.declared.io.Io.{Io}
 use Rattle.io_script.specs.declared.lines.NumberedIo.{NumberedIo}
-use Rattle.io_rounds.specs.Stations.{new_station, memory_of, kept_of_node, met_by, answer_by, answer_at_node}
+use Rattle.io_rounds.specs.Stations.{memory_of, kept_of_node, met_by, answer_by, answer_at_node}
 use Rattle.io_rounds.specs.Tasks.{IoTask, Carry, Ask, Settle, Turn, Reply, Take, Finish, event_of}
 use Rattle.io_rounds.specs.Going.{IoState, IoGoes, Begins, Turns, Acts, Ends, IoComes, Here, Goes}
 use Rattle.io_rounds.specs.Drives.{first_state}
@@ -34,7 +34,7 @@ use Rattle.io_law.specs.Telling.{Told, Came, told, told_by, told_behind, and_tol
 use Rattle.io_law.specs.Items.{network_at, IsSentBy}
 use Rattle.io_law.specs.Laws.{RepliesAnswerServed}
 use Rattle.io_law.specs.Replies.{Served, Sent, served_with, served_behind, served_by, served_at, reply_to, sent_behind, sent_by, sent_at, IsServed}
-use Rattle.io_law.proofs.Fit.{HeadFit, TasksFit, IsFit, fit_comes, first_fit}
+use Rattle.io_law.proofs.Fit.{HeadFit, TasksFit, IsFit, fit_comes, first_fit, new_none}
 use Rattle.io_law.proofs.Items.{left_one}
 use Rattle.io_law.proofs.Keeping.{Keeps, behind_all, at_first}
 use Rattle.io_law.proofs.Pending.{head_lines, kept_lines, pending, comes_pending}
@@ -264,16 +264,10 @@ first_pending : (names : List (List ℕ)) (io : List NumberedIo) (node : ℕ)
     → [] ≡ pending node (kept_of_node (first_state names io).stations node)
     (first_state names io).tasks
 first_pending names io node =
-    ap kept_lines (sym (none (length names) node))
+    ap kept_lines (sym (new_none (length names) node))
     ∙ ap (λ l. l ++ kept_lines (kept_of_node (first_state names io).stations node))
     (sym (no_head io))
   where
-    none : (count n : ℕ) → kept_of_node (replicate count new_station) n ≡ None
-    none zero zero = refl
-    none zero (suc n) = refl
-    none (suc count) zero = refl
-    none (suc count) (suc n) = none count n
-
     no_head : (io : List NumberedIo)
         → head_lines node (map (λ (line : NumberedIo). Carry line.io) io ++ Finish ∷ []) ≡ []
     no_head [] = refl

@@ -35,7 +35,7 @@ read_held memory ftype addr size = by (is_within memory addr size)
     by true = refl
     by false = refl
 
-after_held : (memory : List ℕ) (ftype : ℕ) (io : Io)
+pub after_held : (memory : List ℕ) (ftype : ℕ) (io : Io)
     → memory_after memory io ≡ held memory (met_at memory ftype io ∷ [])
 after_held memory ftype (NRead tid addr size) = read_held memory ftype addr size
 after_held memory ftype (NWrite addr load) = write_held memory ftype addr load

@@ -1,13 +1,14 @@
 -- What is read of bytes is good, as far as it is not bad.
 use Rattle.std.proofs.Common.{◌≡◌, ℕ, ◌+◌, ◌-◌, ◌%◌, ◌≤◌, ◌==◌, ◌&&◌, Bool, true, false, Option, Some, None, List, length, drop, refl, subst, arith, if◌then◌else◌, length-drop, length-take, eqb-true, leb-true}
 use Rattle.std.specs.Prelude.{nat_le}
+use Rattle.std.proofs.lemmas.Bool.{and_parts}
 use Rattle.rio_packets.specs.Fields.{tt_of, ftype_of}
 use Rattle.io_packets.specs.declared.io.Io.{Io}
 use Rattle.io_packets.specs.declared.io.Io.TheVariants.{NRead, NWrite, NWriteR, SWrite, Reply, BadRead, BadWriteR, BadWrite, Other}
 use Rattle.io_packets.specs.Layout.{low_half_of, tid_of, word_at, addr_in, wdptr_in, extension_in, size_named, size_of, between, high_half_of}
 use Rattle.io_packets.specs.Forms.{is_size, is_stream_size, is_status, IsAligned, CanBeRead, IsSized}
 use Rattle.io_packets.specs.Reading.{read_or_bad, read_of, has_data, write_of, write_with_response_of, any_write_of, is_stream, has_pad, streaming_write_of, is_plain_reply, is_reply_with_data, response_of, io_of_type, io_of}
-use Rattle.io_packets.proofs.SizeLaws.{first_part, second_part, size_least, named_size}
+use Rattle.io_packets.proofs.SizeLaws.{size_least, named_size}
 
 aligned : (word : ℕ) → IsAligned (addr_in word)
 aligned word = omega arith
@@ -38,7 +39,8 @@ length-between bytes from behind h =
 
 read_good : (bytes : List ℕ) → CanBeRead (read_of bytes)
 read_good bytes =
-    choose ((high_half_of bytes == 4) && (length bytes == 12)) (read_or_bad bytes (size_of bytes)) Other
+    choose ((high_half_of bytes == 4) && (length bytes == 12)) (read_or_bad bytes (size_of bytes))
+    Other
     (λ _. by (size_of bytes) refl) tt
   where
     by : (o : Option ℕ) → size_of bytes ≡ o → CanBeRead (read_or_bad bytes o)
@@ -76,9 +78,10 @@ streaming_write_good bytes = choose (is_stream bytes) _ BadWrite good tt
     good is =
         let n = length bytes - 12 in
         let size : is_stream_size n ≡ true =
-        first_part (is_stream_size n) ((extension_in (word_at bytes 4) == 0) && has_pad bytes) is in
-        let bounds = second_part (n % 8 == 0) (nat_le 8 n && nat_le n 64) size in
-        let least = leb-true 8 n (first_part (nat_le 8 n) (nat_le n 64) bounds) in
+        (and_parts (is_stream_size n) ((extension_in (word_at bytes 4) == 0) && has_pad bytes) is).0
+        in
+        let bounds = (and_parts (n % 8 == 0) (nat_le 8 n && nat_le n 64) size).1 in
+        let least = leb-true 8 n (and_parts (nat_le 8 n) (nat_le n 64) bounds).0 in
         let loaded = length-between bytes 8 4 (omega arith) in
         let same : n ≡ length (between bytes 8 4) = omega (arith, loaded) in
         (aligned (word_at bytes 4), subst (λ n. is_stream_size n ≡ true) same size)
@@ -86,15 +89,16 @@ streaming_write_good bytes = choose (is_stream bytes) _ BadWrite good tt
 pub response_good : (bytes : List ℕ) → CanBeRead (response_of bytes)
 response_good bytes =
     choose (is_plain_reply bytes) _ _
-    (λ is. first_part (is_status (low_half_of bytes)) (length bytes == 8)
-    (second_part (high_half_of bytes == 0) (is_status (low_half_of bytes) && (length bytes == 8)) is))
+    (λ is. (and_parts (is_status (low_half_of bytes)) (length bytes == 8)
+    (and_parts (high_half_of bytes == 0) (is_status (low_half_of bytes) && (length bytes == 8))
+    is).1).0)
     (choose (is_reply_with_data bytes) _ Other (λ is. (refl, good is)) tt)
   where
     good : is_reply_with_data bytes ≡ true → is_size (length (between bytes 6 2)) ≡ true
     good is =
         let n = length bytes - 8 in
-        let size = second_part (low_half_of bytes == 0) (is_size n)
-        (second_part (high_half_of bytes == 8) ((low_half_of bytes == 0) && is_size n) is) in
+        let size = (and_parts (low_half_of bytes == 0) (is_size n)
+        (and_parts (high_half_of bytes == 8) ((low_half_of bytes == 0) && is_size n) is).1).1 in
         let least = size_least n size in
         let loaded = length-between bytes 6 2 (omega arith) in
         let same : n ≡ length (between bytes 6 2) = omega (arith, loaded) in

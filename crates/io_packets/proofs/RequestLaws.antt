@@ -29,7 +29,8 @@ module _ (prio dest source : ℕ) (p : List ℕ) (h : prio < 4) where
 
   -- the form of a write
   module _ (ttype tid addr : ℕ) (load : List ℕ) (good : is_size (length load) ≡ true)
-      (form : LinkForm (body_of prio 5 false dest source (asked ttype (length load) tid addr ++ load)) p)
+      (form : LinkForm
+      (body_of prio 5 false dest source (asked ttype (length load) tid addr ++ load)) p)
     where
       abbrev front : List ℕ
       front = body_of prio 5 false dest source (asked ttype (length load) tid addr)

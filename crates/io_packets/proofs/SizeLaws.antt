@@ -1,19 +1,12 @@
 -- The sizes of the profile, one by one, and parts of tests.
 use Rattle.std.proofs.Common.{◌≡◌, ℕ, ◌%◌, ◌<◌, ◌≤◌, ◌==◌, ◌&&◌, ◌||◌, ◌⊎◌, Bool, true, false, Some, None, if◌then◌else◌, refl, subst, sym, inl, inr, arith, eqb-true, leb-true}
 use Rattle.std.specs.Prelude.{nat_le}
+use Rattle.std.proofs.lemmas.Bool.{and_parts}
 use Rattle.io_packets.specs.Layout.{size_named}
 use Rattle.io_packets.specs.Forms.{is_size, is_stream_size, is_status}
 use Rattle.io_packets.specs.Writing.{code_of, wdptr_of}
 
 -- ---- parts of tests
-
-pub first_part : (a b : Bool) → (a && b) ≡ true → a ≡ true
-first_part true b h = refl
-first_part false b h = h
-
-pub second_part : (a b : Bool) → (a && b) ≡ true → b ≡ true
-second_part true b h = h
-second_part false b h = absurd (cc)
 
 either_part : (a b : Bool) → (a || b) ≡ true → (a ≡ true) ⊎ (b ≡ true)
 either_part true b h = inl refl
@@ -75,16 +68,16 @@ size_eights n h = of_sizes (λ n. n % 8 ≡ 0) n h refl refl refl refl
 
 pub stream_least : (n : ℕ) → is_stream_size n ≡ true → 8 ≤ n
 stream_least n h =
-    leb-true 8 n (first_part (nat_le 8 n) (nat_le n 64)
-    (second_part (n % 8 == 0) (nat_le 8 n && nat_le n 64) h))
+    leb-true 8 n (and_parts (nat_le 8 n) (nat_le n 64)
+    (and_parts (n % 8 == 0) (nat_le 8 n && nat_le n 64) h).1).0
 
 pub stream_most : (n : ℕ) → is_stream_size n ≡ true → n ≤ 64
 stream_most n h =
-    leb-true n 64 (second_part (nat_le 8 n) (nat_le n 64)
-    (second_part (n % 8 == 0) (nat_le 8 n && nat_le n 64) h))
+    leb-true n 64 (and_parts (nat_le 8 n) (nat_le n 64)
+    (and_parts (n % 8 == 0) (nat_le 8 n && nat_le n 64) h).1).1
 
 pub stream_eights : (n : ℕ) → is_stream_size n ≡ true → n % 8 ≡ 0
-stream_eights n h = eqb-true (n % 8) 0 (first_part (n % 8 == 0) (nat_le 8 n && nat_le n 64) h)
+stream_eights n h = eqb-true (n % 8) 0 (and_parts (n % 8 == 0) (nat_le 8 n && nat_le n 64) h).0
 
 pub status_small : (status : ℕ) → is_status status ≡ true → status < 16
 status_small status h =

@@ -1,6 +1,7 @@
 -- What the reading of a text finds.
 use Rattle.std.proofs.Common.{◌≡◌, ◌≢◌, ℕ, ◌+◌, ◌≤◌, nat_lt, suc, Bool, true, false, ◌&&◌, List, [], ◌∷◌, map, length, Option, Some, None, Result, Ok, Err, IfOk, ◌⊎◌, inl, inr, refl, sym, ap, ◌∙◌, subst, cond, arith}
 use Rattle.std.proofs.lemmas.Bool.Decides.{nat_tests}
+use Rattle.std.proofs.lemmas.Bool.{and_parts}
 use Rattle.fabric_script.specs.declared.reasons.Reason.TheVariants.{TooMuchWork, UnknownLine}
 use Rattle.fabric_script.specs.Known.{IsOrderly, Known}
 use Rattle.fabric_script.specs.Lines.{words_of}
@@ -42,11 +43,6 @@ standing_some false false r e = absurd cc
 standing_late : (costly : Bool) → io_rank (standing_by costly true) ≤ 18
 standing_late true = omega arith
 standing_late false = omega arith
-
-both : (a b : Bool) → (a && b) ≡ true → (a ≡ true) × (b ≡ true)
-both true true e = (refl, refl)
-both true false e = absurd cc
-both false b e = absurd cc
 
 not_both : (a b : Bool) → (a && b) ≡ false → a ≡ true → b ≡ false
 not_both true true e is = absurd cc
@@ -120,7 +116,7 @@ module _ (known : Known) (earlier : Earlier) (text : List ℕ) (form : IoForm)
                 subst (HitsIo known earlier text) (sym costly.1)
                 (CostsTooMuch form has (let e = costly.0 in grind (arith, nat_tests)))
             | inr late ↦
-                let two = both (gives_memory form) earlier.begun late.0 in
+                let two = and_parts (gives_memory form) earlier.begun late.0 in
                 subst (HitsIo known earlier text) (sym late.1)
                 (IsLate (subst (λ f. HasIoForm f text) (memory_form form two.0) has) two.1)
           ]

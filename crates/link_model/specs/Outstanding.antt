@@ -6,7 +6,8 @@ use Rattle.link_model.specs.Reports.{IsReport}
 pub use Rattle.link_model.specs.AckIds.{distance}
 use Rattle.link_model.specs.Window.{window}
 
--- the ackID of the oldest packet that is not acknowledged, the priorities of the outstanding packets
+-- the ackID of the oldest packet that is not acknowledged, the priorities of the outstanding
+-- packets
 -- in the order of their ackIDs, and the last report of the far port, if it tells its free buffers
 pub record Outstanding : Type 0 where
   pub oldest : ℕ

@@ -12,15 +12,26 @@ use Rattle.maint_registers.specs.Table.{status_of}
 or_pow : (linked port : ℕ) → bit_or linked (2 ^ port) ≡ with_link linked port
 or_pow linked port = elim (cases_eq (bit_at linked port) 1) [
   | inl set ↦ rw (eq-eqb (bit_at linked port) 1 set)
-      (omega (arith, or_add_and linked (2 ^ port), and_pow linked port ∙ ap (λ b. b * 2 ^ port) set))
+      (omega (
+        arith,
+        or_add_and linked (2 ^ port),
+        and_pow linked port
+            ∙ ap (λ b. b * 2 ^ port) set,
+      ))
   | inr clear ↦
       (let none : bit_at linked port ≡ 0 = omega (arith, clear, bit_at-lt linked port) in
       rw (ne_eqb (bit_at linked port) 1 clear)
-      (omega (arith, or_add_and linked (2 ^ port), and_pow linked port ∙ ap (λ b. b * 2 ^ port) none)))
+      (omega (
+        arith,
+        or_add_and linked (2 ^ port),
+        and_pow linked port
+            ∙ ap (λ b. b * 2 ^ port) none,
+      )))
 ]
 
 -- and shifted there
-pub or_link : (linked port : ℕ) → port < 16 → bit_or linked (1 * 2 ^ port % 2 ^ 16) ≡ with_link linked port
+pub or_link : (linked port : ℕ) → port < 16 → bit_or linked (1 * 2 ^ port % 2 ^ 16)
+    ≡ with_link linked port
 or_link linked port below = ap (bit_or linked) (one_shl port 16 below) ∙ or_pow linked port
 
 pub bit_set : (linked port : ℕ) → bit_at (with_link linked port) port ≡ 1
@@ -28,7 +39,8 @@ bit_set linked port =
     ap (λ n. bit_at n port) (sym (or_pow linked port))
     ∙ omega (arith, bit_at_or linked (2 ^ port) port, bit_at-pow_same port, bit_at-lt linked port)
 
-pub bit_others : (linked port other : ℕ) → other ≢ port → bit_at (with_link linked port) other ≡ bit_at linked other
+pub bit_others : (linked port other : ℕ) → other ≢ port → bit_at (with_link linked port) other
+    ≡ bit_at linked other
 bit_others linked port other apart =
     ap (λ n. bit_at n other) (sym (or_pow linked port))
     ∙ omega (arith, bit_at_or linked (2 ^ port) other, bit_at-pow_other port other apart)
@@ -40,5 +52,7 @@ link_shown device port = ap (λ b. if b == 1 then 2 else 1) (bit_set device.link
 
 -- and every other port has one if it had one
 pub link_others : (device : Device) (port other : ℕ) → other ≢ port
-    → status_of (record device { linked = with_link device.linked port }) other ≡ status_of device other
-link_others device port other apart = ap (λ b. if b == 1 then 2 else 1) (bit_others device.linked port other apart)
+    → status_of (record device { linked = with_link device.linked port }) other
+    ≡ status_of device other
+link_others device port other apart =
+    ap (λ b. if b == 1 then 2 else 1) (bit_others device.linked port other apart)

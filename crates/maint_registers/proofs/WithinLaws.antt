@@ -170,27 +170,34 @@ locked_within lock id below range = go (lock == 0xffff) (lock == id)
     go false true = omega arith
     go false false = below
 
-module _ (device next : Device) (value : ℕ) (within : IsWithin device) (range : value < 0x100000000) where
-  -- a device that is within is the next one
-  this : (written : Device) → IsWithin written → Some written ≡ Some next → IsWithin next
-  this written fits is = let same : written ≡ next = cc in subst IsWithin same fits
+module _ (device next : Device) (value : ℕ) (within : IsWithin device) (range : value < 0x100000000)
+  where
+    -- a device that is within is the next one
+    this : (written : Device) → IsWithin written → Some written ≡ Some next → IsWithin next
+    this written fits is = let same : written ≡ next = cc in subst IsWithin same fits
 
-  register_within : (register : Register) → written_to device value register ≡ Some next → IsWithin next
-  register_within (Fixed shown) is = absurd (cc)
-  register_within PortInformation is = absurd (cc)
-  register_within BaseId is = this _ (base_id_within device _ within (omega arith)) is
-  register_within HostLock is = this _ (lock_within device _ within (locked_within device.lock (value % 0x10000) within.lock (omega arith))) is
-  register_within ComponentTag is = this _ (tag_within device value within range) is
-  register_within RouteSelect is = this _ (select_within device _ within (omega arith)) is
-  register_within RouteEntry is = this _ (route_within device device.select _ within (omega arith)) is
-  register_within DefaultPort is = this _ (default_within device _ within (omega arith)) is
+    register_within : (register : Register) → written_to device value register ≡ Some next
+        → IsWithin next
+    register_within (Fixed shown) is = absurd (cc)
+    register_within PortInformation is = absurd (cc)
+    register_within BaseId is = this _ (base_id_within device _ within (omega arith)) is
+    register_within HostLock is =
+        this _ (lock_within device _ within
+        (locked_within device.lock (value % 0x10000) within.lock (omega arith))) is
+    register_within ComponentTag is = this _ (tag_within device value within range) is
+    register_within RouteSelect is = this _ (select_within device _ within (omega arith)) is
+    register_within RouteEntry is =
+        this _ (route_within device device.select _ within (omega arith))
+        is
+    register_within DefaultPort is = this _ (default_within device _ within (omega arith)) is
 
 -- whatever is written, the device stays within
 pub written_within : (device next : Device) (offset value : ℕ) → IsWithin device
     → value < 0x100000000 → written_at device offset value ≡ Some next → IsWithin next
 written_within device next offset value within range = go (register_at device offset)
   where
-    go : (o : Option Register) → option_and_then (written_to device value) o ≡ Some next → IsWithin next
+    go : (o : Option Register) → option_and_then (written_to device value) o ≡ Some next
+        → IsWithin next
     go None is = absurd (cc)
     go (Some register) is = register_within device next value within range register is
 
@@ -207,7 +214,8 @@ abbrev all_fit : List Row → Bool
 all_fit [] = true
 all_fit (row ∷ rows) = fit row.1 && (fit row.2 && all_fit rows)
 
-rows_fit : (kind : Kind) (rows : List Row) (offset : ℕ) → all_fit rows ≡ true → fit (in_rows kind rows offset) ≡ true
+rows_fit : (kind : Kind) (rows : List Row) (offset : ℕ) → all_fit rows ≡ true
+    → fit (in_rows kind rows offset) ≡ true
 rows_fit kind [] offset all = refl
 rows_fit kind (row ∷ rows) offset all =
     let first = and_parts (fit row.1) (fit row.2 && all_fit rows) all in
@@ -221,7 +229,8 @@ rows_fit kind (row ∷ rows) offset all =
     go Switch true endpoint switch rest = switch
     go k false endpoint switch rest = rest
 
-status_fits : (device : Device) (o : Option ℕ) → fit (option_map (λ n. Fixed (status_of device n)) o) ≡ true
+status_fits : (device : Device) (o : Option ℕ)
+    → fit (option_map (λ n. Fixed (status_of device n)) o) ≡ true
 status_fits device None = refl
 status_fits device (Some n) = go (device.linked / 2 ^ n % 2 == 1)
   where
@@ -234,7 +243,8 @@ registers_fit device offset =
     go (in_rows device.kind table offset) (rows_fit device.kind table offset refl)
   where
     go : (o : Option Register) → fit o ≡ true
-        → fit (option_or o (option_map (λ n. Fixed (status_of device n)) (status_port device.ports offset))) ≡ true
+        → fit (option_or o
+        (option_map (λ n. Fixed (status_of device n)) (status_port device.ports offset))) ≡ true
     go None all = status_fits device (status_port device.ports offset)
     go (Some register) all = all
 
@@ -252,16 +262,19 @@ value_fits device port RouteSelect within range fit = let most = within.select i
 value_fits device port RouteEntry within range fit =
     let long = within.destinations in
     let selected = within.select in
-    let entry = All-get_or (λ e. e < 0x100) device.routes device.select 255 (omega arith) within.routes in
+    let entry = All-get_or (λ e. e < 0x100) device.routes device.select 255 (omega arith)
+    within.routes in
     omega arith
 value_fits device port DefaultPort within range fit = let most = within.default_port in omega arith
 
 -- what is read is a word
 pub read_fits : (device : Device) (offset port value : ℕ) → IsWithin device → port < 0x100
     → value_at device offset port ≡ Some value → value < 0x100000000
-read_fits device offset port value within range = go (register_at device offset) (registers_fit device offset)
+read_fits device offset port value within range =
+    go (register_at device offset) (registers_fit device offset)
   where
-    go : (o : Option Register) → fit o ≡ true → option_map (value_of device port) o ≡ Some value → value < 0x100000000
+    go : (o : Option Register) → fit o ≡ true → option_map (value_of device port) o ≡ Some value
+        → value < 0x100000000
     go None fit is = absurd (cc)
     go (Some register) fit is =
         let same : value_of device port register ≡ value = cc in

@@ -22,7 +22,8 @@ value_of device port DefaultPort = device.default_port
 abbrev pub value_at : Device → ℕ → ℕ → Option ℕ
 value_at device offset port = option_map (value_of device port) (register_at device offset)
 
--- The lock after the ID of a host is written to it: a free lock is taken, the holder's own ID frees it, and any other ID
+-- The lock after the ID of a host is written to it: a free lock is taken, the holder's own ID frees
+-- it, and any other ID
 -- leaves it.
 abbrev pub locked : ℕ → ℕ → ℕ
 locked lock id = if lock == 0xffff then id else (if lock == id then 0xffff else lock)

@@ -21,7 +21,8 @@ pub record Device : Type 0 where
   pub routes : List ℕ
   pub default_port : ℕ
 
--- It is the same device, whatever was written to it: of the same kind, with the same ports, the same
+-- It is the same device, whatever was written to it: of the same kind, with the same ports, the
+-- same
 -- links and the same ID of 16 bits, which no write changes.
 pub record IsSameDevice (before after : Device) : Type 0 where
   pub kind : after.kind ≡ before.kind

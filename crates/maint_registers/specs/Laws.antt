@@ -1,4 +1,5 @@
--- What writes do, in the words of the table: which bits they change, and who holds a device; and which port
+-- What writes do, in the words of the table: which bits they change, and who holds a device; and
+-- which port
 -- shows a link that is set.
 use Rattle.std.specs.Prelude.{◌≡◌, ◌≢◌, ℕ, ◌+◌, ◌*◌, ◌/◌, ◌%◌, ◌^◌, ◌<◌, ◌↔◌, Option, Some, None}
 use Rattle.maint_registers.specs.declared.table.Register.{Register}

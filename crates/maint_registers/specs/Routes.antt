@@ -1,4 +1,5 @@
--- Where a switch sends a packet (RapidIO Interconnect Specification 1.3, Part 3, route tables; both meanings of 255 are
+-- Where a switch sends a packet (RapidIO Interconnect Specification 1.3, Part 3, route tables; both
+-- meanings of 255 are
 -- this project's profile).
 use Rattle.std.specs.Prelude.{ℕ, ◌==◌, ◌&&◌, nat_lt, Option, Some, None, slice_index_or, if◌then◌else◌}
 use Rattle.maint_registers.specs.Devices.{Device, is_switch}
@@ -12,7 +13,8 @@ abbrev pub port_named : Device → ℕ → ℕ
 port_named device dest =
     if entry_of device dest == 255 then device.default_port else entry_of device dest
 
--- the port to which a switch sends packets for a destination, if what its table names is one of its ports
+-- the port to which a switch sends packets for a destination, if what its table names is one of its
+-- ports
 abbrev pub next_port : Device → ℕ → Option ℕ
 next_port device dest =
     if is_switch device && nat_lt (port_named device dest) device.ports

@@ -1,4 +1,5 @@
--- Which register stands at which offset of an endpoint and of a switch. `docs/registers.md` has the same table, with the
+-- Which register stands at which offset of an endpoint and of a switch. `docs/registers.md` has the
+-- same table, with the
 -- public source of each row and what is this project's own.
 use Rattle.std.specs.Prelude.{ℕ, zero, suc, ◌+◌, ◌*◌, ◌/◌, ◌%◌, ◌^◌, ◌==◌, List, [], ◌∷◌, Option, Some, None, option_map, if◌then◌else◌}
 use Rattle.std.specs.Option.{option_or}

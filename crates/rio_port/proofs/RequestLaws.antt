@@ -231,7 +231,8 @@ length_none large words header behind bytes fields is bad packet h =
 pub packet_read : (large : Bool) (words : List (List ℕ)) (header : Header)
     (behind : List (List ℕ)) (bytes packet : List ℕ) → SpellsHeader large words header behind
     → behind ≡ hex_text bytes ∷ [] → All (λ byte. byte < 256) bytes
-    → LinkForm (body_of header.prio header.ftype header.large header.dest header.source bytes) packet
+    → LinkForm (body_of header.prio header.ftype header.large header.dest header.source bytes)
+    packet
     → SpellsPacket large words packet
 packet_read large words header behind bytes packet fields is are_bytes form = record {
   header = header;

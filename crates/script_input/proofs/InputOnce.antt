@@ -93,7 +93,8 @@ module _ (bytes : List ℕ) where
 
   -- what is so of one input is so of the other
   pub for_other : (Of : List Numbered → Known → List (List ℕ) → Type 0)
-      (lines lines' : List Numbered) (known known' : Known) (texts texts' : List (List ℕ)) → IsInput bytes lines known texts
+      (lines lines' : List Numbered) (known known' : Known) (texts texts' : List (List ℕ))
+      → IsInput bytes lines known texts
       → IsInput bytes lines' known' texts' → Of lines' known' texts' → Of lines known texts
   for_other Of lines lines' known known' texts texts' one other so =
       let same = input_once lines lines' known known' texts texts' one other in

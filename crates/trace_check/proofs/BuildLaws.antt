@@ -1,6 +1,5 @@
 -- What a line of set-up leaves of the network and of the links as they are kept.
-use Rattle.std.proofs.Common.{◌≡◌, ℕ, Bool, zero, suc, ◌+◌, ◌<◌, ◌≤◌, false, ◌⊎◌, inl, inr, List, [], ◌∷◌, ◌++◌, length, length-append, replicate, get_or, set, slice_get, slice_set, option_map, Option, Some, None, refl, sym, ap, ◌∙◌, subst, arith, if◌then◌else◌}
-use Rattle.std.proofs.lemmas.Option.{same_Some, slice_get_read}
+use Rattle.std.proofs.Common.{◌≡◌, ℕ, Bool, ◌+◌, ◌≤◌, false, ◌⊎◌, inl, inr, List, [], ◌∷◌, ◌++◌, length, length-append, replicate, slice_get, slice_set, option_map, Option, Some, None, refl, sym, ap, ◌∙◌, subst, arith, if◌then◌else◌}
 use Rattle.link_buffers.specs.Queues.{no_packets}
 use Rattle.maint_registers.specs.Devices.{Device, is_switch, new_endpoint, new_switch}
 use Rattle.fabric_script.specs.declared.lines.Line.{Line}
@@ -319,23 +318,6 @@ links_of nodes net kept same joined = record {
 }
 
 -- ---- a device that is read, changed and written back
-
-set_device : (devices : List Device) (n : ℕ) (read : Device) (change : Device → Device)
-    → slice_get devices n ≡ Some read → set devices n (change read) ≡ with_device devices n change
-set_device [] n read change there = refl
-set_device (d ∷ devices) zero read change there =
-    ap (λ x. change x ∷ devices) (sym (same_Some d read there))
-set_device (d ∷ devices) (suc n) read change there =
-    ap (λ more. d ∷ more) (set_device devices n read change there)
-
-pub device_set : (devices : List Device) (node i : ℕ) (read written : Device)
-    (change : Device → Device) → i ≡ node → i < length devices → read ≡ get_or devices i read
-    → written ≡ change read → set devices i written ≡ with_device devices node change
-device_set devices node i read written change same within value is =
-    ap (set devices i) is
-    ∙ set_device devices i read change
-    (slice_get_read devices (length devices) i read refl within value)
-    ∙ ap (λ n. with_device devices n change) same
 
 -- an endpoint or a switch of the network is one of the devices that are kept
 pub kind_of : (switch : Bool) (net : Network) (kept : Kept) (node : ℕ) → IsBuilt net kept

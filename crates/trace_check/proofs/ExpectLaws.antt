@@ -60,7 +60,8 @@ module _ (known : Known) (net : Network) (bytes : List ℕ) (first number : ℕ)
   where
     -- a line that is hit is the one that is asked for, and its text is to be told
     pub hit_told : (text left : Bor (List ℕ)) (ended : Bool) (steps : ℕ) (state : State)
-        (next : Option (Bor (List ℕ) × Bor (List ℕ))) (short ends : Bool) (more hit : ℕ) (new : State)
+        (next : Option (Bor (List ℕ) × Bor (List ℕ))) (short ends : Bool) (more hit : ℕ)
+        (new : State)
         → IsAhead known net bytes first number (Some (text, left)) ended steps state
         → texts_of left.now ≡ texts_ahead next → short ≡ are_short (as_behind (texts_ahead next))
         → ((r : Reached) → IsReached r state → r.nodes ≡ length known.names
@@ -68,7 +69,8 @@ module _ (known : Known) (net : Network) (bytes : List ℕ) (first number : ℕ)
         → (number ≡ first + place) × (ended ≡ false) × ((r : Reached) → IsReached r state
         → r.nodes ≡ length known.names → IsToBeTold known r text.now)
     hit_told text left ended steps state next short ends more hit new is texts short_is reads =
-        let stops = hit_ahead known net bytes first number text left ended steps state next short ends
+        let stops = hit_ahead known net bytes first number text left ended steps state next short
+        ends
         more hit new orderly is texts short_is reads in
         let same = unlawful_once known net orderly (texts_of bytes) stops.0 hit place reason stops.2
         unlawful in
@@ -103,7 +105,8 @@ module _ (known : Known) (net : Network) (bytes : List ℕ) (first number : ℕ)
     -- no such trace is read to its end
     pub not_through : (ended : Bool) (steps : ℕ) (state : State)
         → IsAhead known net bytes first number None ended steps state → ⊥
-    not_through true steps state is = exclusive known net (texts_of bytes) steps place reason orderly
+    not_through true steps state is = exclusive known net (texts_of bytes) steps place reason
+        orderly
         (all_ahead known net bytes first number steps state orderly is) unlawful
     not_through false steps state is =
         let stops = none_ahead known net bytes first number steps state is in

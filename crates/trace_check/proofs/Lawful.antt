@@ -37,7 +37,8 @@ use Rattle.trace_check.specs.Checks.{freed, net_after, EditFits, OnWires, IsStep
 use Rattle.fabric_trace.proofs.Allowing.{allowed_at, freed_is, heard_is}
 use Rattle.fabric_trace.proofs.Sending.{owned_at}
 use Rattle.fabric_trace.proofs.Shows.{runs_shown}
-use Rattle.trace_check.proofs.Edits.{ToldBy, ToldAt, EditsTold, told_at, runs_told, chars_of, links_are, wires_are, stood_at}
+use Rattle.fabric_trace.proofs.Wiring.{seen_links, chars_of}
+use Rattle.trace_check.proofs.Edits.{ToldBy, ToldAt, EditsTold, told_at, runs_told, wires_are, stood_at}
 
 -- ---- wires
 
@@ -176,7 +177,7 @@ line_passes : (net : Network) (before behind : List TraceLine) (line : TraceLine
 line_passes net before behind line is all told owned allowed =
     let s0 = begins net in
     let s = seen s0 before in
-    let links : s.network.links ≡ net.links = links_are s0 before in
+    let links : s.network.links ≡ net.links = seen_links s0 before in
     let own = owned_at before behind line s0 owned in
     let wires : wires_after net.links (λ p. []) before (line ∷ behind) ≡ chars_of s =
     wires_are before (line ∷ behind) s0 net.links refl told in

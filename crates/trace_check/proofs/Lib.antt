@@ -15,7 +15,6 @@ pub mod StateLaws
 pub mod NewState
 pub mod AnswerLaws
 pub mod NetworkLaws
-pub mod Changed
 pub mod SendingLaws
 pub mod StartLaws
 pub mod BuildLaws

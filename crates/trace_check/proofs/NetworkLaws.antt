@@ -1,18 +1,16 @@
 -- What a part of a step leaves of the network, table by table.
-use Rattle.std.proofs.Common.{◌≡◌, ◌↔◌, ℕ, ◌+◌, ◌-◌, ◌<◌, ◌==◌, ◌++◌, List, [], ◌∷◌, count_by, drop, filter, length, map, nat_lt, Err, IfOk, Ok, Result, slice_get, slice_set, Bool, false, true, None, Some, refl, sym, ap, ◌∙◌, arith}
+use Rattle.std.proofs.Common.{◌≡◌, ◌↔◌, ℕ, ◌+◌, ◌-◌, ◌<◌, ◌==◌, ◌++◌, List, [], ◌∷◌, count_by, drop, filter, length, map, nat_lt, Err, IfOk, Ok, Result, slice_get, slice_set, false, Some, sym, ap, ◌∙◌, arith}
 use Rattle.std.proofs.lemmas.Bool.Decides.{nat_tests}
 use Rattle.std.proofs.lemmas.List.{length-map}
 use Rattle.std.proofs.lemmas.List.Sums.{length-filter}
-use Rattle.rio_packets.specs.Fields.{is_request, prio_of}
+use Rattle.rio_packets.specs.Fields.{prio_of}
 use Rattle.link_buffers.specs.Queues.{appended, list_at, popped}
 use Rattle.maint_packets.specs.NextHops.{moved}
-use Rattle.maint_packets.specs.Requests.{request_of}
 use Rattle.fabric_script.specs.declared.ports.PortRef.{PortRef}
 use Rattle.fabric_model.specs.Network.{first_packet, Item, Lanes, Network, with_lane, with_lent}
 use Rattle.fabric_model.specs.Steps.{behind_first, moved_item, Needs, only_first, Step}
 use Rattle.fabric_trace.specs.Views.{lists_in, packets_in}
 use Rattle.fabric_trace.proofs.Lanes.{behind_is, first_is, lane_at, lane_other, lent_other, lent_own, lists_set, of_prio_is, packets-append}
-use Rattle.switch_core.proofs.RequestLaws.{request_there}
 use Rattle.trace_check.specs.declared.network.Network.{Network as Kept}
 use Rattle.trace_check.specs.Networks.{MakesIt}
 use Rattle.trace_check.specs.Tables.{IsIn, IsTable, place_of}
@@ -30,7 +28,8 @@ pub first_both : (lanes : ℕ → List Item) (lists : List (List (List ℕ))) (r
 first_both lanes lists r packet few is =
     let same : list_at lists r ≡ packets_in (lanes r)
     = ap (λ l. list_at l r) is ∙ lane_at lanes r few in (
-      λ first. first_is (lanes r) packet (ap (λ (l : List (List ℕ)). slice_get l 0) (sym same) ∙ first),
+      λ first. first_is (lanes r) packet
+          (ap (λ (l : List (List ℕ)). slice_get l 0) (sym same) ∙ first),
       λ first. ap (λ (l : List (List ℕ)). slice_get l 0) same ∙ first_back (lanes r) packet first,
     )
 
@@ -141,14 +140,6 @@ not_made nodes net step kept never =
     ((λ yes. absurd (cc yes), λ needs. absurd (never needs)), λ yes. absurd (cc yes))
 
 -- ---- steps of devices
-
--- what asks for nothing is no request
-pub asks_not : (packet : List ℕ) → request_of packet ≡ None → is_request packet ≡ false
-asks_not packet none = by_test (is_request packet) refl
-  where
-    by_test : (asks : Bool) → is_request packet ≡ asks → is_request packet ≡ false
-    by_test false asks = asks
-    by_test true asks = (let found = request_there packet asks in absurd (cc (none, found.1)))
 
 -- the first packet as it moves on
 pub moved_is : (items : List Item) (packet : List ℕ) → first_packet items ≡ Some packet

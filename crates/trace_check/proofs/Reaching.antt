@@ -3,8 +3,8 @@ use Rattle.std.proofs.Common.{◌≡◌, ℕ, ◌<◌, ◌++◌, List, [], ◌�
 use Rattle.fabric_script.specs.declared.ports.PortRef.{PortRef}
 use Rattle.fabric_model.specs.Network.{Network}
 use Rattle.fabric_model.specs.Steps.{after, after_all, AtNode, ByDevice, Free, Hold, Linked, Step}
-use Rattle.fabric_model.proofs.Joining.{links_stay}
 use Rattle.fabric_model.proofs.Peers.{port_is}
+use Rattle.fabric_model.proofs.Flows.{links_along}
 use Rattle.fabric_trace.specs.Allowance.{allowance}
 use Rattle.fabric_trace.specs.Holds.{got}
 use Rattle.fabric_trace.specs.Lines.{Begun, Ended, Lacked, Signed, Stepped, steps_of, TraceLine, Undetected}
@@ -44,10 +44,6 @@ other_behind nodes net before one other r same is = record {
 
 -- ---- one more line
 
-links_kept : (net : Network) (steps : List Step) → (after_all net steps).links ≡ net.links
-links_kept net [] = refl
-links_kept net (step ∷ steps) = links_kept (after net step) steps ∙ links_stay net step
-
 after-append : (net : Network) (xs ys : List Step)
     → after_all (after_all net xs) ys ≡ after_all net (xs ++ ys)
 after-append net [] ys = refl
@@ -74,7 +70,7 @@ on_behind nodes net before behind line r may is = record {
   net_is = ap (λ (n : Network). net_after n (line ∷ [])) is.net_is
       ∙ after-append net (steps_of before) (steps_of (line ∷ []))
       ∙ ap (after_all net) (sym (steps_of-append before (line ∷ [])));
-  links_are = links_kept r.net (steps_of (line ∷ [])) ∙ is.links_are;
+  links_are = links_along r.net (steps_of (line ∷ [])) ∙ is.links_are;
   wires_are = (λ i. told_wires (is.links_are i) (is.wires_are i) line (are_short behind))
       ∙ wires_on net.links before (λ p. []) line behind;
   runs_are = λ p. run_on p before line (r.runs p) (holds_fit p r.runs line may) (is.runs_are p);

@@ -1,9 +1,9 @@
 -- What is asked of each of several events, and of packets among others.
-use Rattle.std.proofs.Common.{◌≡◌, ◌↔◌, ℕ, zero, suc, ◌<◌, ◌||◌, Bool, true, false, Decides, List, [], ◌∷◌, ◌++◌, Contains, nat_eq, inl, inr, ◌⊎◌, refl, sym, ap, ◌∙◌, subst, arith}
+use Rattle.std.proofs.Common.{◌≡◌, ◌↔◌, ℕ, zero, suc, ◌<◌, ◌||◌, Bool, true, false, Decides, List, [], ◌∷◌, Contains, nat_eq, inl, inr, ◌⊎◌, refl, sym, ap, ◌∙◌, subst, arith}
 use Rattle.std.proofs.lemmas.Bool.{false≢true, true≢false}
 use Rattle.std.specs.Prelude.{IsTrue}
 use Rattle.std.specs.Cmp.Lexicographic.{pointwise, bytes_decides}
-use Rattle.std.specs.List.{AllByRecursion, list_any}
+use Rattle.std.specs.List.{list_any}
 use Rattle.rio_packets.specs.Fields.{prio_of}
 use Rattle.link_buffers.specs.Queues.{list_at}
 use Rattle.fabric_script.specs.declared.ports.PortRef.{PortRef}
@@ -12,11 +12,6 @@ use Rattle.fabric_trace.specs.Owned.{HasPacket}
 use Rattle.fabric_trace.specs.Views.{packets_in}
 use Rattle.fabric_trace.proofs.Lanes.{lane_at}
 use Rattle.trace_check.specs.Sending.{AreToSend}
-
-pub all_parts : {X : Type 0} (P : X → Type 0) (xs ys : List X) → AllByRecursion P (xs ++ ys)
-    → AllByRecursion P xs × AllByRecursion P ys
-all_parts P [] ys all = (tt, all)
-all_parts P (x ∷ xs) ys all = let rest = all_parts P xs ys all.1 in ((all.0, rest.0), rest.1)
 
 same_other : (other packet : List ℕ) → Decides (pointwise nat_eq other packet) (other ≡ packet)
 same_other other packet = bytes_decides other packet

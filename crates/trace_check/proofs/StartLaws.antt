@@ -1,7 +1,7 @@
 -- What a line of set-up adds: a node with its ports, or a link.
-use Rattle.std.proofs.Common.{◌≡◌, ℕ, ◌+◌, ◌<◌, ◌≤◌, Bool, true, false, ◌⊎◌, inl, inr, List, [], ◌∷◌, ◌++◌, length, map, take, drop, get_or, replicate, slice_get, slice_set, option_map, Option, Some, None, cond, refl, sym, ap, ◌∙◌, subst, arith, length-append, take-append-drop}
+use Rattle.std.proofs.Common.{◌≡◌, ℕ, ◌+◌, ◌<◌, ◌≤◌, Bool, true, false, ◌⊎◌, inl, inr, List, [], ◌∷◌, ◌++◌, length, map, take, drop, get_or, replicate, slice_get, slice_set, option_map, Option, Some, None, cond, refl, sym, ap, ◌∙◌, subst, arith, length-append}
 use Rattle.std.proofs.lemmas.Bool.{false_from_ne_true}
-use Rattle.std.proofs.lemmas.List.{get_or-append-add, get_or-replicate, get_or_append_left, length-map, length-replicate, take_more, drop_more}
+use Rattle.std.proofs.lemmas.List.{get_or-append-add, get_or-replicate, get_or_append_left, length-map, length-replicate, take_more}
 use Rattle.std.proofs.lemmas.Option.{get_or_from_slice_get, slice_get-map, slice_get_read}
 use Rattle.maint_registers.specs.Devices.{new_endpoint, new_switch}
 use Rattle.fabric_script.specs.Known.{Known, known_after, names_after, nothing}
@@ -19,6 +19,7 @@ use Rattle.fabric_trace.specs.Runs.{bare, set_up, set_up_all}
 use Rattle.fabric_trace.specs.Settings.{defaulted, held_by, large_set, linked_at, routed}
 use Rattle.fabric_trace.specs.SetUps.{MaySetUpAll}
 use Rattle.fabric_trace.proofs.Happening.{may_set_up}
+use Rattle.fabric_trace.proofs.SettingUp.{set_up_all-append, lines_at}
 use Rattle.trace_check.specs.Starting.{AreEnds, ArePortsIn, MayAdd}
 use Rattle.trace_check.specs.Tables.{IsIn, IsTable, place_of}
 use Rattle.trace_check.proofs.TableLaws.{place_within, table_set}
@@ -287,14 +288,6 @@ may_at net [] behind line may ports = record { may = may.0; ports = ports.0 }
 may_at net (first ∷ before) behind line may ports =
     may_at (set_up net first.line) before behind line may.1 ports.1
 
--- the lines as those before a place, the one there, and those behind it
-lines_at : (lines : List Numbered) (i : ℕ) (line : Numbered) → i < length lines
-    → line ≡ get_or lines i line → lines ≡ take i lines ++ line ∷ drop (i + 1) lines
-lines_at lines i line within at =
-    sym (take-append-drop i lines)
-    ∙ ap (λ rest. take i lines ++ rest) (drop_more lines i line within
-    ∙ ap (λ x. x ∷ drop (i + 1) lines) (sym at))
-
 -- the next line may be added
 pub next_may : (names : List (List ℕ)) (lines : List Numbered) (i : ℕ) (line : Numbered)
     → Passes names lines → i < length lines → line ≡ get_or lines i line
@@ -305,11 +298,6 @@ next_may names lines i line passes within at =
     (subst (MaySetUpAll bare) split (may_set_up names lines passes))
     (subst (AllPorts bare) split (all_ports nothing names bare lines refl passes))
 
-set_up_append : (net : Network) (lines more : List Numbered)
-    → set_up_all net (lines ++ more) ≡ set_up_all (set_up_all net lines) more
-set_up_append net [] more = refl
-set_up_append net (line ∷ lines) more = set_up_append (set_up net line.line) lines more
-
 -- and makes the next network
 pub next_net : (lines : List Numbered) (i : ℕ) (line : Numbered) → i < length lines
     → line ≡ get_or lines i line
@@ -317,4 +305,4 @@ pub next_net : (lines : List Numbered) (i : ℕ) (line : Numbered) → i < lengt
 next_net lines i line within at =
     ap (set_up_all bare) (take_more lines i line within
     ∙ ap (λ x. take i lines ++ x ∷ []) (sym at))
-    ∙ set_up_append bare (take i lines) (line ∷ [])
+    ∙ set_up_all-append bare (take i lines) (line ∷ [])

@@ -52,7 +52,8 @@ abbrev pub words_behind : List (List ℕ) → TraceLine → List (List ℕ)
 words_behind names line = drop 1 (trace_words names line)
 
 -- the line has this keyword and these words behind it, and it fits
-pub record SpellsBehind (known : Known) (keyword : Keyword) (words : List (List ℕ)) (line : TraceLine) :
+pub record SpellsBehind (known : Known) (keyword : Keyword) (words : List (List ℕ))
+    (line : TraceLine) :
     Type 0 where
   pub keyword_is : keyword_of line ≡ keyword
   pub words_are : words ≡ words_behind known.names line

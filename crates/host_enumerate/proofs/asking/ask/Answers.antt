@@ -33,7 +33,8 @@ returns-then-ports-eq0-clause-answer g c at enters =
 pub returns-then-ports-eq0-clause-registers : goal.returns-then-ports-eq0-clause-registers
 returns-then-ports-eq0-clause-registers g c at enters = λ other.
     ap (λ r. r other) c.own.ensures.registers
-    ∙ ap (λ (p : PortRef). after_access (g.M.Maint.registers c.args.maint.now) p c.args.access other)
+    ∙ ap (λ (p : PortRef). after_access (g.M.Maint.registers c.args.maint.now) p c.args.access
+    other)
     (at_host (g.M.Maint.topology c.args.maint.now) c.args.path.now at
     (sym (ap (λ l. length l) c.as_slice-ports.ensures) ∙ c.if-ports-eq0.true) enters)
 
@@ -45,7 +46,8 @@ answered_at g c at enters =
     let asked = c.requires.askable in
     let same = ap (λ l. length l) c.as_slice-ports.ensures in
     subst (λ p. IsAnswered (g.M.Maint.topology c.args.maint.now)
-    (g.M.Maint.registers c.args.maint.now) 255 (length c.as_slice-ports.result.now - 1) c.args.access p)
+    (g.M.Maint.registers c.args.maint.now) 255 (length c.as_slice-ports.result.now - 1)
+    c.args.access p)
     (same_end (g.M.Maint.topology c.args.maint.now) c.args.path.now asked.1 at asked.2.leads enters)
     (subst (λ n. IsAnswered (g.M.Maint.topology c.args.maint.now)
     (g.M.Maint.registers c.args.maint.now) 255 (n - 1) c.args.access asked.1)

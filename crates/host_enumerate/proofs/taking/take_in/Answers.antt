@@ -26,7 +26,8 @@ prepare-requires-clause-askable g c =
     (length devices + 1) c.in_ok-write.ensures.topology c.requires.askable.1
     c.requires.askable.2
     (tagged topology old (g.M.Maint.registers c.write.new.maint) c.args.path.now at c.len.result
-    devices (c.len.ensures ∙ c.args.numbering.now.devices.ok.0) c.in_ok-write.ensures.registers c.requires.askable.1.leads) in
+    devices (c.len.ensures ∙ c.args.numbering.now.devices.ok.0) c.in_ok-write.ensures.registers
+    c.requires.askable.1.leads) in
     (at, found.0, found.1)
 
 pub returns-in-Ok-clause-taken : goal.returns-in-Ok-clause-taken

@@ -14,9 +14,11 @@ loop-port-preserved-then-port-switch g t c = record {
   follows = c.loop-port.invariant.follows;
   found = c.loop-port.invariant.found;
   tried = λ before underway.
-      entry_passed (g.M.Maint.topology c.args.maint.now) before (g.M.Maint.registers c.loop-port.maint)
+      entry_passed (g.M.Maint.topology c.args.maint.now) before
+      (g.M.Maint.registers c.loop-port.maint)
       c.args.numbering.now.host_id c.loop-port.numbering.next_id c.loop-port.port
-      c.loop-port.numbering.devices.items c.args.switch.now c.loop-port.invariant.found c.if-port-switch.true
+      c.loop-port.numbering.devices.items c.args.switch.now c.loop-port.invariant.found
+      c.if-port-switch.true
       (c.loop-port.invariant.tried before underway);
   host = c.loop-port.invariant.host;
   longer = c.loop-port.invariant.longer;
@@ -29,8 +31,10 @@ look_behind-requires-clause-underway g t c = (
   c.requires.underway.0,
   underway-as (g.M.Maint.topology c.args.maint.now) (g.M.Maint.topology c.loop-port.maint)
       c.requires.underway.0 (g.M.Maint.registers c.loop-port.maint) c.args.numbering.now.host_id
-      c.loop-port.numbering.host_id c.loop-port.numbering.next_id c.loop-port.numbering.devices.items
-      (onward c.args.switch.now.path c.loop-port.port) c.loop-port.invariant.topology c.loop-port.invariant.host
+      c.loop-port.numbering.host_id c.loop-port.numbering.next_id
+      c.loop-port.numbering.devices.items
+      (onward c.args.switch.now.path c.loop-port.port) c.loop-port.invariant.topology
+      c.loop-port.invariant.host
       (c.loop-port.invariant.tried c.requires.underway.0 c.requires.underway.1),
 )
 
@@ -38,36 +42,43 @@ pub returns-in_err-found-clause-end : goal.returns-in_err-found-clause-end
 returns-in_err-found-clause-end g t c =
     handed_on c.from_residual.result c.in_err-found.field-0.0
     (IsEnded (g.M.Maint.undetected c.args.maint.now, g.M.Maint.undetected c.look_behind.new.maint)
-    (g.M.Maint.faults c.args.maint.now, g.M.Maint.faults c.look_behind.new.maint) (g.M.Maint.IsMet c.look_behind.new.maint)
-    (λ at id. g.M.Maint.IsWhole c.look_behind.new.maint × ((origin : _) → g.M.Maint.Follows origin c.args.maint.now
+    (g.M.Maint.faults c.args.maint.now, g.M.Maint.faults c.look_behind.new.maint)
+    (g.M.Maint.IsMet c.look_behind.new.maint)
+    (λ at id. g.M.Maint.IsWhole c.look_behind.new.maint
+    × ((origin : _) → g.M.Maint.Follows origin c.args.maint.now
     → g.M.Maint.Follows origin c.look_behind.new.maint)
     × ((before : Registers)
     → IsUnderway (g.M.Maint.topology c.args.maint.now) before
     (g.M.Maint.registers c.args.maint.now) c.args.numbering.now.host_id
     c.args.numbering.now.devices.items c.args.numbering.now.next_id
     (onward c.args.switch.now.path 0)
-    → EndsAtLock (g.M.Maint.topology c.args.maint.now) before (g.M.Maint.registers c.look_behind.new.maint) at id)))
+    → EndsAtLock (g.M.Maint.topology c.args.maint.now) before
+    (g.M.Maint.registers c.look_behind.new.maint) at id)))
     c.from_residual.ensures.1
     (ended_longer (g.M.Maint.undetected c.args.maint.now)
     (g.M.Maint.undetected c.loop-port.maint) (g.M.Maint.undetected c.look_behind.new.maint)
     (g.M.Maint.faults c.args.maint.now) (g.M.Maint.faults c.loop-port.maint)
     (g.M.Maint.faults c.look_behind.new.maint) (g.M.Maint.IsMet c.look_behind.new.maint)
-    (λ at id. g.M.Maint.IsWhole c.look_behind.new.maint × ((origin : _) → g.M.Maint.Follows origin c.loop-port.maint
+    (λ at id. g.M.Maint.IsWhole c.look_behind.new.maint
+    × ((origin : _) → g.M.Maint.Follows origin c.loop-port.maint
     → g.M.Maint.Follows origin c.look_behind.new.maint)
     × ((before : Registers)
     → IsUnderway (g.M.Maint.topology c.loop-port.maint) before
     (g.M.Maint.registers c.loop-port.maint) c.loop-port.numbering.host_id
     c.loop-port.numbering.devices.items c.loop-port.numbering.next_id
     (onward c.args.switch.now.path c.loop-port.port)
-    → EndsAtLock (g.M.Maint.topology c.loop-port.maint) before (g.M.Maint.registers c.look_behind.new.maint) at id))
-    (λ at id. g.M.Maint.IsWhole c.look_behind.new.maint × ((origin : _) → g.M.Maint.Follows origin c.args.maint.now
+    → EndsAtLock (g.M.Maint.topology c.loop-port.maint) before
+    (g.M.Maint.registers c.look_behind.new.maint) at id))
+    (λ at id. g.M.Maint.IsWhole c.look_behind.new.maint
+    × ((origin : _) → g.M.Maint.Follows origin c.args.maint.now
     → g.M.Maint.Follows origin c.look_behind.new.maint)
     × ((before : Registers)
     → IsUnderway (g.M.Maint.topology c.args.maint.now) before
     (g.M.Maint.registers c.args.maint.now) c.args.numbering.now.host_id
     c.args.numbering.now.devices.items c.args.numbering.now.next_id
     (onward c.args.switch.now.path 0)
-    → EndsAtLock (g.M.Maint.topology c.args.maint.now) before (g.M.Maint.registers c.look_behind.new.maint) at id))
+    → EndsAtLock (g.M.Maint.topology c.args.maint.now) before
+    (g.M.Maint.registers c.look_behind.new.maint) at id))
     c.in_err-found.field-0.0
     c.loop-port.invariant.undetected
     c.loop-port.invariant.faults
@@ -75,10 +86,15 @@ returns-in_err-found-clause-end g t c =
       ends.0,
       (λ origin is. ends.1 origin (c.loop-port.invariant.follows origin is)),
       λ before underway.
-          subst (λ t. EndsAtLock t before (g.M.Maint.registers c.look_behind.new.maint) at id) c.loop-port.invariant.topology
-          (ends.2 before (underway-as (g.M.Maint.topology c.args.maint.now) (g.M.Maint.topology c.loop-port.maint) before
-          (g.M.Maint.registers c.loop-port.maint) c.args.numbering.now.host_id c.loop-port.numbering.host_id c.loop-port.numbering.next_id
-          c.loop-port.numbering.devices.items (onward c.args.switch.now.path c.loop-port.port) c.loop-port.invariant.topology c.loop-port.invariant.host
+          subst (λ t. EndsAtLock t before (g.M.Maint.registers c.look_behind.new.maint) at id)
+          c.loop-port.invariant.topology
+          (ends.2 before
+          (underway-as (g.M.Maint.topology c.args.maint.now)
+          (g.M.Maint.topology c.loop-port.maint) before
+          (g.M.Maint.registers c.loop-port.maint) c.args.numbering.now.host_id
+          c.loop-port.numbering.host_id c.loop-port.numbering.next_id
+          c.loop-port.numbering.devices.items (onward c.args.switch.now.path c.loop-port.port)
+          c.loop-port.invariant.topology c.loop-port.invariant.host
           (c.loop-port.invariant.tried before underway))),
     ))
     c.in_err-found.ensures.end)
@@ -134,7 +150,8 @@ explore-requires g t c κs within =
     c.loop-port.invariant.found c.in_ok-found.field-0
     c.in_ok-found.ensures.looked c.in_ok-found.ensures.found
     c.in-Some.found c.in-Some.is
-    c.requires.underway.0 (c.loop-port.invariant.tried c.requires.underway.0 c.requires.underway.1) in
+    c.requires.underway.0 (c.loop-port.invariant.tried c.requires.underway.0 c.requires.underway.1)
+    in
     let longer = c.loop-port.invariant.longer in (
       search (rules, more, few, longer),
       (
@@ -142,15 +159,19 @@ explore-requires g t c κs within =
         (
           c.in_ok-found.ensures.whole,
           (
-            found-as (g.M.Maint.topology c.args.maint.now) (g.M.Maint.topology c.look_behind.new.maint)
-                (g.M.Maint.registers c.look_behind.new.maint) c.args.numbering.now.host_id c.look_behind.new.numbering.host_id
+            found-as (g.M.Maint.topology c.args.maint.now)
+                (g.M.Maint.topology c.look_behind.new.maint)
+                (g.M.Maint.registers c.look_behind.new.maint) c.args.numbering.now.host_id
+                c.look_behind.new.numbering.host_id
                 c.look_behind.new.numbering.devices.items c.in-Some.found
                 (c.in_ok-found.ensures.topology ∙ c.loop-port.invariant.topology)
                 (c.in_ok-found.ensures.host ∙ c.loop-port.invariant.host)
                 (child_found (g.M.Maint.topology c.args.maint.now) c.args.numbering.now.host_id
                 c.loop-port.port c.args.switch.now (g.M.Maint.topology c.loop-port.maint)
-                c.loop-port.numbering.host_id c.loop-port.invariant.topology c.loop-port.invariant.host
-                (g.M.Maint.registers c.loop-port.maint) (g.M.Maint.registers c.look_behind.new.maint)
+                c.loop-port.numbering.host_id c.loop-port.invariant.topology
+                c.loop-port.invariant.host
+                (g.M.Maint.registers c.loop-port.maint)
+                (g.M.Maint.registers c.look_behind.new.maint)
                 c.loop-port.numbering.devices.items c.look_behind.new.numbering.devices.items
                 c.loop-port.numbering.next_id c.look_behind.new.numbering.next_id
                 c.loop-port.invariant.found c.in_ok-found.field-0
@@ -158,22 +179,28 @@ explore-requires g t c κs within =
                 c.in-Some.found c.in-Some.is),
             (
               c.requires.underway.0,
-              underway-as (g.M.Maint.topology c.args.maint.now) (g.M.Maint.topology c.look_behind.new.maint)
-                  c.requires.underway.0 (g.M.Maint.registers c.look_behind.new.maint) c.args.numbering.now.host_id
-                  c.look_behind.new.numbering.host_id c.look_behind.new.numbering.next_id c.look_behind.new.numbering.devices.items
+              underway-as (g.M.Maint.topology c.args.maint.now)
+                  (g.M.Maint.topology c.look_behind.new.maint)
+                  c.requires.underway.0 (g.M.Maint.registers c.look_behind.new.maint)
+                  c.args.numbering.now.host_id
+                  c.look_behind.new.numbering.host_id c.look_behind.new.numbering.next_id
+                  c.look_behind.new.numbering.devices.items
                   (onward c.in-Some.found.path 0)
                   (c.in_ok-found.ensures.topology ∙ c.loop-port.invariant.topology)
                   (c.in_ok-found.ensures.host ∙ c.loop-port.invariant.host)
                   (child_underway (g.M.Maint.topology c.args.maint.now) c.args.numbering.now.host_id
                   c.loop-port.port c.args.switch.now (g.M.Maint.topology c.loop-port.maint)
-                  c.loop-port.numbering.host_id c.loop-port.invariant.topology c.loop-port.invariant.host
-                  (g.M.Maint.registers c.loop-port.maint) (g.M.Maint.registers c.look_behind.new.maint)
+                  c.loop-port.numbering.host_id c.loop-port.invariant.topology
+                  c.loop-port.invariant.host
+                  (g.M.Maint.registers c.loop-port.maint)
+                  (g.M.Maint.registers c.look_behind.new.maint)
                   c.loop-port.numbering.devices.items c.look_behind.new.numbering.devices.items
                   c.loop-port.numbering.next_id c.look_behind.new.numbering.next_id
                   c.loop-port.invariant.found c.in_ok-found.field-0
                   c.in_ok-found.ensures.looked c.in_ok-found.ensures.found
                   c.in-Some.found c.in-Some.is
-                  c.requires.underway.0 (c.loop-port.invariant.tried c.requires.underway.0 c.requires.underway.1)),
+                  c.requires.underway.0
+                  (c.loop-port.invariant.tried c.requires.underway.0 c.requires.underway.1)),
             ),
           ),
         ),
@@ -184,36 +211,43 @@ pub returns-in_err-explore-clause-end : goal.returns-in_err-explore-clause-end
 returns-in_err-explore-clause-end g t c =
     handed_on c.from_residual-in_err-explore.result c.in_err-explore.field-0.0
     (IsEnded (g.M.Maint.undetected c.args.maint.now, g.M.Maint.undetected c.explore.new.maint)
-    (g.M.Maint.faults c.args.maint.now, g.M.Maint.faults c.explore.new.maint) (g.M.Maint.IsMet c.explore.new.maint)
-    (λ at id. g.M.Maint.IsWhole c.explore.new.maint × ((origin : _) → g.M.Maint.Follows origin c.args.maint.now
+    (g.M.Maint.faults c.args.maint.now, g.M.Maint.faults c.explore.new.maint)
+    (g.M.Maint.IsMet c.explore.new.maint)
+    (λ at id. g.M.Maint.IsWhole c.explore.new.maint
+    × ((origin : _) → g.M.Maint.Follows origin c.args.maint.now
     → g.M.Maint.Follows origin c.explore.new.maint)
     × ((before : Registers)
     → IsUnderway (g.M.Maint.topology c.args.maint.now) before
     (g.M.Maint.registers c.args.maint.now) c.args.numbering.now.host_id
     c.args.numbering.now.devices.items c.args.numbering.now.next_id
     (onward c.args.switch.now.path 0)
-    → EndsAtLock (g.M.Maint.topology c.args.maint.now) before (g.M.Maint.registers c.explore.new.maint) at id)))
+    → EndsAtLock (g.M.Maint.topology c.args.maint.now) before
+    (g.M.Maint.registers c.explore.new.maint) at id)))
     c.from_residual-in_err-explore.ensures.1
     (ended_longer (g.M.Maint.undetected c.args.maint.now)
     (g.M.Maint.undetected c.look_behind.new.maint) (g.M.Maint.undetected c.explore.new.maint)
     (g.M.Maint.faults c.args.maint.now) (g.M.Maint.faults c.look_behind.new.maint)
     (g.M.Maint.faults c.explore.new.maint) (g.M.Maint.IsMet c.explore.new.maint)
-    (λ at id. g.M.Maint.IsWhole c.explore.new.maint × ((origin : _) → g.M.Maint.Follows origin c.look_behind.new.maint
+    (λ at id. g.M.Maint.IsWhole c.explore.new.maint
+    × ((origin : _) → g.M.Maint.Follows origin c.look_behind.new.maint
     → g.M.Maint.Follows origin c.explore.new.maint)
     × ((before : Registers)
     → IsUnderway (g.M.Maint.topology c.look_behind.new.maint) before
     (g.M.Maint.registers c.look_behind.new.maint) c.look_behind.new.numbering.host_id
     c.look_behind.new.numbering.devices.items c.look_behind.new.numbering.next_id
     (onward c.in-Some.found.path 0)
-    → EndsAtLock (g.M.Maint.topology c.look_behind.new.maint) before (g.M.Maint.registers c.explore.new.maint) at id))
-    (λ at id. g.M.Maint.IsWhole c.explore.new.maint × ((origin : _) → g.M.Maint.Follows origin c.args.maint.now
+    → EndsAtLock (g.M.Maint.topology c.look_behind.new.maint) before
+    (g.M.Maint.registers c.explore.new.maint) at id))
+    (λ at id. g.M.Maint.IsWhole c.explore.new.maint
+    × ((origin : _) → g.M.Maint.Follows origin c.args.maint.now
     → g.M.Maint.Follows origin c.explore.new.maint)
     × ((before : Registers)
     → IsUnderway (g.M.Maint.topology c.args.maint.now) before
     (g.M.Maint.registers c.args.maint.now) c.args.numbering.now.host_id
     c.args.numbering.now.devices.items c.args.numbering.now.next_id
     (onward c.args.switch.now.path 0)
-    → EndsAtLock (g.M.Maint.topology c.args.maint.now) before (g.M.Maint.registers c.explore.new.maint) at id))
+    → EndsAtLock (g.M.Maint.topology c.args.maint.now) before
+    (g.M.Maint.registers c.explore.new.maint) at id))
     c.in_err-explore.field-0.0
     (c.in_ok-found.ensures.undetected ∙ c.loop-port.invariant.undetected)
     (c.in_ok-found.ensures.faults ∙ c.loop-port.invariant.faults)
@@ -222,11 +256,16 @@ returns-in_err-explore-clause-end g t c =
       (λ origin is. ends.1 origin (c.in_ok-found.ensures.follows origin
           (c.loop-port.invariant.follows origin is))),
       λ before underway.
-          subst (λ t. EndsAtLock t before (g.M.Maint.registers c.explore.new.maint) at id) (c.in_ok-found.ensures.topology ∙ c.loop-port.invariant.topology)
-          (ends.2 before (underway-as (g.M.Maint.topology c.args.maint.now) (g.M.Maint.topology c.look_behind.new.maint) before
-          (g.M.Maint.registers c.look_behind.new.maint) c.args.numbering.now.host_id c.look_behind.new.numbering.host_id c.look_behind.new.numbering.next_id
+          subst (λ t. EndsAtLock t before (g.M.Maint.registers c.explore.new.maint) at id)
+          (c.in_ok-found.ensures.topology ∙ c.loop-port.invariant.topology)
+          (ends.2 before
+          (underway-as (g.M.Maint.topology c.args.maint.now)
+          (g.M.Maint.topology c.look_behind.new.maint) before
+          (g.M.Maint.registers c.look_behind.new.maint) c.args.numbering.now.host_id
+          c.look_behind.new.numbering.host_id c.look_behind.new.numbering.next_id
           c.look_behind.new.numbering.devices.items (onward c.in-Some.found.path 0)
-          (c.in_ok-found.ensures.topology ∙ c.loop-port.invariant.topology) (c.in_ok-found.ensures.host ∙ c.loop-port.invariant.host)
+          (c.in_ok-found.ensures.topology ∙ c.loop-port.invariant.topology)
+          (c.in_ok-found.ensures.host ∙ c.loop-port.invariant.host)
           (child_underway (g.M.Maint.topology c.args.maint.now) c.args.numbering.now.host_id
           c.loop-port.port c.args.switch.now (g.M.Maint.topology c.loop-port.maint)
           c.loop-port.numbering.host_id c.loop-port.invariant.topology c.loop-port.invariant.host
@@ -243,7 +282,8 @@ returns-in_err-explore-clause-end g t c =
 pub loop-port-preserved : goal.loop-port-preserved
 loop-port-preserved g t c = record {
   whole = c.in_ok-explore.ensures.whole;
-  topology = c.in_ok-explore.ensures.topology ∙ (c.in_ok-found.ensures.topology ∙ c.loop-port.invariant.topology);
+  topology = c.in_ok-explore.ensures.topology
+      ∙ (c.in_ok-found.ensures.topology ∙ c.loop-port.invariant.topology);
   follows = λ origin is. c.in_ok-explore.ensures.follows origin
       (c.in_ok-found.ensures.follows origin (c.loop-port.invariant.follows origin is));
   found = found_back (g.M.Maint.topology c.args.maint.now) c.args.numbering.now.host_id
@@ -261,7 +301,8 @@ loop-port-preserved g t c = record {
       (g.M.Maint.registers c.explore.new.maint) c.explore.new.numbering.devices.items
       c.explore.new.numbering.next_id
       c.in_ok-explore.ensures.tried c.in_ok-explore.ensures.found
-      c.requires.underway.0 (c.loop-port.invariant.tried c.requires.underway.0 c.requires.underway.1);
+      c.requires.underway.0
+      (c.loop-port.invariant.tried c.requires.underway.0 c.requires.underway.1);
   tried = λ before underway.
       underway_back (g.M.Maint.topology c.args.maint.now) c.args.numbering.now.host_id
       c.loop-port.port c.args.switch.now (g.M.Maint.topology c.loop-port.maint)
@@ -296,6 +337,7 @@ pub returns-clause-tried : goal.returns-clause-tried
 returns-clause-tried g t c before underway =
     let same : c.loop-port.port ≡ c.args.switch.now.ports =
     omega (arith, c.loop-port-test.false, c.loop-port.auto.port-end) in
-    subst (λ n. IsUnderway (g.M.Maint.topology c.args.maint.now) before (g.M.Maint.registers c.loop-port.maint)
+    subst (λ n. IsUnderway (g.M.Maint.topology c.args.maint.now) before
+    (g.M.Maint.registers c.loop-port.maint)
     c.args.numbering.now.host_id c.loop-port.numbering.devices.items c.loop-port.numbering.next_id
     (onward c.args.switch.now.path n)) same (c.loop-port.invariant.tried before underway)

@@ -17,7 +17,8 @@ pub overflow_cast-own_id : goal.overflow_cast-own_id
 overflow_cast-own_id g c = record {
   fits = id_fits (g.M.Maint.topology c.args.maint.now) (g.M.Maint.topology c.read.new.maint)
       (g.M.Maint.registers c.args.maint.now) (g.M.Maint.registers c.read.new.maint)
-      c.of_host.result c.in_ok-own_id.own_id (g.M.Maint.whole_is_proper c.args.maint.now c.requires.whole)
+      c.of_host.result c.in_ok-own_id.own_id
+      (g.M.Maint.whole_is_proper c.args.maint.now c.requires.whole)
       (g.M.Maint.whole_fits c.args.maint.now c.requires.whole) c.of_host.ensures
       c.in_ok-own_id.ensures.topology c.in_ok-own_id.ensures.registers
       c.in_ok-own_id.ensures.value;
@@ -28,7 +29,8 @@ number_devices-requires-clause-begun g c = (
   (g.M.Maint.registers c.args.maint.now),
   underway_first (g.M.Maint.topology c.args.maint.now) (g.M.Maint.topology c.read.new.maint)
       (g.M.Maint.registers c.args.maint.now) (g.M.Maint.registers c.read.new.maint)
-      c.of_host.result c.in_ok-own_id.own_id (g.M.Maint.whole_is_proper c.args.maint.now c.requires.whole)
+      c.of_host.result c.in_ok-own_id.own_id
+      (g.M.Maint.whole_is_proper c.args.maint.now c.requires.whole)
       (g.M.Maint.whole_fits c.args.maint.now c.requires.whole) c.of_host.ensures
       c.in_ok-own_id.ensures.topology c.in_ok-own_id.ensures.registers
       c.in_ok-own_id.ensures.value
@@ -38,8 +40,13 @@ number_devices-requires-clause-begun g c = (
 pub returns-in_err-devices-clause-end : goal.returns-in_err-devices-clause-end
 returns-in_err-devices-clause-end g c =
     handed_on c.from_residual-in_err-devices.result c.in_err-devices.field-0.0
-    (IsEnded (g.M.Maint.undetected c.args.maint.now, g.M.Maint.undetected c.number_devices.new.maint)
-    (g.M.Maint.faults c.args.maint.now, g.M.Maint.faults c.number_devices.new.maint) (g.M.Maint.IsMet c.number_devices.new.maint)
+    (IsEnded (
+      g.M.Maint.undetected c.args.maint.now,
+      g.M.Maint.undetected
+          c.number_devices.new.maint,
+    )
+    (g.M.Maint.faults c.args.maint.now, g.M.Maint.faults c.number_devices.new.maint)
+    (g.M.Maint.IsMet c.number_devices.new.maint)
     (λ at id. g.M.Maint.IsWhole c.number_devices.new.maint
     × ((origin : _) → g.M.Maint.Follows origin c.args.maint.now
     → g.M.Maint.Follows origin c.number_devices.new.maint)
@@ -48,12 +55,15 @@ returns-in_err-devices-clause-end g c =
     c.from_residual-in_err-devices.ensures.1
     (ended_longer (g.M.Maint.undetected c.args.maint.now) (g.M.Maint.undetected c.read.new.maint)
     (g.M.Maint.undetected c.number_devices.new.maint) (g.M.Maint.faults c.args.maint.now)
-    (g.M.Maint.faults c.read.new.maint) (g.M.Maint.faults c.number_devices.new.maint) (g.M.Maint.IsMet c.number_devices.new.maint)
-    (λ at id. g.M.Maint.IsWhole c.number_devices.new.maint × ((origin : _) → g.M.Maint.Follows origin c.read.new.maint
+    (g.M.Maint.faults c.read.new.maint) (g.M.Maint.faults c.number_devices.new.maint)
+    (g.M.Maint.IsMet c.number_devices.new.maint)
+    (λ at id. g.M.Maint.IsWhole c.number_devices.new.maint
+    × ((origin : _) → g.M.Maint.Follows origin c.read.new.maint
     → g.M.Maint.Follows origin c.number_devices.new.maint)
     × ((before : Registers) → IsUnderway (g.M.Maint.topology c.read.new.maint) before
     (g.M.Maint.registers c.read.new.maint) (c.in_ok-own_id.own_id / 65536) [] 0 []
-    → EndsAtLock (g.M.Maint.topology c.read.new.maint) before (g.M.Maint.registers c.number_devices.new.maint) at id))
+    → EndsAtLock (g.M.Maint.topology c.read.new.maint) before
+    (g.M.Maint.registers c.number_devices.new.maint) at id))
     (λ at id. g.M.Maint.IsWhole c.number_devices.new.maint
     × ((origin : _) → g.M.Maint.Follows origin c.args.maint.now
     → g.M.Maint.Follows origin c.number_devices.new.maint)
@@ -63,11 +73,15 @@ returns-in_err-devices-clause-end g c =
     (λ at id ends. (
       ends.0,
       (λ origin is. ends.1 origin (c.in_ok-own_id.ensures.follows origin is)),
-      subst (λ t. EndsAtLock t (g.M.Maint.registers c.args.maint.now) (g.M.Maint.registers c.number_devices.new.maint) at id)
+      subst (λ t. EndsAtLock t (g.M.Maint.registers c.args.maint.now)
+          (g.M.Maint.registers c.number_devices.new.maint) at id)
           c.in_ok-own_id.ensures.topology
-          (ends.2 (g.M.Maint.registers c.args.maint.now) (underway_first (g.M.Maint.topology c.args.maint.now) (g.M.Maint.topology c.read.new.maint)
+          (ends.2 (g.M.Maint.registers c.args.maint.now)
+          (underway_first (g.M.Maint.topology c.args.maint.now)
+          (g.M.Maint.topology c.read.new.maint)
           (g.M.Maint.registers c.args.maint.now) (g.M.Maint.registers c.read.new.maint)
-          c.of_host.result c.in_ok-own_id.own_id (g.M.Maint.whole_is_proper c.args.maint.now c.requires.whole)
+          c.of_host.result c.in_ok-own_id.own_id
+          (g.M.Maint.whole_is_proper c.args.maint.now c.requires.whole)
           (g.M.Maint.whole_fits c.args.maint.now c.requires.whole) c.of_host.ensures
           c.in_ok-own_id.ensures.topology c.in_ok-own_id.ensures.registers
           c.in_ok-own_id.ensures.value
@@ -82,7 +96,8 @@ returns-clause-numbered g c =
     (sym (c.in_ok-entries.ensures ∙ ap entries_of c.as_slice.ensures.value))
     (is_numbered (g.M.Maint.topology c.args.maint.now) (g.M.Maint.topology c.read.new.maint)
     (g.M.Maint.registers c.args.maint.now) (g.M.Maint.registers c.read.new.maint)
-    c.of_host.result c.in_ok-own_id.own_id (g.M.Maint.whole_is_proper c.args.maint.now c.requires.whole)
+    c.of_host.result c.in_ok-own_id.own_id
+    (g.M.Maint.whole_is_proper c.args.maint.now c.requires.whole)
     (g.M.Maint.whole_fits c.args.maint.now c.requires.whole) c.of_host.ensures
     c.in_ok-own_id.ensures.topology c.in_ok-own_id.ensures.registers
     c.in_ok-own_id.ensures.value
@@ -93,9 +108,11 @@ returns-clause-numbered g c =
     c.in_ok-devices.ensures.numbered)
 
 pub returns-clause-free : goal.returns-clause-free
-returns-clause-free g c = is_free (g.M.Maint.topology c.args.maint.now) (g.M.Maint.topology c.read.new.maint)
+returns-clause-free g c = is_free (g.M.Maint.topology c.args.maint.now)
+    (g.M.Maint.topology c.read.new.maint)
     (g.M.Maint.registers c.args.maint.now) (g.M.Maint.registers c.read.new.maint)
-    c.of_host.result c.in_ok-own_id.own_id (g.M.Maint.whole_is_proper c.args.maint.now c.requires.whole)
+    c.of_host.result c.in_ok-own_id.own_id
+    (g.M.Maint.whole_is_proper c.args.maint.now c.requires.whole)
     (g.M.Maint.whole_fits c.args.maint.now c.requires.whole) c.of_host.ensures
     c.in_ok-own_id.ensures.topology c.in_ok-own_id.ensures.registers
     c.in_ok-own_id.ensures.value

@@ -13,56 +13,74 @@ read-requires-clause-askable g c = (
   c.args.numbering.now.host_id,
   c.requires.found.at,
   found_askable (g.M.Maint.topology c.args.maint.now) (g.M.Maint.registers c.args.maint.now)
-      c.args.numbering.now.host_id c.args.numbering.now.next_id c.args.numbering.now.devices.items c.args.switch.now c.args.port
+      c.args.numbering.now.host_id c.args.numbering.now.next_id c.args.numbering.now.devices.items
+      c.args.switch.now c.args.port
       c.requires.found c.requires.underway,
   status_answers (g.M.Maint.topology c.args.maint.now) (g.M.Maint.registers c.args.maint.now)
-      c.args.numbering.now.host_id c.args.numbering.now.next_id c.args.numbering.now.devices.items c.args.switch.now c.args.port
+      c.args.numbering.now.host_id c.args.numbering.now.next_id c.args.numbering.now.devices.items
+      c.args.switch.now c.args.port
       c.requires.found c.requires.underway
-      c.from.result (g.M.Maint.whole_fits c.args.maint.now c.requires.whole) c.from.ensures c.requires.below,
+      c.from.result (g.M.Maint.whole_fits c.args.maint.now c.requires.whole) c.from.ensures
+      c.requires.below,
 )
 
 pub returns-then-status-ne-LINKED-clause-looked : goal.returns-then-status-ne-LINKED-clause-looked
 returns-then-status-ne-LINKED-clause-looked g c =
     unlinked_passed (g.M.Maint.topology c.args.maint.now) (g.M.Maint.registers c.args.maint.now)
-    c.args.numbering.now.host_id c.args.numbering.now.next_id c.args.numbering.now.devices.items c.args.switch.now c.args.port
+    c.args.numbering.now.host_id c.args.numbering.now.next_id c.args.numbering.now.devices.items
+    c.args.switch.now c.args.port
     c.requires.found c.requires.underway
     (g.M.Maint.registers c.read.new.maint) c.in_ok-status.ensures.registers
     (unlinked (g.M.Maint.topology c.args.maint.now) (g.M.Maint.registers c.args.maint.now)
-    c.args.numbering.now.host_id c.args.numbering.now.next_id c.args.numbering.now.devices.items c.args.switch.now c.args.port
+    c.args.numbering.now.host_id c.args.numbering.now.next_id c.args.numbering.now.devices.items
+    c.args.switch.now c.args.port
     c.requires.found c.requires.underway
-    c.from.result c.in_ok-status.status (g.M.Maint.whole_fits c.args.maint.now c.requires.whole) c.from.ensures c.requires.below
-    (c.in_ok-status.ensures.value c.requires.found.at c.requires.found.leads) c.if-status-ne-LINKED.true)
+    c.from.result c.in_ok-status.status (g.M.Maint.whole_fits c.args.maint.now c.requires.whole)
+    c.from.ensures c.requires.below
+    (c.in_ok-status.ensures.value c.requires.found.at c.requires.found.leads)
+    c.if-status-ne-LINKED.true)
 
 pub set_entry-requires-clause-askable : goal.set_entry-requires-clause-askable
 set_entry-requires-clause-askable g c =
-    let known = settable_now (g.M.Maint.topology c.args.maint.now) (g.M.Maint.registers c.args.maint.now)
-    c.args.numbering.now.host_id c.args.numbering.now.next_id c.args.numbering.now.devices.items c.args.switch.now c.args.port
+    let known = settable_now (g.M.Maint.topology c.args.maint.now)
+    (g.M.Maint.registers c.args.maint.now)
+    c.args.numbering.now.host_id c.args.numbering.now.next_id c.args.numbering.now.devices.items
+    c.args.switch.now c.args.port
     c.requires.found c.requires.underway
-    (g.M.Maint.topology c.read.new.maint) (g.M.Maint.registers c.read.new.maint) c.in_ok-status.ensures.topology
+    (g.M.Maint.topology c.read.new.maint) (g.M.Maint.registers c.read.new.maint)
+    c.in_ok-status.ensures.topology
     c.in_ok-status.ensures.registers (g.M.Maint.whole_fits c.args.maint.now c.requires.whole) in
     (c.args.numbering.now.host_id, c.requires.found.at, known.0, known.1, known.2)
 
 pub onward-path-requires : goal.onward-path-requires
-onward-path-requires g c = found_short (g.M.Maint.topology c.args.maint.now) (g.M.Maint.registers c.args.maint.now)
-    c.args.numbering.now.host_id c.args.numbering.now.next_id c.args.numbering.now.devices.items c.args.switch.now c.args.port
+onward-path-requires g c = found_short (g.M.Maint.topology c.args.maint.now)
+    (g.M.Maint.registers c.args.maint.now)
+    c.args.numbering.now.host_id c.args.numbering.now.next_id c.args.numbering.now.devices.items
+    c.args.switch.now c.args.port
     c.requires.found c.requires.underway
 
 pub meet-requires-clause-underway : goal.meet-requires-clause-underway
 meet-requires-clause-underway g c = (
   c.requires.underway.0,
   underway_here (g.M.Maint.topology c.args.maint.now) (g.M.Maint.topology c.set_entry.new.maint)
-      (g.M.Maint.registers c.args.maint.now) (g.M.Maint.registers c.read.new.maint) (g.M.Maint.registers c.set_entry.new.maint)
-      c.args.numbering.now.host_id c.args.numbering.now.next_id c.args.numbering.now.devices.items c.args.switch.now c.args.port
+      (g.M.Maint.registers c.args.maint.now) (g.M.Maint.registers c.read.new.maint)
+      (g.M.Maint.registers c.set_entry.new.maint)
+      c.args.numbering.now.host_id c.args.numbering.now.next_id c.args.numbering.now.devices.items
+      c.args.switch.now c.args.port
       c.onward-path.result c.requires.found c.requires.underway
       (c.in_ok-set_entry.ensures.topology ∙ c.in_ok-status.ensures.topology)
       c.in_ok-status.ensures.registers
       (c.in_ok-set_entry.ensures.registers c.requires.found.at
-      (ap (λ t. entered t c.args.switch.now.path) c.in_ok-status.ensures.topology ∙ c.requires.found.leads))
+      (ap (λ t. entered t c.args.switch.now.path) c.in_ok-status.ensures.topology
+      ∙ c.requires.found.leads))
       (linked (g.M.Maint.topology c.args.maint.now) (g.M.Maint.registers c.args.maint.now)
-      c.args.numbering.now.host_id c.args.numbering.now.next_id c.args.numbering.now.devices.items c.args.switch.now c.args.port
+      c.args.numbering.now.host_id c.args.numbering.now.next_id c.args.numbering.now.devices.items
+      c.args.switch.now c.args.port
       c.requires.found c.requires.underway
-      c.from.result c.in_ok-status.status (g.M.Maint.whole_fits c.args.maint.now c.requires.whole) c.from.ensures c.requires.below
-      (c.in_ok-status.ensures.value c.requires.found.at c.requires.found.leads) c.if-status-ne-LINKED.false)
+      c.from.result c.in_ok-status.status (g.M.Maint.whole_fits c.args.maint.now c.requires.whole)
+      c.from.ensures c.requires.below
+      (c.in_ok-status.ensures.value c.requires.found.at c.requires.found.leads)
+      c.if-status-ne-LINKED.false)
       c.requires.below c.requires.apart c.onward-path.ensures
       c.requires.underway.0 c.requires.underway.1,
 )
@@ -70,23 +88,32 @@ meet-requires-clause-underway g c = (
 pub meet-requires-clause-askable : goal.meet-requires-clause-askable
 meet-requires-clause-askable g c = (
   (linked (g.M.Maint.topology c.args.maint.now) (g.M.Maint.registers c.args.maint.now)
-      c.args.numbering.now.host_id c.args.numbering.now.next_id c.args.numbering.now.devices.items c.args.switch.now c.args.port
+      c.args.numbering.now.host_id c.args.numbering.now.next_id c.args.numbering.now.devices.items
+      c.args.switch.now c.args.port
       c.requires.found c.requires.underway
-      c.from.result c.in_ok-status.status (g.M.Maint.whole_fits c.args.maint.now c.requires.whole) c.from.ensures c.requires.below
-      (c.in_ok-status.ensures.value c.requires.found.at c.requires.found.leads) c.if-status-ne-LINKED.false).0,
+      c.from.result c.in_ok-status.status (g.M.Maint.whole_fits c.args.maint.now c.requires.whole)
+      c.from.ensures c.requires.below
+      (c.in_ok-status.ensures.value c.requires.found.at c.requires.found.leads)
+      c.if-status-ne-LINKED.false).0,
   askable_here (g.M.Maint.topology c.args.maint.now) (g.M.Maint.topology c.set_entry.new.maint)
-      (g.M.Maint.registers c.args.maint.now) (g.M.Maint.registers c.read.new.maint) (g.M.Maint.registers c.set_entry.new.maint)
-      c.args.numbering.now.host_id c.args.numbering.now.next_id c.args.numbering.now.devices.items c.args.switch.now c.args.port
+      (g.M.Maint.registers c.args.maint.now) (g.M.Maint.registers c.read.new.maint)
+      (g.M.Maint.registers c.set_entry.new.maint)
+      c.args.numbering.now.host_id c.args.numbering.now.next_id c.args.numbering.now.devices.items
+      c.args.switch.now c.args.port
       c.onward-path.result c.requires.found c.requires.underway
       (c.in_ok-set_entry.ensures.topology ∙ c.in_ok-status.ensures.topology)
       c.in_ok-status.ensures.registers
       (c.in_ok-set_entry.ensures.registers c.requires.found.at
-      (ap (λ t. entered t c.args.switch.now.path) c.in_ok-status.ensures.topology ∙ c.requires.found.leads))
+      (ap (λ t. entered t c.args.switch.now.path) c.in_ok-status.ensures.topology
+      ∙ c.requires.found.leads))
       (linked (g.M.Maint.topology c.args.maint.now) (g.M.Maint.registers c.args.maint.now)
-      c.args.numbering.now.host_id c.args.numbering.now.next_id c.args.numbering.now.devices.items c.args.switch.now c.args.port
+      c.args.numbering.now.host_id c.args.numbering.now.next_id c.args.numbering.now.devices.items
+      c.args.switch.now c.args.port
       c.requires.found c.requires.underway
-      c.from.result c.in_ok-status.status (g.M.Maint.whole_fits c.args.maint.now c.requires.whole) c.from.ensures c.requires.below
-      (c.in_ok-status.ensures.value c.requires.found.at c.requires.found.leads) c.if-status-ne-LINKED.false)
+      c.from.result c.in_ok-status.status (g.M.Maint.whole_fits c.args.maint.now c.requires.whole)
+      c.from.ensures c.requires.below
+      (c.in_ok-status.ensures.value c.requires.found.at c.requires.found.leads)
+      c.if-status-ne-LINKED.false)
       c.requires.below c.requires.apart c.onward-path.ensures
       (g.M.Maint.whole_fits c.args.maint.now c.requires.whole)
       (g.M.Maint.whole_fits c.set_entry.new.maint c.in_ok-set_entry.ensures.whole),
@@ -96,8 +123,10 @@ pub returns-in_err-kind-clause-end : goal.returns-in_err-kind-clause-end
 returns-in_err-kind-clause-end g c =
     handed_on c.from_residual-in_err-kind.result c.in_err-kind.field-0.0
     (IsEnded (g.M.Maint.undetected c.args.maint.now, g.M.Maint.undetected c.meet.new.maint)
-    (g.M.Maint.faults c.args.maint.now, g.M.Maint.faults c.meet.new.maint) (g.M.Maint.IsMet c.meet.new.maint)
-    (λ at id. g.M.Maint.IsWhole c.meet.new.maint × ((origin : _) → g.M.Maint.Follows origin c.args.maint.now
+    (g.M.Maint.faults c.args.maint.now, g.M.Maint.faults c.meet.new.maint)
+    (g.M.Maint.IsMet c.meet.new.maint)
+    (λ at id. g.M.Maint.IsWhole c.meet.new.maint
+    × ((origin : _) → g.M.Maint.Follows origin c.args.maint.now
     → g.M.Maint.Follows origin c.meet.new.maint)
     × ((before : Registers)
     → IsUnderway (g.M.Maint.topology c.args.maint.now) before
@@ -111,7 +140,8 @@ returns-in_err-kind-clause-end g c =
     (g.M.Maint.undetected c.set_entry.new.maint) (g.M.Maint.undetected c.meet.new.maint)
     (g.M.Maint.faults c.args.maint.now) (g.M.Maint.faults c.set_entry.new.maint)
     (g.M.Maint.faults c.meet.new.maint) (g.M.Maint.IsMet c.meet.new.maint)
-    (λ at id. g.M.Maint.IsWhole c.meet.new.maint × ((origin : _) → g.M.Maint.Follows origin c.set_entry.new.maint
+    (λ at id. g.M.Maint.IsWhole c.meet.new.maint
+    × ((origin : _) → g.M.Maint.Follows origin c.set_entry.new.maint
     → g.M.Maint.Follows origin c.meet.new.maint)
     × ((before : Registers)
     → IsUnderway (g.M.Maint.topology c.set_entry.new.maint) before
@@ -119,7 +149,8 @@ returns-in_err-kind-clause-end g c =
     c.args.numbering.now.devices.items c.args.numbering.now.next_id c.onward-path.result
     → EndsAtLock (g.M.Maint.topology c.set_entry.new.maint) before
     (g.M.Maint.registers c.meet.new.maint) at id))
-    (λ at id. g.M.Maint.IsWhole c.meet.new.maint × ((origin : _) → g.M.Maint.Follows origin c.args.maint.now
+    (λ at id. g.M.Maint.IsWhole c.meet.new.maint
+    × ((origin : _) → g.M.Maint.Follows origin c.args.maint.now
     → g.M.Maint.Follows origin c.meet.new.maint)
     × ((before : Registers)
     → IsUnderway (g.M.Maint.topology c.args.maint.now) before
@@ -138,19 +169,28 @@ returns-in_err-kind-clause-end g c =
       λ before underway.
           subst (λ t. EndsAtLock t before (g.M.Maint.registers c.meet.new.maint) at id)
           (c.in_ok-set_entry.ensures.topology ∙ c.in_ok-status.ensures.topology)
-          (ends.2 before (underway_here (g.M.Maint.topology c.args.maint.now) (g.M.Maint.topology c.set_entry.new.maint)
-          (g.M.Maint.registers c.args.maint.now) (g.M.Maint.registers c.read.new.maint) (g.M.Maint.registers c.set_entry.new.maint)
-          c.args.numbering.now.host_id c.args.numbering.now.next_id c.args.numbering.now.devices.items c.args.switch.now c.args.port
+          (ends.2 before
+          (underway_here (g.M.Maint.topology c.args.maint.now)
+          (g.M.Maint.topology c.set_entry.new.maint)
+          (g.M.Maint.registers c.args.maint.now) (g.M.Maint.registers c.read.new.maint)
+          (g.M.Maint.registers c.set_entry.new.maint)
+          c.args.numbering.now.host_id c.args.numbering.now.next_id
+          c.args.numbering.now.devices.items c.args.switch.now c.args.port
           c.onward-path.result c.requires.found c.requires.underway
           (c.in_ok-set_entry.ensures.topology ∙ c.in_ok-status.ensures.topology)
           c.in_ok-status.ensures.registers
           (c.in_ok-set_entry.ensures.registers c.requires.found.at
-          (ap (λ t. entered t c.args.switch.now.path) c.in_ok-status.ensures.topology ∙ c.requires.found.leads))
+          (ap (λ t. entered t c.args.switch.now.path) c.in_ok-status.ensures.topology
+          ∙ c.requires.found.leads))
           (linked (g.M.Maint.topology c.args.maint.now) (g.M.Maint.registers c.args.maint.now)
-          c.args.numbering.now.host_id c.args.numbering.now.next_id c.args.numbering.now.devices.items c.args.switch.now c.args.port
+          c.args.numbering.now.host_id c.args.numbering.now.next_id
+          c.args.numbering.now.devices.items c.args.switch.now c.args.port
           c.requires.found c.requires.underway
-          c.from.result c.in_ok-status.status (g.M.Maint.whole_fits c.args.maint.now c.requires.whole) c.from.ensures c.requires.below
-          (c.in_ok-status.ensures.value c.requires.found.at c.requires.found.leads) c.if-status-ne-LINKED.false)
+          c.from.result c.in_ok-status.status
+          (g.M.Maint.whole_fits c.args.maint.now c.requires.whole) c.from.ensures
+          c.requires.below
+          (c.in_ok-status.ensures.value c.requires.found.at c.requires.found.leads)
+          c.if-status-ne-LINKED.false)
           c.requires.below c.requires.apart c.onward-path.ensures
           before underway)),
     ))
@@ -159,18 +199,24 @@ returns-in_err-kind-clause-end g c =
 pub returns-in_default-clause-looked : goal.returns-in_default-clause-looked
 returns-in_default-clause-looked g c =
     none_looked (g.M.Maint.topology c.args.maint.now) (g.M.Maint.topology c.set_entry.new.maint)
-    (g.M.Maint.registers c.args.maint.now) (g.M.Maint.registers c.read.new.maint) (g.M.Maint.registers c.set_entry.new.maint)
-    c.args.numbering.now.host_id c.args.numbering.now.next_id c.args.numbering.now.devices.items c.args.switch.now c.args.port
+    (g.M.Maint.registers c.args.maint.now) (g.M.Maint.registers c.read.new.maint)
+    (g.M.Maint.registers c.set_entry.new.maint)
+    c.args.numbering.now.host_id c.args.numbering.now.next_id c.args.numbering.now.devices.items
+    c.args.switch.now c.args.port
     c.onward-path.result c.requires.found c.requires.underway
     (c.in_ok-set_entry.ensures.topology ∙ c.in_ok-status.ensures.topology)
     c.in_ok-status.ensures.registers
     (c.in_ok-set_entry.ensures.registers c.requires.found.at
-    (ap (λ t. entered t c.args.switch.now.path) c.in_ok-status.ensures.topology ∙ c.requires.found.leads))
+    (ap (λ t. entered t c.args.switch.now.path) c.in_ok-status.ensures.topology
+    ∙ c.requires.found.leads))
     (linked (g.M.Maint.topology c.args.maint.now) (g.M.Maint.registers c.args.maint.now)
-    c.args.numbering.now.host_id c.args.numbering.now.next_id c.args.numbering.now.devices.items c.args.switch.now c.args.port
+    c.args.numbering.now.host_id c.args.numbering.now.next_id c.args.numbering.now.devices.items
+    c.args.switch.now c.args.port
     c.requires.found c.requires.underway
-    c.from.result c.in_ok-status.status (g.M.Maint.whole_fits c.args.maint.now c.requires.whole) c.from.ensures c.requires.below
-    (c.in_ok-status.ensures.value c.requires.found.at c.requires.found.leads) c.if-status-ne-LINKED.false)
+    c.from.result c.in_ok-status.status (g.M.Maint.whole_fits c.args.maint.now c.requires.whole)
+    c.from.ensures c.requires.below
+    (c.in_ok-status.ensures.value c.requires.found.at c.requires.found.leads)
+    c.if-status-ne-LINKED.false)
     c.requires.below c.requires.apart c.onward-path.ensures
     (g.M.Maint.registers c.meet.new.maint) c.meet.new.numbering.devices.items
     c.meet.new.numbering.next_id c.in_ok-kind.field-0 c.in_ok-kind.ensures.tried
@@ -179,18 +225,24 @@ returns-in_default-clause-looked g c =
 pub returns-in_default-clause-found : goal.returns-in_default-clause-found
 returns-in_default-clause-found g c =
     none_found (g.M.Maint.topology c.args.maint.now) (g.M.Maint.topology c.set_entry.new.maint)
-    (g.M.Maint.registers c.args.maint.now) (g.M.Maint.registers c.read.new.maint) (g.M.Maint.registers c.set_entry.new.maint)
-    c.args.numbering.now.host_id c.args.numbering.now.next_id c.args.numbering.now.devices.items c.args.switch.now c.args.port
+    (g.M.Maint.registers c.args.maint.now) (g.M.Maint.registers c.read.new.maint)
+    (g.M.Maint.registers c.set_entry.new.maint)
+    c.args.numbering.now.host_id c.args.numbering.now.next_id c.args.numbering.now.devices.items
+    c.args.switch.now c.args.port
     c.onward-path.result c.requires.found c.requires.underway
     (c.in_ok-set_entry.ensures.topology ∙ c.in_ok-status.ensures.topology)
     c.in_ok-status.ensures.registers
     (c.in_ok-set_entry.ensures.registers c.requires.found.at
-    (ap (λ t. entered t c.args.switch.now.path) c.in_ok-status.ensures.topology ∙ c.requires.found.leads))
+    (ap (λ t. entered t c.args.switch.now.path) c.in_ok-status.ensures.topology
+    ∙ c.requires.found.leads))
     (linked (g.M.Maint.topology c.args.maint.now) (g.M.Maint.registers c.args.maint.now)
-    c.args.numbering.now.host_id c.args.numbering.now.next_id c.args.numbering.now.devices.items c.args.switch.now c.args.port
+    c.args.numbering.now.host_id c.args.numbering.now.next_id c.args.numbering.now.devices.items
+    c.args.switch.now c.args.port
     c.requires.found c.requires.underway
-    c.from.result c.in_ok-status.status (g.M.Maint.whole_fits c.args.maint.now c.requires.whole) c.from.ensures c.requires.below
-    (c.in_ok-status.ensures.value c.requires.found.at c.requires.found.leads) c.if-status-ne-LINKED.false)
+    c.from.result c.in_ok-status.status (g.M.Maint.whole_fits c.args.maint.now c.requires.whole)
+    c.from.ensures c.requires.below
+    (c.in_ok-status.ensures.value c.requires.found.at c.requires.found.leads)
+    c.if-status-ne-LINKED.false)
     c.requires.below c.requires.apart c.onward-path.ensures
     (g.M.Maint.registers c.meet.new.maint) c.meet.new.numbering.devices.items
     c.meet.new.numbering.next_id c.in_ok-kind.field-0 c.in_ok-kind.ensures.tried
@@ -199,18 +251,24 @@ returns-in_default-clause-found g c =
 pub returns-in_default-clause-longer : goal.returns-in_default-clause-longer
 returns-in_default-clause-longer g c =
     none_longer (g.M.Maint.topology c.args.maint.now) (g.M.Maint.topology c.set_entry.new.maint)
-    (g.M.Maint.registers c.args.maint.now) (g.M.Maint.registers c.read.new.maint) (g.M.Maint.registers c.set_entry.new.maint)
-    c.args.numbering.now.host_id c.args.numbering.now.next_id c.args.numbering.now.devices.items c.args.switch.now c.args.port
+    (g.M.Maint.registers c.args.maint.now) (g.M.Maint.registers c.read.new.maint)
+    (g.M.Maint.registers c.set_entry.new.maint)
+    c.args.numbering.now.host_id c.args.numbering.now.next_id c.args.numbering.now.devices.items
+    c.args.switch.now c.args.port
     c.onward-path.result c.requires.found c.requires.underway
     (c.in_ok-set_entry.ensures.topology ∙ c.in_ok-status.ensures.topology)
     c.in_ok-status.ensures.registers
     (c.in_ok-set_entry.ensures.registers c.requires.found.at
-    (ap (λ t. entered t c.args.switch.now.path) c.in_ok-status.ensures.topology ∙ c.requires.found.leads))
+    (ap (λ t. entered t c.args.switch.now.path) c.in_ok-status.ensures.topology
+    ∙ c.requires.found.leads))
     (linked (g.M.Maint.topology c.args.maint.now) (g.M.Maint.registers c.args.maint.now)
-    c.args.numbering.now.host_id c.args.numbering.now.next_id c.args.numbering.now.devices.items c.args.switch.now c.args.port
+    c.args.numbering.now.host_id c.args.numbering.now.next_id c.args.numbering.now.devices.items
+    c.args.switch.now c.args.port
     c.requires.found c.requires.underway
-    c.from.result c.in_ok-status.status (g.M.Maint.whole_fits c.args.maint.now c.requires.whole) c.from.ensures c.requires.below
-    (c.in_ok-status.ensures.value c.requires.found.at c.requires.found.leads) c.if-status-ne-LINKED.false)
+    c.from.result c.in_ok-status.status (g.M.Maint.whole_fits c.args.maint.now c.requires.whole)
+    c.from.ensures c.requires.below
+    (c.in_ok-status.ensures.value c.requires.found.at c.requires.found.leads)
+    c.if-status-ne-LINKED.false)
     c.requires.below c.requires.apart c.onward-path.ensures
     (g.M.Maint.registers c.meet.new.maint) c.meet.new.numbering.devices.items
     c.meet.new.numbering.next_id c.in_ok-kind.field-0 c.in_ok-kind.ensures.tried
@@ -219,18 +277,24 @@ returns-in_default-clause-longer g c =
 pub returns-in_default-kind-clause-looked : goal.returns-in_default-kind-clause-looked
 returns-in_default-kind-clause-looked g c =
     endpoint_looked (g.M.Maint.topology c.args.maint.now) (g.M.Maint.topology c.set_entry.new.maint)
-    (g.M.Maint.registers c.args.maint.now) (g.M.Maint.registers c.read.new.maint) (g.M.Maint.registers c.set_entry.new.maint)
-    c.args.numbering.now.host_id c.args.numbering.now.next_id c.args.numbering.now.devices.items c.args.switch.now c.args.port
+    (g.M.Maint.registers c.args.maint.now) (g.M.Maint.registers c.read.new.maint)
+    (g.M.Maint.registers c.set_entry.new.maint)
+    c.args.numbering.now.host_id c.args.numbering.now.next_id c.args.numbering.now.devices.items
+    c.args.switch.now c.args.port
     c.onward-path.result c.requires.found c.requires.underway
     (c.in_ok-set_entry.ensures.topology ∙ c.in_ok-status.ensures.topology)
     c.in_ok-status.ensures.registers
     (c.in_ok-set_entry.ensures.registers c.requires.found.at
-    (ap (λ t. entered t c.args.switch.now.path) c.in_ok-status.ensures.topology ∙ c.requires.found.leads))
+    (ap (λ t. entered t c.args.switch.now.path) c.in_ok-status.ensures.topology
+    ∙ c.requires.found.leads))
     (linked (g.M.Maint.topology c.args.maint.now) (g.M.Maint.registers c.args.maint.now)
-    c.args.numbering.now.host_id c.args.numbering.now.next_id c.args.numbering.now.devices.items c.args.switch.now c.args.port
+    c.args.numbering.now.host_id c.args.numbering.now.next_id c.args.numbering.now.devices.items
+    c.args.switch.now c.args.port
     c.requires.found c.requires.underway
-    c.from.result c.in_ok-status.status (g.M.Maint.whole_fits c.args.maint.now c.requires.whole) c.from.ensures c.requires.below
-    (c.in_ok-status.ensures.value c.requires.found.at c.requires.found.leads) c.if-status-ne-LINKED.false)
+    c.from.result c.in_ok-status.status (g.M.Maint.whole_fits c.args.maint.now c.requires.whole)
+    c.from.ensures c.requires.below
+    (c.in_ok-status.ensures.value c.requires.found.at c.requires.found.leads)
+    c.if-status-ne-LINKED.false)
     c.requires.below c.requires.apart c.onward-path.ensures
     (g.M.Maint.registers c.meet.new.maint) c.meet.new.numbering.devices.items
     c.meet.new.numbering.next_id c.in_ok-kind.field-0 c.in_ok-kind.ensures.tried
@@ -240,18 +304,24 @@ returns-in_default-kind-clause-looked g c =
 pub returns-in_default-kind-clause-found : goal.returns-in_default-kind-clause-found
 returns-in_default-kind-clause-found g c =
     some_found (g.M.Maint.topology c.args.maint.now) (g.M.Maint.topology c.set_entry.new.maint)
-    (g.M.Maint.registers c.args.maint.now) (g.M.Maint.registers c.read.new.maint) (g.M.Maint.registers c.set_entry.new.maint)
-    c.args.numbering.now.host_id c.args.numbering.now.next_id c.args.numbering.now.devices.items c.args.switch.now c.args.port
+    (g.M.Maint.registers c.args.maint.now) (g.M.Maint.registers c.read.new.maint)
+    (g.M.Maint.registers c.set_entry.new.maint)
+    c.args.numbering.now.host_id c.args.numbering.now.next_id c.args.numbering.now.devices.items
+    c.args.switch.now c.args.port
     c.onward-path.result c.requires.found c.requires.underway
     (c.in_ok-set_entry.ensures.topology ∙ c.in_ok-status.ensures.topology)
     c.in_ok-status.ensures.registers
     (c.in_ok-set_entry.ensures.registers c.requires.found.at
-    (ap (λ t. entered t c.args.switch.now.path) c.in_ok-status.ensures.topology ∙ c.requires.found.leads))
+    (ap (λ t. entered t c.args.switch.now.path) c.in_ok-status.ensures.topology
+    ∙ c.requires.found.leads))
     (linked (g.M.Maint.topology c.args.maint.now) (g.M.Maint.registers c.args.maint.now)
-    c.args.numbering.now.host_id c.args.numbering.now.next_id c.args.numbering.now.devices.items c.args.switch.now c.args.port
+    c.args.numbering.now.host_id c.args.numbering.now.next_id c.args.numbering.now.devices.items
+    c.args.switch.now c.args.port
     c.requires.found c.requires.underway
-    c.from.result c.in_ok-status.status (g.M.Maint.whole_fits c.args.maint.now c.requires.whole) c.from.ensures c.requires.below
-    (c.in_ok-status.ensures.value c.requires.found.at c.requires.found.leads) c.if-status-ne-LINKED.false)
+    c.from.result c.in_ok-status.status (g.M.Maint.whole_fits c.args.maint.now c.requires.whole)
+    c.from.ensures c.requires.below
+    (c.in_ok-status.ensures.value c.requires.found.at c.requires.found.leads)
+    c.if-status-ne-LINKED.false)
     c.requires.below c.requires.apart c.onward-path.ensures
     (g.M.Maint.registers c.meet.new.maint) c.meet.new.numbering.devices.items
     c.meet.new.numbering.next_id c.in_ok-kind.field-0 c.in_ok-kind.ensures.tried
@@ -260,18 +330,24 @@ returns-in_default-kind-clause-found g c =
 pub returns-in_default-kind-clause-longer : goal.returns-in_default-kind-clause-longer
 returns-in_default-kind-clause-longer g c =
     some_longer (g.M.Maint.topology c.args.maint.now) (g.M.Maint.topology c.set_entry.new.maint)
-    (g.M.Maint.registers c.args.maint.now) (g.M.Maint.registers c.read.new.maint) (g.M.Maint.registers c.set_entry.new.maint)
-    c.args.numbering.now.host_id c.args.numbering.now.next_id c.args.numbering.now.devices.items c.args.switch.now c.args.port
+    (g.M.Maint.registers c.args.maint.now) (g.M.Maint.registers c.read.new.maint)
+    (g.M.Maint.registers c.set_entry.new.maint)
+    c.args.numbering.now.host_id c.args.numbering.now.next_id c.args.numbering.now.devices.items
+    c.args.switch.now c.args.port
     c.onward-path.result c.requires.found c.requires.underway
     (c.in_ok-set_entry.ensures.topology ∙ c.in_ok-status.ensures.topology)
     c.in_ok-status.ensures.registers
     (c.in_ok-set_entry.ensures.registers c.requires.found.at
-    (ap (λ t. entered t c.args.switch.now.path) c.in_ok-status.ensures.topology ∙ c.requires.found.leads))
+    (ap (λ t. entered t c.args.switch.now.path) c.in_ok-status.ensures.topology
+    ∙ c.requires.found.leads))
     (linked (g.M.Maint.topology c.args.maint.now) (g.M.Maint.registers c.args.maint.now)
-    c.args.numbering.now.host_id c.args.numbering.now.next_id c.args.numbering.now.devices.items c.args.switch.now c.args.port
+    c.args.numbering.now.host_id c.args.numbering.now.next_id c.args.numbering.now.devices.items
+    c.args.switch.now c.args.port
     c.requires.found c.requires.underway
-    c.from.result c.in_ok-status.status (g.M.Maint.whole_fits c.args.maint.now c.requires.whole) c.from.ensures c.requires.below
-    (c.in_ok-status.ensures.value c.requires.found.at c.requires.found.leads) c.if-status-ne-LINKED.false)
+    c.from.result c.in_ok-status.status (g.M.Maint.whole_fits c.args.maint.now c.requires.whole)
+    c.from.ensures c.requires.below
+    (c.in_ok-status.ensures.value c.requires.found.at c.requires.found.leads)
+    c.if-status-ne-LINKED.false)
     c.requires.below c.requires.apart c.onward-path.ensures
     (g.M.Maint.registers c.meet.new.maint) c.meet.new.numbering.devices.items
     c.meet.new.numbering.next_id c.in_ok-kind.field-0 c.in_ok-kind.ensures.tried
@@ -280,18 +356,24 @@ returns-in_default-kind-clause-longer g c =
 pub returns-clause-looked : goal.returns-clause-looked
 returns-clause-looked g c =
     switch_looked (g.M.Maint.topology c.args.maint.now) (g.M.Maint.topology c.set_entry.new.maint)
-    (g.M.Maint.registers c.args.maint.now) (g.M.Maint.registers c.read.new.maint) (g.M.Maint.registers c.set_entry.new.maint)
-    c.args.numbering.now.host_id c.args.numbering.now.next_id c.args.numbering.now.devices.items c.args.switch.now c.args.port
+    (g.M.Maint.registers c.args.maint.now) (g.M.Maint.registers c.read.new.maint)
+    (g.M.Maint.registers c.set_entry.new.maint)
+    c.args.numbering.now.host_id c.args.numbering.now.next_id c.args.numbering.now.devices.items
+    c.args.switch.now c.args.port
     c.onward-path.result c.requires.found c.requires.underway
     (c.in_ok-set_entry.ensures.topology ∙ c.in_ok-status.ensures.topology)
     c.in_ok-status.ensures.registers
     (c.in_ok-set_entry.ensures.registers c.requires.found.at
-    (ap (λ t. entered t c.args.switch.now.path) c.in_ok-status.ensures.topology ∙ c.requires.found.leads))
+    (ap (λ t. entered t c.args.switch.now.path) c.in_ok-status.ensures.topology
+    ∙ c.requires.found.leads))
     (linked (g.M.Maint.topology c.args.maint.now) (g.M.Maint.registers c.args.maint.now)
-    c.args.numbering.now.host_id c.args.numbering.now.next_id c.args.numbering.now.devices.items c.args.switch.now c.args.port
+    c.args.numbering.now.host_id c.args.numbering.now.next_id c.args.numbering.now.devices.items
+    c.args.switch.now c.args.port
     c.requires.found c.requires.underway
-    c.from.result c.in_ok-status.status (g.M.Maint.whole_fits c.args.maint.now c.requires.whole) c.from.ensures c.requires.below
-    (c.in_ok-status.ensures.value c.requires.found.at c.requires.found.leads) c.if-status-ne-LINKED.false)
+    c.from.result c.in_ok-status.status (g.M.Maint.whole_fits c.args.maint.now c.requires.whole)
+    c.from.ensures c.requires.below
+    (c.in_ok-status.ensures.value c.requires.found.at c.requires.found.leads)
+    c.if-status-ne-LINKED.false)
     c.requires.below c.requires.apart c.onward-path.ensures
     (g.M.Maint.registers c.meet.new.maint) c.meet.new.numbering.devices.items
     c.meet.new.numbering.next_id c.in_ok-kind.field-0 c.in_ok-kind.ensures.tried
@@ -300,18 +382,24 @@ returns-clause-looked g c =
 pub returns-clause-found : goal.returns-clause-found
 returns-clause-found g c =
     switch_is_found (g.M.Maint.topology c.args.maint.now) (g.M.Maint.topology c.set_entry.new.maint)
-    (g.M.Maint.registers c.args.maint.now) (g.M.Maint.registers c.read.new.maint) (g.M.Maint.registers c.set_entry.new.maint)
-    c.args.numbering.now.host_id c.args.numbering.now.next_id c.args.numbering.now.devices.items c.args.switch.now c.args.port
+    (g.M.Maint.registers c.args.maint.now) (g.M.Maint.registers c.read.new.maint)
+    (g.M.Maint.registers c.set_entry.new.maint)
+    c.args.numbering.now.host_id c.args.numbering.now.next_id c.args.numbering.now.devices.items
+    c.args.switch.now c.args.port
     c.onward-path.result c.requires.found c.requires.underway
     (c.in_ok-set_entry.ensures.topology ∙ c.in_ok-status.ensures.topology)
     c.in_ok-status.ensures.registers
     (c.in_ok-set_entry.ensures.registers c.requires.found.at
-    (ap (λ t. entered t c.args.switch.now.path) c.in_ok-status.ensures.topology ∙ c.requires.found.leads))
+    (ap (λ t. entered t c.args.switch.now.path) c.in_ok-status.ensures.topology
+    ∙ c.requires.found.leads))
     (linked (g.M.Maint.topology c.args.maint.now) (g.M.Maint.registers c.args.maint.now)
-    c.args.numbering.now.host_id c.args.numbering.now.next_id c.args.numbering.now.devices.items c.args.switch.now c.args.port
+    c.args.numbering.now.host_id c.args.numbering.now.next_id c.args.numbering.now.devices.items
+    c.args.switch.now c.args.port
     c.requires.found c.requires.underway
-    c.from.result c.in_ok-status.status (g.M.Maint.whole_fits c.args.maint.now c.requires.whole) c.from.ensures c.requires.below
-    (c.in_ok-status.ensures.value c.requires.found.at c.requires.found.leads) c.if-status-ne-LINKED.false)
+    c.from.result c.in_ok-status.status (g.M.Maint.whole_fits c.args.maint.now c.requires.whole)
+    c.from.ensures c.requires.below
+    (c.in_ok-status.ensures.value c.requires.found.at c.requires.found.leads)
+    c.if-status-ne-LINKED.false)
     c.requires.below c.requires.apart c.onward-path.ensures
     (g.M.Maint.registers c.meet.new.maint) c.meet.new.numbering.devices.items
     c.meet.new.numbering.next_id c.in_ok-kind.field-0 c.in_ok-kind.ensures.tried
@@ -321,18 +409,24 @@ returns-clause-found g c =
 pub returns-clause-longer : goal.returns-clause-longer
 returns-clause-longer g c =
     some_longer (g.M.Maint.topology c.args.maint.now) (g.M.Maint.topology c.set_entry.new.maint)
-    (g.M.Maint.registers c.args.maint.now) (g.M.Maint.registers c.read.new.maint) (g.M.Maint.registers c.set_entry.new.maint)
-    c.args.numbering.now.host_id c.args.numbering.now.next_id c.args.numbering.now.devices.items c.args.switch.now c.args.port
+    (g.M.Maint.registers c.args.maint.now) (g.M.Maint.registers c.read.new.maint)
+    (g.M.Maint.registers c.set_entry.new.maint)
+    c.args.numbering.now.host_id c.args.numbering.now.next_id c.args.numbering.now.devices.items
+    c.args.switch.now c.args.port
     c.onward-path.result c.requires.found c.requires.underway
     (c.in_ok-set_entry.ensures.topology ∙ c.in_ok-status.ensures.topology)
     c.in_ok-status.ensures.registers
     (c.in_ok-set_entry.ensures.registers c.requires.found.at
-    (ap (λ t. entered t c.args.switch.now.path) c.in_ok-status.ensures.topology ∙ c.requires.found.leads))
+    (ap (λ t. entered t c.args.switch.now.path) c.in_ok-status.ensures.topology
+    ∙ c.requires.found.leads))
     (linked (g.M.Maint.topology c.args.maint.now) (g.M.Maint.registers c.args.maint.now)
-    c.args.numbering.now.host_id c.args.numbering.now.next_id c.args.numbering.now.devices.items c.args.switch.now c.args.port
+    c.args.numbering.now.host_id c.args.numbering.now.next_id c.args.numbering.now.devices.items
+    c.args.switch.now c.args.port
     c.requires.found c.requires.underway
-    c.from.result c.in_ok-status.status (g.M.Maint.whole_fits c.args.maint.now c.requires.whole) c.from.ensures c.requires.below
-    (c.in_ok-status.ensures.value c.requires.found.at c.requires.found.leads) c.if-status-ne-LINKED.false)
+    c.from.result c.in_ok-status.status (g.M.Maint.whole_fits c.args.maint.now c.requires.whole)
+    c.from.ensures c.requires.below
+    (c.in_ok-status.ensures.value c.requires.found.at c.requires.found.leads)
+    c.if-status-ne-LINKED.false)
     c.requires.below c.requires.apart c.onward-path.ensures
     (g.M.Maint.registers c.meet.new.maint) c.meet.new.numbering.devices.items
     c.meet.new.numbering.next_id c.in_ok-kind.field-0 c.in_ok-kind.ensures.tried

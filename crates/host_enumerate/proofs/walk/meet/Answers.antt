@@ -98,7 +98,8 @@ returns-in-Other-clause-end g c = (
         c.args.numbering.now.next_id c.args.numbering.now.devices.items c.args.path.now
         c.requires.askable.0 c.requires.underway c.requires.next c.requires.askable.1
         (g.M.Maint.registers c.take.new.maint) c.in_ok-take.field-0 c.in-Other.id c.in-Other.is
-        (c.in_ok-take.ensures.holder c.requires.askable.0 c.requires.askable.1.leads) before underway),
+        (c.in_ok-take.ensures.holder c.requires.askable.0 c.requires.askable.1.leads) before
+        underway),
   ),
   c.in_ok-take.ensures.undetected,
   c.in_ok-take.ensures.faults,

@@ -16,27 +16,34 @@ pub returns-in_err-meet-clause-end : goal.returns-in_err-meet-clause-end
 returns-in_err-meet-clause-end g c =
     handed_on c.from_residual.result c.in_err-meet.field-0.0
     (IsEnded (g.M.Maint.undetected c.args.maint.now, g.M.Maint.undetected c.meet.new.maint)
-    (g.M.Maint.faults c.args.maint.now, g.M.Maint.faults c.meet.new.maint) (g.M.Maint.IsMet c.meet.new.maint)
-    (λ at id. g.M.Maint.IsWhole c.meet.new.maint × ((origin : _) → g.M.Maint.Follows origin c.args.maint.now
+    (g.M.Maint.faults c.args.maint.now, g.M.Maint.faults c.meet.new.maint)
+    (g.M.Maint.IsMet c.meet.new.maint)
+    (λ at id. g.M.Maint.IsWhole c.meet.new.maint
+    × ((origin : _) → g.M.Maint.Follows origin c.args.maint.now
     → g.M.Maint.Follows origin c.meet.new.maint)
     × ((before : Registers) → IsUnderway (g.M.Maint.topology c.args.maint.now) before
     (g.M.Maint.registers c.args.maint.now) c.args.host_id [] 0 []
-    → EndsAtLock (g.M.Maint.topology c.args.maint.now) before (g.M.Maint.registers c.meet.new.maint) at id)))
+    → EndsAtLock (g.M.Maint.topology c.args.maint.now) before (g.M.Maint.registers c.meet.new.maint)
+    at id)))
     c.from_residual.ensures.1
     (ended_longer (g.M.Maint.undetected c.args.maint.now)
     (g.M.Maint.undetected c.args.maint.now) (g.M.Maint.undetected c.meet.new.maint)
     (g.M.Maint.faults c.args.maint.now) (g.M.Maint.faults c.args.maint.now)
     (g.M.Maint.faults c.meet.new.maint) (g.M.Maint.IsMet c.meet.new.maint)
-    (λ at id. g.M.Maint.IsWhole c.meet.new.maint × ((origin : _) → g.M.Maint.Follows origin c.args.maint.now
+    (λ at id. g.M.Maint.IsWhole c.meet.new.maint
+    × ((origin : _) → g.M.Maint.Follows origin c.args.maint.now
     → g.M.Maint.Follows origin c.meet.new.maint)
     × ((before : Registers) → IsUnderway (g.M.Maint.topology c.args.maint.now) before
     (g.M.Maint.registers c.args.maint.now) c.args.host_id c.new.result.items 0
-    c.of_host-host.result → EndsAtLock (g.M.Maint.topology c.args.maint.now) before (g.M.Maint.registers c.meet.new.maint) at id))
-    (λ at id. g.M.Maint.IsWhole c.meet.new.maint × ((origin : _) → g.M.Maint.Follows origin c.args.maint.now
+    c.of_host-host.result → EndsAtLock (g.M.Maint.topology c.args.maint.now) before
+    (g.M.Maint.registers c.meet.new.maint) at id))
+    (λ at id. g.M.Maint.IsWhole c.meet.new.maint
+    × ((origin : _) → g.M.Maint.Follows origin c.args.maint.now
     → g.M.Maint.Follows origin c.meet.new.maint)
     × ((before : Registers) → IsUnderway (g.M.Maint.topology c.args.maint.now) before
     (g.M.Maint.registers c.args.maint.now) c.args.host_id [] 0 []
-    → EndsAtLock (g.M.Maint.topology c.args.maint.now) before (g.M.Maint.registers c.meet.new.maint) at id))
+    → EndsAtLock (g.M.Maint.topology c.args.maint.now) before (g.M.Maint.registers c.meet.new.maint)
+    at id))
     c.in_err-meet.field-0.0
     refl refl
     (λ at id ends. (
@@ -56,68 +63,84 @@ meet-requires-2-clause-underway g c = (
       c.args.host_id c.meet.new.numbering.host_id c.meet.new.numbering.next_id
       c.new.result.items c.meet.new.numbering.devices.items
       c.of_host-host.result c.onward-path.result c.in_ok-meet.field-0
-      c.in_ok-meet.ensures.topology c.in_ok-meet.ensures.host c.new.ensures.items c.of_host-host.ensures
+      c.in_ok-meet.ensures.topology c.in_ok-meet.ensures.host c.new.ensures.items
+      c.of_host-host.ensures
       c.onward-path.ensures c.requires.begun c.in_ok-meet.ensures.tried
       c.requires.begun.0 c.requires.begun.1,
 )
 
 pub meet-requires-2-clause-next : goal.meet-requires-2-clause-next
-meet-requires-2-clause-next g c = met_next (g.M.Maint.topology c.args.maint.now) (g.M.Maint.topology c.meet.new.maint)
+meet-requires-2-clause-next g c = met_next (g.M.Maint.topology c.args.maint.now)
+    (g.M.Maint.topology c.meet.new.maint)
     (g.M.Maint.registers c.args.maint.now) (g.M.Maint.registers c.meet.new.maint)
     c.args.host_id c.meet.new.numbering.host_id c.meet.new.numbering.next_id
     c.new.result.items c.meet.new.numbering.devices.items
     c.of_host-host.result c.onward-path.result c.in_ok-meet.field-0
-    c.in_ok-meet.ensures.topology c.in_ok-meet.ensures.host c.new.ensures.items c.of_host-host.ensures
+    c.in_ok-meet.ensures.topology c.in_ok-meet.ensures.host c.new.ensures.items
+    c.of_host-host.ensures
     c.onward-path.ensures c.requires.begun c.in_ok-meet.ensures.tried
 
 pub meet-requires-2-clause-askable : goal.meet-requires-2-clause-askable
-meet-requires-2-clause-askable g c = met_askable (g.M.Maint.topology c.args.maint.now) (g.M.Maint.topology c.meet.new.maint)
+meet-requires-2-clause-askable g c = met_askable (g.M.Maint.topology c.args.maint.now)
+    (g.M.Maint.topology c.meet.new.maint)
     (g.M.Maint.registers c.args.maint.now) (g.M.Maint.registers c.meet.new.maint)
     c.args.host_id c.meet.new.numbering.host_id c.meet.new.numbering.next_id
     c.new.result.items c.meet.new.numbering.devices.items
     c.of_host-host.result c.onward-path.result c.in_ok-meet.field-0
-    c.in_ok-meet.ensures.topology c.in_ok-meet.ensures.host c.new.ensures.items c.of_host-host.ensures
+    c.in_ok-meet.ensures.topology c.in_ok-meet.ensures.host c.new.ensures.items
+    c.of_host-host.ensures
     c.onward-path.ensures c.requires.begun c.in_ok-meet.ensures.tried
 
 pub returns-in_err-kind-clause-end : goal.returns-in_err-kind-clause-end
 returns-in_err-kind-clause-end g c =
     handed_on c.from_residual-in_err-kind.result c.in_err-kind.field-0.0
     (IsEnded (g.M.Maint.undetected c.args.maint.now, g.M.Maint.undetected c.meet-2.new.maint)
-    (g.M.Maint.faults c.args.maint.now, g.M.Maint.faults c.meet-2.new.maint) (g.M.Maint.IsMet c.meet-2.new.maint)
-    (λ at id. g.M.Maint.IsWhole c.meet-2.new.maint × ((origin : _) → g.M.Maint.Follows origin c.args.maint.now
+    (g.M.Maint.faults c.args.maint.now, g.M.Maint.faults c.meet-2.new.maint)
+    (g.M.Maint.IsMet c.meet-2.new.maint)
+    (λ at id. g.M.Maint.IsWhole c.meet-2.new.maint
+    × ((origin : _) → g.M.Maint.Follows origin c.args.maint.now
     → g.M.Maint.Follows origin c.meet-2.new.maint)
     × ((before : Registers) → IsUnderway (g.M.Maint.topology c.args.maint.now) before
     (g.M.Maint.registers c.args.maint.now) c.args.host_id [] 0 []
-    → EndsAtLock (g.M.Maint.topology c.args.maint.now) before (g.M.Maint.registers c.meet-2.new.maint) at id)))
+    → EndsAtLock (g.M.Maint.topology c.args.maint.now) before
+    (g.M.Maint.registers c.meet-2.new.maint) at id)))
     c.from_residual-in_err-kind.ensures.1
     (ended_longer (g.M.Maint.undetected c.args.maint.now)
     (g.M.Maint.undetected c.meet.new.maint) (g.M.Maint.undetected c.meet-2.new.maint)
     (g.M.Maint.faults c.args.maint.now) (g.M.Maint.faults c.meet.new.maint)
     (g.M.Maint.faults c.meet-2.new.maint) (g.M.Maint.IsMet c.meet-2.new.maint)
-    (λ at id. g.M.Maint.IsWhole c.meet-2.new.maint × ((origin : _) → g.M.Maint.Follows origin c.meet.new.maint
+    (λ at id. g.M.Maint.IsWhole c.meet-2.new.maint
+    × ((origin : _) → g.M.Maint.Follows origin c.meet.new.maint
     → g.M.Maint.Follows origin c.meet-2.new.maint)
     × ((before : Registers) → IsUnderway (g.M.Maint.topology c.meet.new.maint) before
-    (g.M.Maint.registers c.meet.new.maint) c.meet.new.numbering.host_id c.meet.new.numbering.devices.items
+    (g.M.Maint.registers c.meet.new.maint) c.meet.new.numbering.host_id
+    c.meet.new.numbering.devices.items
     c.meet.new.numbering.next_id c.onward-path.result
-    → EndsAtLock (g.M.Maint.topology c.meet.new.maint) before (g.M.Maint.registers c.meet-2.new.maint) at id))
-    (λ at id. g.M.Maint.IsWhole c.meet-2.new.maint × ((origin : _) → g.M.Maint.Follows origin c.args.maint.now
+    → EndsAtLock (g.M.Maint.topology c.meet.new.maint) before
+    (g.M.Maint.registers c.meet-2.new.maint) at id))
+    (λ at id. g.M.Maint.IsWhole c.meet-2.new.maint
+    × ((origin : _) → g.M.Maint.Follows origin c.args.maint.now
     → g.M.Maint.Follows origin c.meet-2.new.maint)
     × ((before : Registers) → IsUnderway (g.M.Maint.topology c.args.maint.now) before
     (g.M.Maint.registers c.args.maint.now) c.args.host_id [] 0 []
-    → EndsAtLock (g.M.Maint.topology c.args.maint.now) before (g.M.Maint.registers c.meet-2.new.maint) at id))
+    → EndsAtLock (g.M.Maint.topology c.args.maint.now) before
+    (g.M.Maint.registers c.meet-2.new.maint) at id))
     c.in_err-kind.field-0.0
     c.in_ok-meet.ensures.undetected c.in_ok-meet.ensures.faults
     (λ at id ends. (
       ends.0,
       (λ origin is. ends.1 origin (c.in_ok-meet.ensures.follows origin is)),
       λ before underway.
-          subst (λ t. EndsAtLock t before (g.M.Maint.registers c.meet-2.new.maint) at id) c.in_ok-meet.ensures.topology
-          (ends.2 before (met_here (g.M.Maint.topology c.args.maint.now) (g.M.Maint.topology c.meet.new.maint)
+          subst (λ t. EndsAtLock t before (g.M.Maint.registers c.meet-2.new.maint) at id)
+          c.in_ok-meet.ensures.topology
+          (ends.2 before
+          (met_here (g.M.Maint.topology c.args.maint.now) (g.M.Maint.topology c.meet.new.maint)
           (g.M.Maint.registers c.args.maint.now) (g.M.Maint.registers c.meet.new.maint)
           c.args.host_id c.meet.new.numbering.host_id c.meet.new.numbering.next_id
           c.new.result.items c.meet.new.numbering.devices.items
           c.of_host-host.result c.onward-path.result c.in_ok-meet.field-0
-          c.in_ok-meet.ensures.topology c.in_ok-meet.ensures.host c.new.ensures.items c.of_host-host.ensures
+          c.in_ok-meet.ensures.topology c.in_ok-meet.ensures.host c.new.ensures.items
+          c.of_host-host.ensures
           c.onward-path.ensures c.requires.begun c.in_ok-meet.ensures.tried before underway)),
     ))
     c.in_err-kind.ensures.end)
@@ -129,7 +152,8 @@ returns-in_default-clause-numbered g c =
     c.args.host_id c.meet.new.numbering.host_id c.meet.new.numbering.next_id
     c.new.result.items c.meet.new.numbering.devices.items
     c.of_host-host.result c.onward-path.result c.in_ok-meet.field-0
-    c.in_ok-meet.ensures.topology c.in_ok-meet.ensures.host c.new.ensures.items c.of_host-host.ensures
+    c.in_ok-meet.ensures.topology c.in_ok-meet.ensures.host c.new.ensures.items
+    c.of_host-host.ensures
     c.onward-path.ensures c.requires.begun c.in_ok-meet.ensures.tried
     (g.M.Maint.registers c.meet-2.new.maint) c.meet-2.new.numbering.next_id
     c.meet-2.new.numbering.devices.items c.in_ok-kind.field-0 c.in_ok-kind.ensures.tried
@@ -142,7 +166,8 @@ returns-in_default-kind-clause-numbered g c =
     c.args.host_id c.meet.new.numbering.host_id c.meet.new.numbering.next_id
     c.new.result.items c.meet.new.numbering.devices.items
     c.of_host-host.result c.onward-path.result c.in_ok-meet.field-0
-    c.in_ok-meet.ensures.topology c.in_ok-meet.ensures.host c.new.ensures.items c.of_host-host.ensures
+    c.in_ok-meet.ensures.topology c.in_ok-meet.ensures.host c.new.ensures.items
+    c.of_host-host.ensures
     c.onward-path.ensures c.requires.begun c.in_ok-meet.ensures.tried
     (g.M.Maint.registers c.meet-2.new.maint) c.meet-2.new.numbering.next_id
     c.meet-2.new.numbering.devices.items c.in_ok-kind.field-0 c.in_ok-kind.ensures.tried
@@ -150,12 +175,14 @@ returns-in_default-kind-clause-numbered g c =
     c.in-Some.kind c.in_default-kind.field-0 c.in-Some.is c.in_default-kind.is
 
 pub explore-requires-clause-found : goal.explore-requires-clause-found
-explore-requires-clause-found g c = switch_known (g.M.Maint.topology c.args.maint.now) (g.M.Maint.topology c.meet.new.maint)
+explore-requires-clause-found g c = switch_known (g.M.Maint.topology c.args.maint.now)
+    (g.M.Maint.topology c.meet.new.maint)
     (g.M.Maint.registers c.args.maint.now) (g.M.Maint.registers c.meet.new.maint)
     c.args.host_id c.meet.new.numbering.host_id c.meet.new.numbering.next_id
     c.new.result.items c.meet.new.numbering.devices.items
     c.of_host-host.result c.onward-path.result c.in_ok-meet.field-0
-    c.in_ok-meet.ensures.topology c.in_ok-meet.ensures.host c.new.ensures.items c.of_host-host.ensures
+    c.in_ok-meet.ensures.topology c.in_ok-meet.ensures.host c.new.ensures.items
+    c.of_host-host.ensures
     c.onward-path.ensures c.requires.begun c.in_ok-meet.ensures.tried
     (g.M.Maint.registers c.meet-2.new.maint) c.meet-2.new.numbering.next_id
     c.meet-2.new.numbering.devices.items c.in_ok-kind.field-0 c.in_ok-kind.ensures.tried
@@ -173,7 +200,8 @@ explore-requires-clause-underway g c = (
       c.args.host_id c.meet.new.numbering.host_id c.meet.new.numbering.next_id
       c.new.result.items c.meet.new.numbering.devices.items
       c.of_host-host.result c.onward-path.result c.in_ok-meet.field-0
-      c.in_ok-meet.ensures.topology c.in_ok-meet.ensures.host c.new.ensures.items c.of_host-host.ensures
+      c.in_ok-meet.ensures.topology c.in_ok-meet.ensures.host c.new.ensures.items
+      c.of_host-host.ensures
       c.onward-path.ensures c.requires.begun c.in_ok-meet.ensures.tried
       (g.M.Maint.registers c.meet-2.new.maint) c.meet-2.new.numbering.next_id
       c.meet-2.new.numbering.devices.items c.in_ok-kind.field-0 c.in_ok-kind.ensures.tried
@@ -189,28 +217,36 @@ pub returns-in_err-explore-clause-end : goal.returns-in_err-explore-clause-end
 returns-in_err-explore-clause-end g c =
     handed_on c.from_residual-in_err-explore.result c.in_err-explore.field-0.0
     (IsEnded (g.M.Maint.undetected c.args.maint.now, g.M.Maint.undetected c.explore.new.maint)
-    (g.M.Maint.faults c.args.maint.now, g.M.Maint.faults c.explore.new.maint) (g.M.Maint.IsMet c.explore.new.maint)
-    (λ at id. g.M.Maint.IsWhole c.explore.new.maint × ((origin : _) → g.M.Maint.Follows origin c.args.maint.now
+    (g.M.Maint.faults c.args.maint.now, g.M.Maint.faults c.explore.new.maint)
+    (g.M.Maint.IsMet c.explore.new.maint)
+    (λ at id. g.M.Maint.IsWhole c.explore.new.maint
+    × ((origin : _) → g.M.Maint.Follows origin c.args.maint.now
     → g.M.Maint.Follows origin c.explore.new.maint)
     × ((before : Registers) → IsUnderway (g.M.Maint.topology c.args.maint.now) before
     (g.M.Maint.registers c.args.maint.now) c.args.host_id [] 0 []
-    → EndsAtLock (g.M.Maint.topology c.args.maint.now) before (g.M.Maint.registers c.explore.new.maint) at id)))
+    → EndsAtLock (g.M.Maint.topology c.args.maint.now) before
+    (g.M.Maint.registers c.explore.new.maint) at id)))
     c.from_residual-in_err-explore.ensures.1
     (ended_longer (g.M.Maint.undetected c.args.maint.now)
     (g.M.Maint.undetected c.meet-2.new.maint) (g.M.Maint.undetected c.explore.new.maint)
     (g.M.Maint.faults c.args.maint.now) (g.M.Maint.faults c.meet-2.new.maint)
     (g.M.Maint.faults c.explore.new.maint) (g.M.Maint.IsMet c.explore.new.maint)
-    (λ at id. g.M.Maint.IsWhole c.explore.new.maint × ((origin : _) → g.M.Maint.Follows origin c.meet-2.new.maint
+    (λ at id. g.M.Maint.IsWhole c.explore.new.maint
+    × ((origin : _) → g.M.Maint.Follows origin c.meet-2.new.maint
     → g.M.Maint.Follows origin c.explore.new.maint)
     × ((before : Registers) → IsUnderway (g.M.Maint.topology c.meet-2.new.maint) before
-    (g.M.Maint.registers c.meet-2.new.maint) c.meet-2.new.numbering.host_id c.meet-2.new.numbering.devices.items
+    (g.M.Maint.registers c.meet-2.new.maint) c.meet-2.new.numbering.host_id
+    c.meet-2.new.numbering.devices.items
     c.meet-2.new.numbering.next_id (onward c.onward-path.result 0)
-    → EndsAtLock (g.M.Maint.topology c.meet-2.new.maint) before (g.M.Maint.registers c.explore.new.maint) at id))
-    (λ at id. g.M.Maint.IsWhole c.explore.new.maint × ((origin : _) → g.M.Maint.Follows origin c.args.maint.now
+    → EndsAtLock (g.M.Maint.topology c.meet-2.new.maint) before
+    (g.M.Maint.registers c.explore.new.maint) at id))
+    (λ at id. g.M.Maint.IsWhole c.explore.new.maint
+    × ((origin : _) → g.M.Maint.Follows origin c.args.maint.now
     → g.M.Maint.Follows origin c.explore.new.maint)
     × ((before : Registers) → IsUnderway (g.M.Maint.topology c.args.maint.now) before
     (g.M.Maint.registers c.args.maint.now) c.args.host_id [] 0 []
-    → EndsAtLock (g.M.Maint.topology c.args.maint.now) before (g.M.Maint.registers c.explore.new.maint) at id))
+    → EndsAtLock (g.M.Maint.topology c.args.maint.now) before
+    (g.M.Maint.registers c.explore.new.maint) at id))
     c.in_err-explore.field-0.0
     (c.in_ok-kind.ensures.undetected ∙ c.in_ok-meet.ensures.undetected)
     (c.in_ok-kind.ensures.faults ∙ c.in_ok-meet.ensures.faults)
@@ -221,12 +257,15 @@ returns-in_err-explore-clause-end g c =
       λ before underway.
           subst (λ t. EndsAtLock t before (g.M.Maint.registers c.explore.new.maint) at id)
           (c.in_ok-kind.ensures.topology ∙ c.in_ok-meet.ensures.topology)
-          (ends.2 before (switch_underway (g.M.Maint.topology c.args.maint.now) (g.M.Maint.topology c.meet.new.maint)
+          (ends.2 before
+          (switch_underway (g.M.Maint.topology c.args.maint.now)
+          (g.M.Maint.topology c.meet.new.maint)
           (g.M.Maint.registers c.args.maint.now) (g.M.Maint.registers c.meet.new.maint)
           c.args.host_id c.meet.new.numbering.host_id c.meet.new.numbering.next_id
           c.new.result.items c.meet.new.numbering.devices.items
           c.of_host-host.result c.onward-path.result c.in_ok-meet.field-0
-          c.in_ok-meet.ensures.topology c.in_ok-meet.ensures.host c.new.ensures.items c.of_host-host.ensures
+          c.in_ok-meet.ensures.topology c.in_ok-meet.ensures.host c.new.ensures.items
+          c.of_host-host.ensures
           c.onward-path.ensures c.requires.begun c.in_ok-meet.ensures.tried
           (g.M.Maint.registers c.meet-2.new.maint) c.meet-2.new.numbering.next_id
           c.meet-2.new.numbering.devices.items c.in_ok-kind.field-0 c.in_ok-kind.ensures.tried
@@ -245,7 +284,8 @@ returns-clause-numbered g c =
     c.args.host_id c.meet.new.numbering.host_id c.meet.new.numbering.next_id
     c.new.result.items c.meet.new.numbering.devices.items
     c.of_host-host.result c.onward-path.result c.in_ok-meet.field-0
-    c.in_ok-meet.ensures.topology c.in_ok-meet.ensures.host c.new.ensures.items c.of_host-host.ensures
+    c.in_ok-meet.ensures.topology c.in_ok-meet.ensures.host c.new.ensures.items
+    c.of_host-host.ensures
     c.onward-path.ensures c.requires.begun c.in_ok-meet.ensures.tried
     (g.M.Maint.registers c.meet-2.new.maint) c.meet-2.new.numbering.next_id
     c.meet-2.new.numbering.devices.items c.in_ok-kind.field-0 c.in_ok-kind.ensures.tried

@@ -9,5 +9,6 @@ returns c =
     let bytes = rw c.in-Some.is at c.in_ok-bytes.ensures in
     let bad = rw c.as_slice.ensures.value at (c.in-Err-build.ensures.bad_length.0 refl) in
     asks_send c.args.large (words_left c.args.words)
-    (length_none c.args.large (words_left c.args.words) read.0 (words_left read.1) c.in-Some.bytes.items
+    (length_none c.args.large (words_left c.args.words) read.0 (words_left read.1)
+    c.in-Some.bytes.items
     c.in-Ok.ensures bytes.1 bad)

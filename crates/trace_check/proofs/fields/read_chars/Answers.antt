@@ -15,7 +15,8 @@ loop-left-preserved c =
     let char = c.in_ok-found.ensures.char in
     let all = c.in_ok-push.ensures.items in
     record {
-      texts = texts_more old new found c.split_word.result.0.now (words_left c.split_word.result.1) _
+      texts = texts_more old new found c.split_word.result.0.now (words_left c.split_word.result.1)
+          _
           (ap (λ (l : List (List ℕ)). map char_text_of old ++ l)
           (sym c.split_word.ensures ∙ sym (ap words_left c.in-Some.is)) ∙ before.texts) char.1 all;
       bytes = bytes_more old new found before.bytes char.0 all;

@@ -134,7 +134,8 @@ returns-in-Ok-clause-follows g c origin followed =
     c.in-Ok.response) c.as_slice.ensures.value (c.in-Ok.ensures.replied t [] can) in
     asks_on g.N.Noise.edits g.K.Sink.written old c.requires.whole c.ask-asked.new.self
     c.ask-asked.new.noise c.ask-asked.new.sink old.undetected c.args.dest c.args.hops c.args.access
-    c.requires.offset c.request_for-request.result c.in-Ok.response is replied g.K.Sink.faults origin
+    c.requires.offset c.request_for-request.result c.in-Ok.response is replied g.K.Sink.faults
+    origin
     c.ask-asked.ensures.never_falls followed
 
 pub returns-in-Ok-clause-undetected : goal.returns-in-Ok-clause-undetected

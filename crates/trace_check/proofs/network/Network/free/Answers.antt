@@ -21,7 +21,8 @@ returns-then-place-len c = λ nodes net is is_in.
         buffers = is.buffers;
         received = is.received;
         waiting = is.waiting;
-        lent = lent_set nodes net.lent list (λ queue. queue.items) p place c.take_lent.new.lent (behind_first (net.lent p))
+        lent = lent_set nodes net.lent list (λ queue. queue.items) p place c.take_lent.new.lent
+            (behind_first (net.lent p))
             is.lent is_in c.place_of-place.ensures
             (rest_is (net.lent p) c.index_mut.result.now.items c.take_lent.new.lent.items before
             taken.taken);

@@ -22,9 +22,11 @@ returns c = λ nodes net is links is_in.
     let first = waits.0.0 yes in
     let items = only_first (net.waiting p r) in
     let one = only_is (net.waiting p r) packet first in
-    let lent = c.in_ok-lend.ensures nodes (without_waiting net p r) items (waits.1 yes) in_peer one in
+    let lent = c.in_ok-lend.ensures nodes (without_waiting net p r) items (waits.1 yes) in_peer one
+    in
     let received = c.in_ok-receive.ensures nodes (with_lending (without_waiting net p r) p items)
     items lent is_in one in (
       (λ made. (p, sym peer_is, first, sym room_is), λ needs. refl),
-      λ made. subst (λ o. IsNetwork nodes (after_hold net q o r) c.receive.new.self) peer_is received,
+      λ made. subst (λ o. IsNetwork nodes (after_hold net q o r) c.receive.new.self) peer_is
+          received,
     )

@@ -20,6 +20,7 @@ returns-in_ok-push_back c = λ nodes net items is is_in one.
       buffers = is.buffers;
       received = is.received;
       waiting = is.waiting;
-      lent = lent_set nodes net.lent list (λ queue. queue.items) p place c.push_back.new.self (net.lent p ++ items)
+      lent = lent_set nodes net.lent list (λ queue. queue.items) p place c.push_back.new.self
+          (net.lent p ++ items)
           is.lent is_in c.place_of-place.ensures after;
     }

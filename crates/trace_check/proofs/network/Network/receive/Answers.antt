@@ -16,7 +16,10 @@ returns-in_ok-push c = λ nodes net items is is_in one.
     c.index_mut.ensures.value in
     let table = lanes_put nodes net.received list c.args.port place r c.index_mut.result.now
     c.push.new.self c.args.packet.now items is.received is_in c.place_of-place.ensures
-    (subst (λ (p : List ℕ). prio_of p < 4) c.copy.ensures.same c.in_ok-push.ensures.range) before (c.in_ok-push.ensures.lists ∙ (λ i. appended c.index_mut.result.now (prio_of (c.copy.ensures.same i)) (c.copy.ensures.same i))) one in
+    (subst (λ (p : List ℕ). prio_of p < 4) c.copy.ensures.same c.in_ok-push.ensures.range) before
+    (c.in_ok-push.ensures.lists
+    ∙ (λ i. appended c.index_mut.result.now (prio_of (c.copy.ensures.same i))
+    (c.copy.ensures.same i))) one in
     record {
       count = is.count;
       registers = is.registers;

@@ -1,13 +1,12 @@
 use Rattle.std.proofs.Common.{◌≡◌, ◌≤◌, ◌<◌, ◌∙◌, None, Option, Some, ap, length, refl, slice_get, sym, rules}
 use Rattle.std.proofs.lemmas.Option.{slice_get_past, slice_get_read}
 use Rattle.maint_registers.specs.Changes.{with_device}
-use Rattle.maint_registers.proofs.ChangeLaws.{length-with_device}
+use Rattle.maint_registers.proofs.ChangeLaws.{length-with_device, changed_at, unchanged}
 use Rattle.maint_packets.specs.declared.request.Request.{Request}
 use Rattle.maint_packets.specs.Requests.{request_of}
 use Rattle.maint_packets.specs.Responses.{response_bytes}
 use Rattle.fabric_model.specs.Serving.{device_after}
 use Rattle.fabric_trace.proofs.Faces.{response_is}
-use Rattle.trace_check.proofs.Changed.{changed_at, unchanged}
 use Rattle.trace_check.proofs.network.Network.respond.Goals as goal
 
 -- what is no request changes no registers

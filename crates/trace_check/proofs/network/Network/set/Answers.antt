@@ -1,12 +1,13 @@
 use Rattle.std.proofs.Common.{true, false, ◌≡◌, ◌<◌, ℕ, List, length, get_or, refl, sym, ap, ◌∙◌, subst, arith}
 use Rattle.maint_registers.specs.Devices.{Device}
+use Rattle.maint_registers.proofs.ChangeLaws.{changed_at}
 use Rattle.fabric_model.specs.Network.{Network}
 use Rattle.fabric_trace.specs.Settings.{defaulted, held_by, large_set, routed, set_up, with_change}
 use Rattle.fabric_trace.specs.SetUps.{MaySetUp}
 use Rattle.std.specs.Vec.{with_item}
 use Rattle.trace_check.specs.Starting.{ArePortsIn, IsBuilt}
 use Rattle.trace_check.specs.declared.network.Network.{Network as Kept}
-use Rattle.trace_check.proofs.BuildLaws.{built_buffers, built_change, built_link, device_set, port_kept, port_linked, kind_of}
+use Rattle.trace_check.proofs.BuildLaws.{built_buffers, built_change, built_link, port_kept, port_linked, kind_of}
 use Rattle.trace_check.proofs.TableLaws.{place_within}
 use Rattle.trace_check.proofs.network.Network.set.Goals as goal
 
@@ -65,7 +66,7 @@ written : (net : Network) (old : Kept) (node i : ℕ) (read device : Device)
     → IsBuilt (with_change net node change) (with_written old i device)
 written net old node i read device change built same within value is =
     built_change net old (with_written old i device) node change built
-    (device_set old.registers.items node i read device change same within value is) refl
+    (changed_at old.registers.items node i read device change same within value is) refl
 
 pub index_mut-requires-in-Route : goal.index_mut-requires-in-Route
 index_mut-requires-in-Route c =

@@ -21,7 +21,9 @@ returns-then-place-len c = λ nodes net is is_in.
         count = is.count;
         registers = is.registers;
         buffers = is.buffers;
-        received = lanes_taken nodes net.received list c.args.port place r c.index_mut.result.now c.take_first.new.self is.received is_in c.place_of-place.ensures taken.range before taken.taken;
+        received = lanes_taken nodes net.received list c.args.port place r c.index_mut.result.now
+            c.take_first.new.self is.received is_in c.place_of-place.ensures taken.range before
+            taken.taken;
         waiting = is.waiting;
         lent = is.lent;
       },

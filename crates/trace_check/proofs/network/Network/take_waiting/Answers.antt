@@ -22,7 +22,9 @@ returns-then-place-len c = λ nodes net is is_in.
         registers = is.registers;
         buffers = is.buffers;
         received = is.received;
-        waiting = lanes_taken nodes net.waiting list c.args.port place r c.index_mut.result.now c.take_first.new.self is.waiting is_in c.place_of-place.ensures taken.range before taken.taken;
+        waiting = lanes_taken nodes net.waiting list c.args.port place r c.index_mut.result.now
+            c.take_first.new.self is.waiting is_in c.place_of-place.ensures taken.range before
+            taken.taken;
         lent = is.lent;
       },
     )
