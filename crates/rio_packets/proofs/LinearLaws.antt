@@ -207,13 +207,13 @@ fed-two r b c h hb hc =
     ∙ ap (λ n. bit_xor (shifted_times 8 n) (shifted_times 8 (y * 256))) (sym (xor_zero_r t))
     ∙ ap (bit_xor (shifted_times 8 (bit_xor t 0))) (sym (after_none-is y))
 
--- Four bytes at once.
-pub fed-four : (r b c d e : ℕ) → r < 0x10000 → b < 256 → c < 256 → d < 256 → e < 256
+-- Four bytes at once, the first first.
+four_summed : (r b c d e : ℕ) → r < 0x10000 → b < 256 → c < 256 → d < 256 → e < 256
     → fed_all r (b ∷ c ∷ d ∷ e ∷ [])
     ≡ bit_xor (bit_xor
     (bit_xor (after_zeros 3 (bit_xor (r / 256) b)) (after_zeros 2 (bit_xor (r % 256) c)))
     (after_zeros 1 d)) (after_zeros 0 e)
-fed-four r b c d e h hb hc hd he =
+four_summed r b c d e h hb hc hd he =
     let x = bit_xor (r / 256) b in
     let hx : x < 2 ^ 8 = xor_lt 8 (r / 256) b (omega arith) hb in
     let y = bit_xor (r % 256) c in
@@ -240,3 +240,84 @@ fed-four r b c d e h hb hc hd he =
     (after_zeros-lt 0 d hd)
     ∙ ap (λ n. bit_xor n (after_zeros 1 d))
     (fed-sum (after_zeros 2 x) (after_zeros 1 y) (after_zeros-lt 2 x hx) (after_zeros-lt 1 y hy)))
+
+-- four terms, the last first
+reversed : (a b c d : ℕ)
+    → bit_xor (bit_xor (bit_xor a b) c) d ≡ bit_xor (bit_xor (bit_xor d c) b) a
+reversed a b c d =
+    xor_comm (bit_xor (bit_xor a b) c) d
+    ∙ ap (bit_xor d) (xor_comm (bit_xor a b) c ∙ ap (bit_xor c) (xor_comm a b))
+    ∙ sym (xor_assoc d c (bit_xor b a))
+    ∙ sym (xor_assoc (bit_xor d c) b a)
+
+-- Four bytes at once.
+pub fed-four : (r b c d e : ℕ) → r < 0x10000 → b < 256 → c < 256 → d < 256 → e < 256
+    → fed_all r (b ∷ c ∷ d ∷ e ∷ [])
+    ≡ bit_xor (bit_xor (bit_xor (after_zeros 0 e) (after_zeros 1 d))
+    (after_zeros 2 (bit_xor (r % 256) c))) (after_zeros 3 (bit_xor (r / 256) b))
+fed-four r b c d e h hb hc hd he =
+    four_summed r b c d e h hb hc hd he
+    ∙ reversed (after_zeros 3 (bit_xor (r / 256) b)) (after_zeros 2 (bit_xor (r % 256) c))
+    (after_zeros 1 d) (after_zeros 0 e)
+
+-- a byte is led through a sum as through the one part, and a zero byte through the other
+fed-both : (a b x : ℕ) → a < 0x10000 → b < 0x10000 → x < 256
+    → fed (bit_xor a b) x ≡ bit_xor (fed a x) (fed b 0)
+fed-both a b x h k small =
+    fed-next (bit_xor a b) x (xor_of_16 a b h k) small
+    ∙ ap (λ n. bit_xor n (after_zeros 0 x)) (fed-sum a b h k)
+    ∙ sym (add_last (fed a 0) (fed b 0) (after_zeros 0 x))
+    ∙ ap (λ n. bit_xor n (fed b 0)) (sym (fed-next a x h small))
+
+-- and so four bytes
+four-both : (a b p q r s : ℕ) → a < 0x10000 → b < 0x10000 → p < 256 → q < 256 → r < 256 → s < 256
+    → fed_all (bit_xor a b) (p ∷ q ∷ r ∷ s ∷ [])
+    ≡ bit_xor (fed_all a (p ∷ q ∷ r ∷ s ∷ [])) (fed_all b (0 ∷ 0 ∷ 0 ∷ 0 ∷ []))
+four-both a b p q r s h k hp hq hr hs =
+    let a1 = fed-lt a p h hp in let b1 = fed-lt b 0 k (lit< tt) in
+    let a2 = fed-lt (fed a p) q a1 hq in let b2 = fed-lt (fed b 0) 0 b1 (lit< tt) in
+    let a3 = fed-lt (fed (fed a p) q) r a2 hr in
+    let b3 = fed-lt (fed (fed b 0) 0) 0 b2 (lit< tt) in
+    ap (λ n. fed (fed (fed n q) r) s) (fed-both a b p h k hp)
+    ∙ ap (λ n. fed (fed n r) s) (fed-both (fed a p) (fed b 0) q a1 b1 hq)
+    ∙ ap (λ n. fed n s) (fed-both (fed (fed a p) q) (fed (fed b 0) 0) r a2 b2 hr)
+    ∙ fed-both (fed (fed (fed a p) q) r) (fed (fed (fed b 0) 0) 0) s a3 b3 hs
+
+-- Four bytes and four zero bytes.
+pub fed-ahead : (r b c d e : ℕ) → r < 0x10000 → b < 256 → c < 256 → d < 256 → e < 256
+    → fed_all r (b ∷ c ∷ d ∷ e ∷ 0 ∷ 0 ∷ 0 ∷ 0 ∷ [])
+    ≡ bit_xor (bit_xor (bit_xor (after_zeros 4 e) (after_zeros 5 d))
+    (after_zeros 6 (bit_xor (r % 256) c))) (after_zeros 7 (bit_xor (r / 256) b))
+fed-ahead r b c d e h hb hc hd he =
+    let x = bit_xor (r / 256) b in
+    let hx : x < 2 ^ 8 = xor_lt 8 (r / 256) b (omega arith) hb in
+    let y = bit_xor (r % 256) c in
+    let hy : y < 2 ^ 8 = xor_lt 8 (r % 256) c (omega arith) hc in
+    let zeros = 0 ∷ 0 ∷ 0 ∷ 0 ∷ [] in
+    let s = after_zeros 0 e in let hs = after_zeros-lt 0 e he in
+    let t = after_zeros 1 d in let ht = after_zeros-lt 1 d hd in
+    let u = after_zeros 2 y in let hu = after_zeros-lt 2 y hy in
+    let v = after_zeros 3 x in let hv = after_zeros-lt 3 x hx in
+    let st = xor_of_16 s t hs ht in
+    let stu = xor_of_16 (bit_xor s t) u st hu in
+    let z : 0 < 256 = lit< tt in
+    ap (λ n. fed_all n zeros) (fed-four r b c d e h hb hc hd he)
+    ∙ four-both (bit_xor (bit_xor s t) u) v 0 0 0 0 stu hv z z z z
+    ∙ ap (λ n. bit_xor n (fed_all v zeros))
+    (four-both (bit_xor s t) u 0 0 0 0 st hu z z z z
+    ∙ ap (λ n. bit_xor n (fed_all u zeros)) (four-both s t 0 0 0 0 hs ht z z z z))
+
+-- Eight bytes at once.
+pub fed-eight : (r a b c d e f g i : ℕ) → r < 0x10000 → a < 256 → b < 256 → c < 256 → d < 256
+    → e < 256 → f < 256 → g < 256 → i < 256
+    → fed_all r (a ∷ b ∷ c ∷ d ∷ e ∷ f ∷ g ∷ i ∷ [])
+    ≡ bit_xor (fed_all 0 (e ∷ f ∷ g ∷ i ∷ []))
+    (fed_all r (a ∷ b ∷ c ∷ d ∷ 0 ∷ 0 ∷ 0 ∷ 0 ∷ []))
+fed-eight r a b c d e f g i h ha hb hc hd he hf hg hi =
+    let s = fed_all r (a ∷ b ∷ c ∷ d ∷ []) in
+    let h1 = fed-lt r a h ha in
+    let h2 = fed-lt (fed r a) b h1 hb in
+    let h3 = fed-lt (fed (fed r a) b) c h2 hc in
+    let hs = fed-lt (fed (fed (fed r a) b) c) d h3 hd in
+    ap (λ n. fed_all n (e ∷ f ∷ g ∷ i ∷ [])) (sym (xor_zero_l s))
+    ∙ four-both 0 s e f g i (lit< tt) hs he hf hg hi

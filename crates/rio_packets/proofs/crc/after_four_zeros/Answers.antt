@@ -1,0 +1,8 @@
+use Rattle.std.proofs.Common.{get_or, ap, ◌∙◌, arith}
+use Rattle.rio_packets.specs.declared.tables.TheConstants.{AFTER_FOUR_ZEROS}
+use Rattle.rio_packets.proofs.TableLaws.{entry_four}
+use Rattle.rio_packets.proofs.crc.after_four_zeros.Goals as goal
+
+pub returns : goal.returns
+returns c =
+    ap (λ n. get_or AFTER_FOUR_ZEROS n 0) c.from.ensures ∙ entry_four c.args.byte (omega arith)
