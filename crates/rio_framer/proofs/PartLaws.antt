@@ -15,7 +15,7 @@ use Rattle.link_model.proofs.ReadingSpeltLaws.{kind-data}
 use Rattle.link_model.proofs.ReadingSteps.{below}
 use Rattle.rio_framer.specs.Framing.{Framing, framing_at, framing_after, ended_of}
 use Rattle.rio_framer.specs.Giving.{told_of}
-use Rattle.rio_framer.specs.Parts.{later, IsPart, StartsWithSymbol, TakesEight, with_bytes}
+use Rattle.rio_framer.specs.Parts.{later, IsPart, StartsWithSymbol, Takes, with_bytes}
 use Rattle.rio_framer.specs.declared.events.Told.{Told}
 use Rattle.rio_framer.specs.declared.events.Told.TheVariants as told
 use Rattle.rio_framer.proofs.GivingLaws.{quiet-step}
@@ -137,19 +137,27 @@ part-data bytes xs chars to most some is stands =
       tells = λ told_some. absurd (told_some refl);
     }
 
-pub part-eight : (t : Text) (p : Pending) (xs : List ℕ) (chars : List Char) (to : Framing)
-    → TakesEight t p → length xs ≡ 8
-    → chars ≡ data_chars xs ++ drop 8 chars → to ≡ framing_at (place (with_bytes t xs) Nothing)
-    → IsPart (place t p) chars 8 told.Nothing to
-part-eight (Within bytes) Nothing xs chars to takes eight is stands =
-    subst (λ (n : ℕ). IsPart (place (Within bytes) Nothing) chars n told.Nothing to) eight
+pub part-run : (t : Text) (p : Pending) (n : ℕ) (xs : List ℕ) (chars : List Char) (to : Framing)
+    → 0 < n → Takes t p n → length xs ≡ n → chars ≡ data_chars xs ++ drop n chars
+    → to ≡ framing_at (place (with_bytes t xs) Nothing) → IsPart (place t p) chars n told.Nothing to
+part-run (Within bytes) Nothing n xs chars to some takes many is stands =
+    subst (λ (m : ℕ). IsPart (place (Within bytes) Nothing) chars m told.Nothing to) many
     (part-data bytes xs chars to (omega arith) (omega arith)
-    (is ∙ ap (λ (n : ℕ). data_chars xs ++ drop n chars) (sym eight)) stands)
-part-eight (Within bytes) (Opened d) xs chars to takes eight is stands = absurd takes
-part-eight (Within bytes) (One d x) xs chars to takes eight is stands = absurd takes
-part-eight (Within bytes) (Two d x y) xs chars to takes eight is stands = absurd takes
-part-eight Plain p xs chars to takes eight is stands = absurd takes
-part-eight Skipped p xs chars to takes eight is stands = absurd takes
+    (is ∙ ap (λ (m : ℕ). data_chars xs ++ drop m chars) (sym many)) stands)
+part-run (Within bytes) (Opened d) n xs chars to some takes many is stands = absurd takes
+part-run (Within bytes) (One d x) n xs chars to some takes many is stands = absurd takes
+part-run (Within bytes) (Two d x y) n xs chars to some takes many is stands = absurd takes
+part-run Plain p n xs chars to some takes many is stands = absurd takes
+part-run Skipped p n xs chars to some takes many is stands = absurd takes
+
+-- where some bytes fit, fewer do
+pub Takes-fewer : (t : Text) (p : Pending) (m n : ℕ) → Takes t p n → m ≤ n → Takes t p m
+Takes-fewer (Within bytes) Nothing m n takes fewer = omega arith
+Takes-fewer (Within bytes) (Opened d) m n takes fewer = takes
+Takes-fewer (Within bytes) (One d x) m n takes fewer = takes
+Takes-fewer (Within bytes) (Two d x y) m n takes fewer = takes
+Takes-fewer Plain p m n takes fewer = takes
+Takes-fewer Skipped p m n takes fewer = takes
 
 -- ---- a symbol
 

@@ -1,6 +1,6 @@
 -- A part of the characters of a run, which a framer takes at once.
 use Rattle.std.specs.Prelude.{◌≡◌, ℕ, ◌+◌, ◌<◌, ◌≤◌, List, ◌∷◌, ◌++◌, length, drop}
-use Rattle.link_model.specs.Prelude.{Char, telling_front, Place, Text, Plain, Skipped, Within, Delimiter, Data}
+use Rattle.link_model.specs.Prelude.{Char, telling_front, Place, Text, Plain, Skipped, Within, Delimiter, Data, data_chars}
 use Rattle.link_model.specs.Fronts.{Front}
 use Rattle.link_model.specs.declared.reading_kinds.Pending.{Pending}
 use Rattle.link_model.specs.declared.reading_kinds.Pending.TheVariants.{Nothing, Opened, One, Two}
@@ -27,20 +27,26 @@ pub record IsPart (from : Place) (chars : List Char) (count : ℕ) (outcome : To
       × (outcome ≡ told_of (telling_front from chars).step.gives)
       × (to ≡ framing_after (telling_front from chars).step)
 
--- eight bytes fit into the packet in progress, and no symbol is in progress
-abbrev pub TakesEight : Text → Pending → Type 0
-TakesEight (Within bytes) Nothing = length bytes ≤ 268
-TakesEight (Within bytes) (Opened d) = ⊥
-TakesEight (Within bytes) (One d x) = ⊥
-TakesEight (Within bytes) (Two d x y) = ⊥
-TakesEight Plain pending = ⊥
-TakesEight Skipped pending = ⊥
+-- so many bytes fit into the packet in progress, and no symbol is in progress
+abbrev pub Takes : Text → Pending → ℕ → Type 0
+Takes (Within bytes) Nothing n = length bytes + n ≤ 276
+Takes (Within bytes) (Opened d) n = ⊥
+Takes (Within bytes) (One d x) n = ⊥
+Takes (Within bytes) (Two d x y) n = ⊥
+Takes Plain pending n = ⊥
+Takes Skipped pending n = ⊥
 
 -- the text with bytes more of the packet in progress
 abbrev pub with_bytes : Text → List ℕ → Text
 with_bytes Plain more = Plain
 with_bytes Skipped more = Skipped
 with_bytes (Within bytes) more = Within (bytes ++ more)
+
+-- so many data characters come first
+pub record StartsWithData (n : ℕ) (chars : List Char) : Type 0 where
+  pub bytes : List ℕ
+  pub many : length bytes ≡ n
+  pub is : chars ≡ data_chars bytes ++ drop n chars
 
 -- a delimiter and three data characters with these bytes come first
 pub record StartsWithSymbol (d : Delimiter) (x y z : ℕ) (chars : List Char) : Type 0 where

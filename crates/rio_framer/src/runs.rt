@@ -1,13 +1,17 @@
 //! Runs of characters, whose data and whole symbols are taken at once.
-ghost use Rattle.std.specs.Prelude.{IsTrue, ◌≡◌, ◌≤◌, ◌<◌, ℕ, List, [], ◌∷◌, None, IfSome, ◌++◌, length, drop};
+ghost use Rattle.std.specs.Prelude.{IsTrue, ◌≡◌, ◌≤◌, ◌<◌, ℕ, List, [], ◌∷◌, None, IfSome, ◌++◌, length, take, drop};
 ghost use Rattle.link_model.specs.ReadingSpelt.{data_chars};
-ghost use Rattle.rio_framer.specs.Parts.{StartsWithSymbol};
+ghost use Rattle.rio_framer.specs.Parts.{StartsWithSymbol, StartsWithData};
 
 use crate::events::{Events, Told};
 use crate::framer::{Framer, Mode};
 use link_model::{Kind, Pending, char_kind};
 use rio_chars::Char;
+use rio_packets::MAX_BYTES;
 use rio_symbols::Delimiter;
+
+/// The fewest data characters that are taken at once: for fewer, an array of bytes does not pay.
+const FEWEST: usize = 8;
 
 impl Framer {
     ghost use Rattle.rio_symbols.specs.Spelling.{spelled};
@@ -15,7 +19,7 @@ impl Framer {
     ghost use Rattle.link_model.specs.Fronts.{telling_front};
     ghost use Rattle.rio_framer.specs.Framing.{framing_at, framing_after};
     ghost use Rattle.rio_framer.specs.Giving.{listed, events_of, told_of, IsPaired};
-    ghost use Rattle.rio_framer.specs.Parts.{IsPart, TakesEight, with_bytes};
+    ghost use Rattle.rio_framer.specs.Parts.{IsPart, Takes, with_bytes};
 
     /// Takes characters up to and with the first that tells an event, or all where none does, and
     /// answers their number and what the last of them tells. A packet that it ended stays where it
@@ -61,17 +65,16 @@ impl Framer {
         (count as u16, self.events(told))
     }
 
-    /// Takes the first of the characters, or eight data characters or a whole symbol at once.
+    /// Takes the first of the characters, or the data characters or the whole symbol in front at
+    /// once.
     fn read_part(&mut self, chars: &[Char]) -> (usize, Told)
         requires some { 0 < length chars.now }
         requires ended { self.old.ended ≡ None }
         ensures { IsPart self.old.place chars.now result.0 result.1 self.new }
     {
-        if self.takes_eight() {
-            if let Some(bytes) = eight_bytes(chars) {
-                self.add_eight(bytes);
-                return (8, Told::Nothing);
-            }
+        let room = self.room();
+        if room >= FEWEST && starts_with_eight(chars) {
+            return (self.add_data(chars, room), Told::Nothing);
         }
         if self.is_between() {
             if let Some((delimiter, x, y, z)) = whole_symbol(chars) {
@@ -83,24 +86,43 @@ impl Framer {
         (1, told)
     }
 
-    /// Whether eight data characters may come in the packet in progress.
-    fn takes_eight(&self) -> bool
-        ensures { IsTrue result → TakesEight self.now.place.text self.now.place.pending }
+    /// How many data characters the packet in progress takes, none where there is none.
+    fn room(&self) -> usize
+        ensures most { result ≤ 276 }
+        ensures takes { 0 < result → Takes self.now.place.text self.now.place.pending result }
     {
         match (self.mode, self.pending) {
-            (Mode::InPacket, Pending::Nothing) => !self.ended && self.building.len() <= 268,
-            _ => false,
+            (Mode::InPacket, Pending::Nothing) if !self.ended => {
+                MAX_BYTES - usize::from(self.building.len())
+            }
+            _ => 0,
         }
     }
 
-    /// Eight data characters of a packet.
-    fn add_eight(&mut self, bytes: [u8; 8])
+    /// The data characters of a packet that come first, as many as there is room for. Answers their
+    /// number.
+    fn add_data(&mut self, chars: &[Char], room: usize) -> usize
         requires ended { self.old.ended ≡ None }
-        requires takes { TakesEight self.old.place.text self.old.place.pending }
-        ensures { self.new
-            ≡ framing_at (place_of (with_bytes self.old.place.text bytes) Pending.Nothing) }
+        requires some { 0 < room }
+        requires most { room ≤ 276 }
+        requires takes { Takes self.old.place.text self.old.place.pending room }
+        requires starts { StartsWithData 8 chars.now }
+        ensures { IsPart self.old.place chars.now result Told.Nothing self.new }
     {
-        self.building.push_all(&bytes);
+        let mut bytes = [0; MAX_BYTES];
+        let count = copy_data(&mut bytes, chars, room);
+        self.add_bytes(&bytes[..count]);
+        count
+    }
+
+    /// Bytes of a packet.
+    fn add_bytes(&mut self, bytes: &[u8])
+        requires ended { self.old.ended ≡ None }
+        requires takes { Takes self.old.place.text self.old.place.pending (length bytes.now) }
+        ensures { self.new
+            ≡ framing_at (place_of (with_bytes self.old.place.text bytes.now) Pending.Nothing) }
+    {
+        self.building.push_all(bytes);
     }
 
     /// Whether no symbol is in progress.
@@ -126,10 +148,9 @@ impl Framer {
     }
 }
 
-/// The bytes of eight data characters, if so many come first.
-fn eight_bytes(chars: &[Char]) -> Option<[u8; 8]>
-    ensures length { IfSome result (λ bytes. length bytes ≡ 8) }
-    ensures is { IfSome result (λ bytes. chars.now ≡ data_chars bytes ++ drop 8 chars.now) }
+/// Whether eight data characters come first.
+fn starts_with_eight(chars: &[Char]) -> bool
+    ensures { IsTrue result → StartsWithData 8 chars.now }
 {
     match chars {
         [
@@ -142,9 +163,28 @@ fn eight_bytes(chars: &[Char]) -> Option<[u8; 8]>
             Char::Data(g),
             Char::Data(h),
             ..
-        ] => Some([*a, *b, *c, *d, *e, *f, *g, *h]),
-        _ => None,
+        ] => true,
+        _ => false,
     }
+}
+
+/// Copies the bytes of the data characters that come first, as many as there is room for. Answers
+/// their number.
+fn copy_data(bytes: &mut [u8], chars: &[Char], room: usize) -> usize
+    requires { room ≤ length bytes.old }
+    ensures most { result ≤ room }
+    ensures len { length bytes.new ≡ length bytes.old }
+    ensures is { chars.now ≡ data_chars (take result bytes.new) ++ drop result chars.now }
+    ensures some { 0 < room → StartsWithData 8 chars.now → 0 < result }
+{
+    let most = chars.len().min(room);
+    for (i, c) in chars[..most].iter().enumerate() {
+        let Char::Data(byte) = *c else {
+            return i;
+        };
+        bytes[i] = byte;
+    }
+    most
 }
 
 /// The delimiter and the bytes of a symbol, if one comes first and is not broken off.

@@ -3,22 +3,14 @@ use Rattle.link_model.specs.declared.reading_kinds.Kind.{Kind}
 use Rattle.link_model.specs.Places.{step_by}
 use Rattle.rio_framer.specs.Framing.{framing_after}
 use Rattle.rio_framer.specs.Giving.{told_of}
-use Rattle.rio_framer.proofs.PartLaws.{part-one, part-eight, part-symbol}
+use Rattle.rio_framer.proofs.PartLaws.{part-one, part-symbol}
 use Rattle.rio_framer.proofs.framer.Framer.read_part.Goals as goal
 
 pub returns-in-Some : goal.returns-in-Some
 returns-in-Some c =
     let from = c.args.self.now.place in
-    part-eight from.text from.pending c.in-Some.bytes c.args.chars.now c.add_eight.new.self
-    (c.takes_eight.ensures c.if-takes_eight.true)
-    c.in-Some.ensures.length c.in-Some.ensures.is c.add_eight.ensures
-
-pub returns-in-Some-whole_symbol : goal.returns-in-Some-whole_symbol
-returns-in-Some-whole_symbol c =
-    let from = c.args.self.now.place in
-    part-symbol from.text from.pending c.in-Some-whole_symbol.delimiter c.in-Some-whole_symbol.x
-    c.in-Some-whole_symbol.y c.in-Some-whole_symbol.z
-    c.args.chars.now _ _ (c.is_between.ensures c.if-is_between.true) c.in-Some-whole_symbol.ensures
+    part-symbol from.text from.pending c.in-Some.delimiter c.in-Some.x c.in-Some.y c.in-Some.z
+    c.args.chars.now _ _ (c.is_between.ensures c.if-is_between.true) c.in-Some.ensures
     c.read_symbol-told.ensures.told c.read_symbol-told.ensures.state
 
 pub returns : goal.returns
