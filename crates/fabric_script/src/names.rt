@@ -1,24 +1,30 @@
 //! The names of nodes.
 
-ghost use Rattle.std.specs.Prelude.{◌≡◌, ◌<◌, ◌≤◌, false, true, length, Contains, MatchOption};
-ghost use Rattle.fabric_script.specs.Names.{is_name, is_letter, is_digit, are_letters_or_digits, name_of};
+ghost use Rattle.std.specs.Prelude.{◌≡◌, ◌↔◌, ◌<◌, ◌≤◌, false, true, length, Contains, IsTrue, MatchOption};
+ghost use Rattle.fabric_script.specs.Names.{is_name, is_letter, is_digit, are_letters_or_digits, key_of, name_of};
 
 use arrayvec::ArrayVec;
 use std::marker::Model;
 
 /// The name of a node, of at most eight bytes: in a script a letter and then letters or digits, in
 /// ASCII.
+///
+/// A key of the bytes is kept beside them: so another name is told apart in one step.
 #[derive(Debug, Drop)]
 pub struct Name {
     items: ArrayVec<u8, 8>,
+    key: u64,
 }
 
 impl Model for Name {
-    ghost use Rattle.std.specs.Prelude.{List, ℕ};
+    ghost use Rattle.std.specs.Prelude.{◌≡◌, List, ℕ};
+    ghost use Rattle.fabric_script.specs.Names.{key_of};
 
     ghost Value = { List ℕ };
 
     ghost view = { λ name. name.items.items };
+
+    ghost invariant = { λ name. name.key ≡ key_of name.items.items };
 }
 
 impl Name {
@@ -26,7 +32,8 @@ impl Name {
     pub fn new(items: ArrayVec<u8, 8>) -> Name
         ensures { result ≡ items.items }
     {
-        Name { items }
+        let key = key_of(items.as_slice());
+        Name { items, key }
     }
 
     /// The name of these bytes, of which there are at most eight.
@@ -38,7 +45,7 @@ impl Name {
         for byte in word {
             items.push(*byte);
         }
-        Name { items }
+        Name::new(items)
     }
 
     /// The bytes of the name.
@@ -47,6 +54,26 @@ impl Name {
     {
         self.items.as_slice()
     }
+
+    /// Whether the name is this word, whose key this is. The bytes are compared only if the keys are
+    /// the same.
+    fn is_word(&self, word: &[u8], key: u64) -> bool
+        requires { key ≡ key_of word.now }
+        ensures { IsTrue result ↔ (self.now ≡ word.now) }
+    {
+        if self.key != key {
+            return false;
+        }
+        self.items.as_slice() == word
+    }
+}
+
+/// The key of a word: its bytes as one number, of which the last eight count.
+fn key_of(word: &[u8]) -> u64
+    ensures { result ≡ key_of word.now }
+{
+    word.iter()
+        .fold(0u64, |key, byte| (key << 8) | u64::from(*byte))
 }
 
 /// The name that a word spells: a letter and up to seven letters or digits, in ASCII; or None if it
@@ -103,6 +130,7 @@ pub(crate) fn find(names: &[Name], word: &[u8]) -> Option<u8>
         (¬ Contains names.now word.now)
         (λ n. (n < length names.now) × (name_of names.now n ≡ word.now)) }
 {
-    let place = names.iter().position(|name| name.as_slice() == word)?;
+    let key = key_of(word);
+    let place = names.iter().position(|name| name.is_word(word, key))?;
     Some(place as u8)
 }
