@@ -2,6 +2,7 @@ pub mod Names
 pub mod Forms
 pub mod Texts
 pub mod Lines
+pub mod GivenPackets
 pub mod Reasons
 pub mod Known
 pub mod Links

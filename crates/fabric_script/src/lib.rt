@@ -10,16 +10,18 @@
 //! - `Refusals`: the reasons that look at a whole line, after what `Known` says of the earlier ones;
 //! - `LargeIds`: which 16-bit device IDs the lines give nodes;
 //! - `Reading`, `Scripts`: which lines and which bytes are spelled, and which are refused;
-//! - `SetUps`: what is known of one event behind set-up lines.
+//! - `SetUps`: what is known of one event behind set-up lines;
+//! - `GivenPackets`: the line that gives an endpoint a packet.
 //!
 //! `parse_set_up` reads set-up lines alone. `read_set_up` does so too, and keeps in `SetUp` what is
 //! known behind them, so that `SetUp::read_event` reads one event after another.
 //!
 //! The types are `Script`, its `Numbered` lines, `Line` and their parts `Name`, `Hex` and
-//! `PortRef`; `Reason`, `Refusal` and `ScriptEnd` say why there is no script. The module `laws` has
-//! each law as the contract of a function with an empty body: a text is one line at most, and no
-//! reason hits it then; bytes spell one script at most, or are refused once; a script that passes is
-//! spelled by its text; its 16-bit device IDs differ.
+//! `PortRef`; `GivenPacket` is what a line says of a packet that it gives to an endpoint; `Reason`,
+//! `Refusal` and `ScriptEnd` say why there is no script. The module `laws` has each law as the
+//! contract of a function with an empty body: a text is one line at most, and no reason hits it
+//! then; bytes spell one script at most, or are refused once; a script that passes is spelled by its
+//! text; its 16-bit device IDs differ.
 //!
 //! `advise` says what in the text of a refused line is to blame.
 //!
@@ -29,6 +31,7 @@
 
 mod advice;
 mod forms;
+mod given_packets;
 mod growing_sink;
 mod hex;
 mod known;
@@ -50,6 +53,7 @@ mod words;
 mod writing;
 
 pub use advice::{Advice, WordKind, advise};
+pub use given_packets::{Contents, GivenPacket, RequestHead};
 pub use hex::Hex;
 pub use laws::{
     large_ids_are_apart, line_or_reason, one_line, one_reason, one_refusal, one_script,
