@@ -1,16 +1,21 @@
 -- What an event at a node needs, and what it did.
-use Rattle.std.proofs.Common.{◌≡◌, ℕ, Bool, true, List, [], ◌∷◌, ◌++◌, get_or, slice_get, Option, Some, None, IsSome, option_map, unwrap_or, refl, sym, ap, ◌∙◌, subst}
+use Rattle.std.proofs.Common.{◌≡◌, ℕ, Bool, true, false, List, [], ◌∷◌, ◌++◌, get_or, slice_get, Option, Some, None, IsSome, MatchOption, option_map, unwrap_or, refl, sym, ap, ◌∙◌, subst}
 use mathlib.Core.Path.{fun_ext}
-use Rattle.std.proofs.lemmas.Option.{same_Some, slice_get_within, slice_get-get_or}
+use Rattle.std.proofs.lemmas.Option.{slice_get_within, slice_get-get_or}
 use Rattle.rio_chars.specs.Written.{Writes}
 use Rattle.rio_chars.specs.declared.outbox.Outbox.{Outbox}
 use Rattle.rio_chars.proofs.WrittenLaws.{Writes-then}
 use Rattle.rio_packets.specs.LinkForm.{LinkForm}
 use Rattle.maint_registers.specs.Devices.{Device, is_switch}
-use Rattle.maint_packets.specs.declared.request.Request.{Request}
 use Rattle.maint_packets.specs.Requests.{request_body}
+use Rattle.maint_packets.specs.declared.request.Op.TheVariants as Ops
+use Rattle.fabric_script.specs.declared.given_packets.Contents.{Contents}
+use Rattle.fabric_script.specs.declared.given_packets.Contents.TheVariants as Of
+use Rattle.fabric_script.specs.declared.given_packets.GivenPacket.{GivenPacket}
+use Rattle.fabric_script.specs.declared.given_packets.RequestHead.{RequestHead}
+use Rattle.fabric_script.specs.GivenPackets.{taker, given_line, line_giving}
 use Rattle.fabric_script.specs.declared.lines.Line.{Line}
-use Rattle.fabric_script.specs.declared.lines.Line.TheVariants.{Send, Read, Write, Pump, Deliver, Alter, Insert, Erase, Timeout, Settle, Move, Collect, Run, Send16, Read16, Write16}
+use Rattle.fabric_script.specs.declared.lines.Line.TheVariants.{Pump, Deliver, Alter, Insert, Erase, Timeout, Settle, Move, Collect, Run}
 use Rattle.fabric_script.specs.Lines.{is_event}
 use Rattle.fabric_model.specs.Network.{Network, IsEndpoint, IsSwitch, sender_id, id_of, peer_in}
 use Rattle.fabric_trace.specs.Blocks.{takes, Sends, IsBlock}
@@ -28,7 +33,7 @@ use Rattle.fabric_ports.specs.Blocked.{Blocked, BlockEnds}
 use Rattle.fabric_ports.specs.Ends.{IsLinked}
 use Rattle.fabric_ports.specs.declared.fabric.Fabric.{Fabric}
 use Rattle.fabric_trace.proofs.Unique.{block_one}
-use Rattle.fabric_ports.specs.Events.{body_in, taker, taken, happened, Did, Evented, EventEnds, IsAtLink}
+use Rattle.fabric_ports.specs.Events.{body_in, request_by, taken, happened, Did, Evented, EventEnds, IsAtLink}
 use Rattle.fabric_ports.specs.Places.{IsEndpointAt, IsSwitchAt}
 use Rattle.fabric_ports.specs.Showing.{ShowsFabric}
 use Rattle.fabric_ports.specs.Standing.{Stands}
@@ -75,13 +80,31 @@ ids_are fabric s node place device shows at same value =
     sym (ap (λ (o : Option Device). unwrap_or (option_map (λ (d : Device). sender_id d large) o) 0)
     known))
 
--- the packet of a request is that of the line which says it
-pub asked_form : (line said : Line) (device : Device) (request : Request) (packet : List ℕ)
-    → line ≡ said → request_body request ≡ body_in said (sender_id device)
-    → LinkForm (request_body request) packet → LinkForm (body_in line (sender_id device)) packet
-asked_form line said device request packet is same form =
-    subst (λ (l : Line). LinkForm (body_in l (sender_id device)) packet) (sym is)
-    (subst (λ (b : List ℕ). LinkForm b packet) same form)
+-- the packet that a line gives is that of its contents
+pub given_form : (given : GivenPacket) (contents : Contents) (device : Device)
+    (body packet : List ℕ) → given.contents ≡ contents
+    → body ≡ body_in (given_line given.node given.prio given.large given.dest contents)
+    (sender_id device)
+    → LinkForm body packet → LinkForm (body_in (line_giving given) (sender_id device)) packet
+given_form given contents device body packet is same form =
+    subst (λ (c : Contents). LinkForm
+    (body_in (given_line given.node given.prio given.large given.dest c) (sender_id device)) packet)
+    (sym is) (subst (λ (b : List ℕ). LinkForm b packet) same form)
+
+module _ (node prio : ℕ) where
+  pub read_body : (large : Bool) (dest : ℕ) (head : RequestHead) (ids : Bool → ℕ)
+      → request_body
+      (request_by (ids large) prio large dest head.hop head.tid head.offset Ops.Read)
+      ≡ body_in (given_line node prio large dest (Of.Read head)) ids
+  read_body false dest head ids = refl
+  read_body true dest head ids = refl
+
+  pub write_body : (large : Bool) (dest : ℕ) (head : RequestHead) (value : ℕ) (ids : Bool → ℕ)
+      → request_body
+      (request_by (ids large) prio large dest head.hop head.tid head.offset (Ops.Write value))
+      ≡ body_in (given_line node prio large dest (Of.Write head value)) ids
+  write_body false dest head value ids = refl
+  write_body true dest head value ids = refl
 
 -- ---- afterwards
 
@@ -127,50 +150,49 @@ sends : (s : Seen) (node : ℕ) {body : List ℕ} (packet : List ℕ) (block : L
 sends s node packet block endpoint form is =
     record { packet = packet; endpoint = endpoint; form = form; lines = is }
 
-pub is_taken : (line : Line) (node : ℕ) → taker line ≡ Some node → IsTaken line node
-is_taken (Send at prio ftype dest hex) node is =
-    subst (IsTaken (Send at prio ftype dest hex)) (same_Some at node is) (record {
-      edits = refl;
-      there = λ net is. is;
-      block = λ s. sends s at;
-      answers = λ block. refl;
-    })
-is_taken (Read at prio dest hop tid offset) node is =
-    subst (IsTaken (Read at prio dest hop tid offset)) (same_Some at node is) (record {
-      edits = refl;
-      there = λ net is. is;
-      block = λ s. sends s at;
-      answers = λ block. refl;
-    })
-is_taken (Write at prio dest hop tid offset value) node is =
-    subst (IsTaken (Write at prio dest hop tid offset value)) (same_Some at node is) (record {
-      edits = refl;
-      there = λ net is. is;
-      block = λ s. sends s at;
-      answers = λ block. refl;
-    })
-is_taken (Send16 at prio ftype dest hex) node is =
-    subst (IsTaken (Send16 at prio ftype dest hex)) (same_Some at node is) (record {
-      edits = refl;
-      there = λ net is. is;
-      block = λ s. sends s at;
-      answers = λ block. refl;
-    })
-is_taken (Read16 at prio dest hop tid offset) node is =
-    subst (IsTaken (Read16 at prio dest hop tid offset)) (same_Some at node is) (record {
-      edits = refl;
-      there = λ net is. is;
-      block = λ s. sends s at;
-      answers = λ block. refl;
-    })
-is_taken (Write16 at prio dest hop tid offset value) node is =
-    subst (IsTaken (Write16 at prio dest hop tid offset value)) (same_Some at node is) (record {
-      edits = refl;
-      there = λ net is. is;
-      block = λ s. sends s at;
-      answers = λ block. refl;
-    })
-is_taken _ node is = absurd cc
+pub is_taken : (node prio : ℕ) (large : Bool) (dest : ℕ) (contents : Contents)
+    → IsTaken (given_line node prio large dest contents) node
+is_taken node prio false dest (Of.Data ftype hex) = record {
+  edits = refl;
+  there = λ net is. is;
+  block = λ s. sends s node;
+  answers = λ block. refl;
+}
+is_taken node prio false dest (Of.Read head) = record {
+  edits = refl;
+  there = λ net is. is;
+  block = λ s. sends s node;
+  answers = λ block. refl;
+}
+is_taken node prio false dest (Of.Write head value) = record {
+  edits = refl;
+  there = λ net is. is;
+  block = λ s. sends s node;
+  answers = λ block. refl;
+}
+is_taken node prio true dest (Of.Data ftype hex) = record {
+  edits = refl;
+  there = λ net is. is;
+  block = λ s. sends s node;
+  answers = λ block. refl;
+}
+is_taken node prio true dest (Of.Read head) = record {
+  edits = refl;
+  there = λ net is. is;
+  block = λ s. sends s node;
+  answers = λ block. refl;
+}
+is_taken node prio true dest (Of.Write head value) = record {
+  edits = refl;
+  there = λ net is. is;
+  block = λ s. sends s node;
+  answers = λ block. refl;
+}
+
+pub taken_line : (line : Line) (given : GivenPacket) → line ≡ line_giving given
+    → IsTaken line given.node
+taken_line line given is = subst (λ (l : Line). IsTaken l given.node) (sym is)
+    (is_taken given.node given.prio given.large given.dest given.contents)
 
 pub sent_block : (s : Seen) (line : Line) (node : ℕ) (ids : Bool → ℕ) (packet : List ℕ)
     (told : Happened) → IsTaken line node → IsEndpoint s.network node
@@ -240,9 +262,11 @@ is_linked fabric from lines port stands has = record {
       (seen_links from lines) has;
 }
 
-pub none_of : (o : Option ℕ) → ((x : ℕ) → o ≡ Some x → ⊥) → o ≡ None
-none_of None other = refl
-none_of (Some x) other = absurd (other x refl)
+pub none_taken : (line : Line) (given : Option GivenPacket)
+    → ((x : GivenPacket) → given ≡ Some x → ⊥)
+    → MatchOption given (taker line ≡ None) (λ x. line ≡ line_giving x) → taker line ≡ None
+none_taken line None other is = is
+none_taken line (Some x) other is = absurd (other x refl)
 
 -- an event of no other kind is one at a link
 pub at_link_is : (line : Line) → is_event line ≡ true → taker line ≡ None

@@ -42,28 +42,6 @@ pub record MayFollow (fabric : Fabric) (names : List (List ℕ)) (line : Line) :
   pub names_suffice : length fabric.devices.items ≤ length names
   pub few_names : length names ≤ 256
 
--- the endpoint that has a packet taken by a line
-abbrev pub taker : Line → Option ℕ
-taker (Send node prio ftype dest hex) = Some node
-taker (Read node prio dest hop tid offset) = Some node
-taker (Write node prio dest hop tid offset value) = Some node
-taker (Send16 node prio ftype dest hex) = Some node
-taker (Read16 node prio dest hop tid offset) = Some node
-taker (Write16 node prio dest hop tid offset value) = Some node
-taker _ = None
-
--- the line reads or writes a register by a packet with 16-bit IDs
-abbrev pub IsLargeAsk : Line → Type 0
-IsLargeAsk (Read16 node prio dest hop tid offset) = Unit {0}
-IsLargeAsk (Write16 node prio dest hop tid offset value) = Unit {0}
-IsLargeAsk _ = ⊥
-
--- the line reads or writes a register
-abbrev pub IsAsk : Line → Type 0
-IsAsk (Read node prio dest hop tid offset) = Unit {0}
-IsAsk (Write node prio dest hop tid offset value) = Unit {0}
-IsAsk line = IsLargeAsk line
-
 -- a request with IDs of a size, from this source
 abbrev pub request_by : ℕ → ℕ → Bool → ℕ → ℕ → ℕ → ℕ → Op → Request
 request_by source prio large dest hop tid offset op = record {

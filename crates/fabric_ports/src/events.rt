@@ -1,17 +1,19 @@
 //! Events: what a line of a script does to a fabric.
-ghost use Rattle.std.specs.Prelude.{◌≡◌, ◌<◌, false, List, length, IsSome, IfOk, IfErr};
+ghost use Rattle.std.specs.Prelude.{◌≡◌, ◌<◌, false, List, length, IfOk, IfErr};
 ghost use Rattle.rio_packets.specs.LinkForm.{LinkForm};
 ghost use Rattle.rio_packets.specs.Fields.{body_of};
+ghost use Rattle.maint_packets.specs.Requests.{IsGood, request_body};
+ghost use Rattle.fabric_script.specs.GivenPackets.{line_giving};
 ghost use Rattle.fabric_model.specs.Network.{Network, sender_id};
 ghost use Rattle.fabric_trace.specs.Events.{IsInRange, IsDataLength};
 ghost use Rattle.fabric_trace.specs.Known.{Seen};
 ghost use Rattle.fabric_trace.specs.Lines.{TraceLine};
-ghost use Rattle.fabric_ports.specs.Events.{MayFollow, Evented, EventEnds, taker, IsAsk, IsLargeAsk, body_in};
+ghost use Rattle.fabric_ports.specs.Events.{MayFollow, Evented, EventEnds, request_by, body_in};
 ghost use Rattle.fabric_ports.specs.Standing.{Stands};
 
 use crate::answers::{EventEnd, Happened};
 use crate::fabric::Fabric;
-use fabric_script::{Line, Name};
+use fabric_script::{Contents, GivenPacket, Line, Name, RequestHead};
 use maint_packets::{Op, Request, write_request};
 use maint_registers::Registers;
 use rio_chars::{Outbox, Sink};
@@ -44,9 +46,9 @@ impl Fabric {
             K.written K.faults outbox.old outbox.new from lines end) }
     {
         write_begun(outbox, names, line);
-        if let Some(node) = taker(line) {
-            let packet = packet_of(line, &self.devices[usize::from(node)]);
-            return Ok(self.send(names, node, packet, outbox));
+        if let Some(given) = line.gives() {
+            let packet = packet_of(&given, &self.devices[usize::from(given.node)]);
+            return Ok(self.send(names, given.node, packet, outbox));
         }
         match line {
             Line::Move { node } => {
@@ -67,61 +69,38 @@ impl Fabric {
     }
 }
 
-/// The endpoint that has a packet taken by a line.
-fn taker(line: &Line) -> Option<u8>
-    ensures { result ≡ taker line.now }
+/// The packet that a line gives, from the device with these registers.
+fn packet_of(given: &GivenPacket, device: &Registers) -> Packet
+    requires range { IsInRange (line_giving given.now) }
+    requires dest { given.now.large ≡ false → given.now.dest < 256 }
+    ensures { LinkForm (body_in (line_giving given.now) (sender_id device.now)) result }
 {
-    match line {
-        Line::Send { node, .. }
-        | Line::Read { node, .. }
-        | Line::Write { node, .. }
-        | Line::Send16 { node, .. }
-        | Line::Read16 { node, .. }
-        | Line::Write16 { node, .. } => Some(*node),
-        _ => None,
+    let source = sender_id(device, given.large);
+    match given.contents {
+        Contents::Data(ftype, hex) => {
+            let header = Header {
+                prio: given.prio,
+                ftype,
+                dest: given.dest,
+                source,
+                large: given.large,
+            };
+            sent(&header, hex.as_slice())
+        }
+        Contents::Read(head) => asked(given, source, head, Op::Read),
+        Contents::Write(head, value) => asked(given, source, head, Op::Write { value }),
     }
 }
 
-/// The packet of a line that has one taken, from the device with these registers.
-fn packet_of(line: &Line, device: &Registers) -> Packet
-    requires taken { IsSome (taker line.now) }
-    requires range { IsInRange line.now }
-    ensures { LinkForm (body_in line.now (sender_id device.now)) result }
+/// The ID of a size from which a device sends.
+fn sender_id(device: &Registers, large: bool) -> u16
+    ensures value { result ≡ sender_id device.now large }
+    ensures small { large ≡ false → result < 256 }
 {
-    match line {
-        Line::Send {
-            prio,
-            ftype,
-            dest,
-            hex,
-            ..
-        } => {
-            let header = Header {
-                prio: *prio,
-                ftype: *ftype,
-                dest: u16::from(*dest),
-                source: u16::from(device.base_id()),
-                large: false,
-            };
-            sent(&header, hex.as_slice())
-        }
-        Line::Send16 {
-            prio,
-            ftype,
-            dest,
-            hex,
-            ..
-        } => {
-            let header = Header {
-                prio: *prio,
-                ftype: *ftype,
-                dest: *dest,
-                source: device.large_id(),
-                large: true,
-            };
-            sent(&header, hex.as_slice())
-        }
-        _ => asked(line, device),
+    if large {
+        device.large_id()
+    } else {
+        u16::from(device.base_id())
     }
 }
 
@@ -141,94 +120,24 @@ fn sent(header: &Header, hex: &[u8]) -> Packet
     }
 }
 
-/// The packet of a line that reads or writes a register, from the device with these registers.
-fn asked(line: &Line, device: &Registers) -> Packet
-    requires ask { IsAsk line.now }
-    requires range { IsInRange line.now }
-    ensures { LinkForm (body_in line.now (sender_id device.now)) result }
+/// The packet of a request to read or write a register, from a source ID.
+fn asked(given: &GivenPacket, source: u16, head: RequestHead, op: Op) -> Packet
+    requires op { IsGood op }
+    requires prio { given.now.prio < 4 }
+    requires dest { given.now.large ≡ false → given.now.dest < 256 }
+    requires source { given.now.large ≡ false → source < 256 }
+    requires offset { head.offset < 0x1000000 }
+    ensures { LinkForm (request_body (request_by source given.now.prio given.now.large
+        given.now.dest head.hop head.tid head.offset op)) result }
 {
-    match line {
-        Line::Read {
-            prio,
-            dest,
-            hop,
-            tid,
-            offset,
-            ..
-        } => write_request(&Request {
-            prio: *prio,
-            dest: u16::from(*dest),
-            source: u16::from(device.base_id()),
-            large: false,
-            op: Op::Read,
-            tid: *tid,
-            hop: *hop,
-            offset: *offset,
-        }),
-        Line::Write {
-            prio,
-            dest,
-            hop,
-            tid,
-            offset,
-            value,
-            ..
-        } => write_request(&Request {
-            prio: *prio,
-            dest: u16::from(*dest),
-            source: u16::from(device.base_id()),
-            large: false,
-            op: Op::Write { value: *value },
-            tid: *tid,
-            hop: *hop,
-            offset: *offset,
-        }),
-        _ => large_asked(line, device),
-    }
-}
-
-/// The same of a line with 16-bit IDs.
-fn large_asked(line: &Line, device: &Registers) -> Packet
-    requires ask { IsLargeAsk line.now }
-    requires range { IsInRange line.now }
-    ensures { LinkForm (body_in line.now (sender_id device.now)) result }
-{
-    match line {
-        Line::Read16 {
-            prio,
-            dest,
-            hop,
-            tid,
-            offset,
-            ..
-        } => write_request(&Request {
-            prio: *prio,
-            dest: *dest,
-            source: device.large_id(),
-            large: true,
-            op: Op::Read,
-            tid: *tid,
-            hop: *hop,
-            offset: *offset,
-        }),
-        Line::Write16 {
-            prio,
-            dest,
-            hop,
-            tid,
-            offset,
-            value,
-            ..
-        } => write_request(&Request {
-            prio: *prio,
-            dest: *dest,
-            source: device.large_id(),
-            large: true,
-            op: Op::Write { value: *value },
-            tid: *tid,
-            hop: *hop,
-            offset: *offset,
-        }),
-        _ => unreachable!(),
-    }
+    write_request(&Request {
+        prio: given.prio,
+        dest: given.dest,
+        source,
+        large: given.large,
+        op,
+        tid: head.tid,
+        hop: head.hop,
+        offset: head.offset,
+    })
 }

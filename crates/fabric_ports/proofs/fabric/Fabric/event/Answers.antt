@@ -1,18 +1,20 @@
-use Rattle.std.proofs.Common.{◌++◌, ◌∷◌, [], List, rules, refl, sym, ap, subst, ◌∙◌}
+use Rattle.std.proofs.Common.{◌++◌, ◌∷◌, [], List, rules, refl, sym, ap, subst}
 use Rattle.rio_chars.specs.Written.{Writes}
+use Rattle.rio_packets.specs.LinkForm.{LinkForm}
 use Rattle.fabric_script.specs.declared.lines.Line.{Line}
 use Rattle.fabric_script.specs.declared.lines.Line.TheVariants.{Move, Collect, Run}
 use Rattle.fabric_trace.specs.Fold.{edited_by, seen}
 use Rattle.fabric_trace.specs.Known.{Seen}
 use Rattle.fabric_trace.specs.Lines.{TraceLine, Begun}
 use Rattle.fabric_trace.specs.Text.{trace_line_text}
-use Rattle.fabric_ports.specs.Events.{Evented, EventEnds}
+use Rattle.fabric_model.specs.Network.{sender_id}
+use Rattle.fabric_ports.specs.Events.{Evented, EventEnds, body_in}
 use Rattle.fabric_ports.specs.Standing.{Stands}
 use Rattle.fabric_ports.proofs.RanLaws.{handed_on}
 use Rattle.fabric_ports.proofs.RoundLaws.{run_blocked, run_ends}
 use Rattle.fabric_ports.specs.declared.answers.Happened.TheVariants.{Other}
 use Rattle.fabric_trace.proofs.Existing.{ready_on}
-use Rattle.fabric_ports.proofs.EventLaws.{end_of, ids_are, is_taken, sent_block, evented, linked_evented, ends_on, none_of, at_link_is, other_happened}
+use Rattle.fabric_ports.proofs.EventLaws.{end_of, ids_are, taken_line, sent_block, evented, linked_evented, ends_on, none_taken, at_link_is, other_happened}
 use Rattle.fabric_ports.proofs.fabric.Fabric.event.Goals as goal
 
 pub returns-in-Move-clause-done : goal.returns-in-Move-clause-done
@@ -48,7 +50,7 @@ returns-in-Collect-clause-done g c = λ from lines stands.
 pub returns-in_ok-at_link-in_default-line : goal.returns-in_ok-at_link-in_default-line
 returns-in_ok-at_link-in_default-line g c =
     let link = at_link_is c.args.line.now c.requires.may.event
-    (sym c.taker.ensures ∙ none_of c.taker.result c.in_default.not-Some)
+    (none_taken c.args.line.now c.gives.result c.in_default.not-Some c.gives.ensures.packet)
     c.in_default-line.not-Move c.in_default-line.not-Collect c.in_default-line.not-Run in
     record {
       done = λ from lines stands. linked_evented c.args.line.now c.args.names.now _ _ _ _ _ from
@@ -111,14 +113,17 @@ pub returns-in-Some-clause-done : goal.returns-in-Some-clause-done
 returns-in-Some-clause-done g c = λ from lines stands.
     let may = c.requires.may in
     let s = seen from lines in
-    let takes_it = is_taken c.args.line.now c.in-Some.node (sym c.taker.ensures ∙ c.in-Some.is) in
-    let end = end_of c.args.self.now (seen may.from may.lines) c.in-Some.node
-    may.stands.shows
+    let given = c.in-Some.given in
+    let is = c.in-Some.ensures.packet in
+    let takes_it = taken_line c.args.line.now given is in
+    let end = end_of c.args.self.now (seen may.from may.lines) given.node may.stands.shows
     (takes_it.there (seen may.from may.lines).network may.happens.there) in
-    let ids = ids_are c.args.self.now s c.in-Some.node c.from.result c.index.result.now stands.shows
+    let ids = ids_are c.args.self.now s given.node c.from.result c.index.result.now stands.shows
     end.device c.from.ensures c.index.ensures in
     evented c.args.line.now c.args.names.now _ _ _ _ _ from lines c.args.self.now c.send.new.self
     c.send.result _ (ap (edited_by s) takes_it.edits) stands c.write_begun.ensures
     (c.send.ensures s stands.shows stands.sent)
-    (sent_block s c.args.line.now c.in-Some.node _ c.packet_of-packet.result c.send.result takes_it
-    (end.known s stands.shows) ids c.packet_of-packet.ensures)
+    (sent_block s c.args.line.now given.node _ c.packet_of-packet.result c.send.result takes_it
+    (end.known s stands.shows) ids
+    (subst (λ (l : Line). LinkForm (body_in l (sender_id c.index.result.now))
+    c.packet_of-packet.result) (sym is) c.packet_of-packet.ensures))
