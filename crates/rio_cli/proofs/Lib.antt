@@ -9,6 +9,7 @@ pub mod RefusalLaws
 pub mod LineLaws
 pub mod NumberLaws
 mod DigitTables
+mod SpacedWords
 pub mod WordLaws
 pub mod DecodeLaws
 pub mod SoakLaws

@@ -11,7 +11,7 @@ use Rattle.link_model.specs.Reading.{placed}
 use Rattle.rio_framer.specs.Framing.{ended_of}
 use Rattle.rio_framer.specs.Giving.{listed, told_of}
 use Rattle.rio_framer.specs.declared.events.Told.TheVariants as told
-use Rattle.rio_cli.specs.Decoding.{event_text, symbol_text}
+use Rattle.rio_cli.specs.Decoding.{event_text}
 
 -- the lines of the first event and of the second
 pub listed-parts : (n : ℕ) (first : Option Event) (second : Option Fields)
@@ -48,12 +48,6 @@ pub Writes-ended : {K : Type 0} {written : K → Option (List ℕ)} {faults : K 
     → Writes written faults a b (event_text (n, event))
     → Writes written faults a b (flat_map event_text (placed n (listed ended None)))
 Writes-ended {K} {written} {faults} {a} {b} n ended event is h = rw is (Writes-event n event h)
-
-pub Writes-symbol : {K : Type 0} {written : K → Option (List ℕ)} {faults : K → ℕ} {a b : Outbox K}
-    (inside symbol : Fields) → inside ≡ symbol → Writes written faults a b (symbol_text inside)
-    → Writes written faults a b (symbol_text symbol)
-Writes-symbol {K} {written} {faults} {a} {b} inside symbol is h =
-    subst (λ s. Writes written faults a b (symbol_text s)) is h
 
 -- where a symbol is told that ended a packet, the packet is there
 pub ended-there : (es : List Event) (symbol : Fields) → told_of es ≡ told.Ends symbol

@@ -4,21 +4,10 @@ use Rattle.std.specs.Fmt.{decimal}
 use Rattle.std.proofs.lemmas.Fmt.{decimal_step, decimal_digit}
 use Rattle.rio_cli.specs.Decoding.{spaced}
 
-pub one_digit : (n : ℕ) → n < 10 → (32 ∷ (48 + n % 10) ∷ []) ≡ spaced n
-one_digit n few =
-    let same : n % 10 ≡ n = omega arith in
-    ap (λ k. 32 ∷ (48 + k) ∷ []) same ∙ sym (ap (λ l. 32 ∷ l) (decimal_digit n few))
-
 pub two : (n : ℕ) → 10 ≤ n → n < 100 → decimal n ≡ (48 + n / 10) ∷ (48 + n % 10) ∷ []
 two n many few =
     decimal_step n many (omega arith)
     ∙ ap (λ l. l ++ (48 + n % 10) ∷ []) (decimal_digit (n / 10) (omega arith))
-
-pub two_digits : (n : ℕ) → 10 ≤ n → n < 100
-    → (32 ∷ (48 + n / 10 % 10) ∷ (48 + n % 10) ∷ []) ≡ spaced n
-two_digits n many few =
-    let same : n / 10 % 10 ≡ n / 10 = omega arith in
-    ap (λ k. 32 ∷ (48 + k) ∷ (48 + n % 10) ∷ []) same ∙ sym (ap (λ l. 32 ∷ l) (two n many few))
 
 pub three_digits : (n : ℕ) → 100 ≤ n → n < 256
     → (32 ∷ (48 + n / 100) ∷ (48 + n / 10 % 10) ∷ (48 + n % 10) ∷ []) ≡ spaced n
@@ -41,3 +30,20 @@ hundreds n many few =
     ∙ ap (λ l. l ++ (48 + n % 10) ∷ []) (decimal_step (n / 10) (omega arith) (omega arith))
     ∙ append_assoc (decimal (n / 10 / 10)) ((48 + n / 10 % 10) ∷ []) ((48 + n % 10) ∷ [])
     ∙ (λ i. decimal (up i) ++ (48 + sym high i) ∷ (48 + sym low i) ∷ []))
+
+-- the last four of five digits and more
+pub ten_thousands : (n : ℕ) → 10000 ≤ n → n < 2 ^ 32
+    → decimal (n / 10000) ++ (48 + n % 10000 / 100 / 10) ∷ (48 + n % 10000 / 100 % 10)
+    ∷ (48 + n % 10000 % 100 / 10) ∷ (48 + n % 10000 % 100 % 10) ∷ []
+    ≡ decimal n
+ten_thousands n many few =
+    let up : n / 10000 ≡ n / 100 / 100 = omega arith in
+    let high : n % 10000 / 100 ≡ n / 100 % 100 = omega arith in
+    let low : n % 10000 % 100 ≡ n % 100 = omega arith in
+    let last = (48 + n % 100 / 10) ∷ (48 + n % 100 % 10) ∷ [] in
+    let middle = (48 + n / 100 % 100 / 10) ∷ (48 + n / 100 % 100 % 10) ∷ [] in
+    (λ i. decimal (up i) ++ (48 + high i / 10) ∷ (48 + high i % 10) ∷ (48 + low i / 10)
+    ∷ (48 + low i % 10) ∷ [])
+    ∙ sym (append_assoc (decimal (n / 100 / 100)) middle last)
+    ∙ ap (λ l. l ++ last) (hundreds (n / 100) (omega arith) (omega arith))
+    ∙ hundreds n (omega arith) few

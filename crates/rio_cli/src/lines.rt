@@ -9,7 +9,7 @@ ghost use Rattle.link_model.specs.Reading.{placed};
 ghost use Rattle.rio_framer.specs.Giving.{listed, events_by};
 ghost use Rattle.rio_cli.specs.Decoding.{symbol_text, packet_text, bad_text, event_text, end_text};
 
-use crate::places::{write_number, write_place};
+use crate::places::{digit_and_number, number_and_digits, write_number, write_place};
 use link_model::Event;
 use rio_chars::{Outbox, Sink};
 use rio_framer::{Framer, Told};
@@ -56,16 +56,15 @@ fn write_symbol<K: Sink>(outbox: &mut Outbox<K>, place: u32, symbol: &Symbol)
 }
 
 /// Tells what stands behind the place: the word and the five fields.
+#[inline(always)]
 fn write_fields<K: Sink>(outbox: &mut Outbox<K>, symbol: &Symbol)
     ensures { Writes K.written K.faults outbox.old outbox.new (symbol_text symbol.now) }
 {
     outbox.write_short(b" symbol\n", 7);
-    write_number(outbox, symbol.s0);
-    write_number(outbox, symbol.p0);
-    write_number(outbox, symbol.p1);
-    write_number(outbox, symbol.s1);
-    write_number(outbox, symbol.cmd);
-    outbox.write(b"\n");
+    let (front, count) = digit_and_number(symbol.s0, symbol.p0);
+    outbox.write_short(&front, count);
+    let (back, count) = number_and_digits(symbol.p1, symbol.s1, symbol.cmd);
+    outbox.write_short(&back, count);
 }
 
 /// Tells the line of a packet.

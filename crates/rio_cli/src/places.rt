@@ -1,5 +1,5 @@
 //! Places and small numbers in decimal, by tables: most lines of `decode` are little else.
-ghost use Rattle.std.specs.Prelude.{◌≡◌, ◌≤◌, ◌<◌, ◌+◌, ◌/◌, ◌%◌, ◌∷◌, [], take};
+ghost use Rattle.std.specs.Prelude.{◌≡◌, ◌≤◌, ◌<◌, ◌+◌, ◌*◌, ◌/◌, ◌%◌, ◌∷◌, ◌++◌, [], codes, take};
 ghost use Rattle.std.specs.Fmt.{decimal};
 ghost use Rattle.rio_chars.specs.Written.{Writes};
 ghost use Rattle.rio_cli.specs.Decoding.{spaced};
@@ -19,7 +19,7 @@ const DIGIT_PAIRS: [u16; 100] = [
     0x3639, 0x3739, 0x3839, 0x3939,
 ];
 
-/// Tells a place in decimal, two digits at a time.
+/// Tells a place in decimal: two digits and four are told at once.
 pub(crate) fn write_place<K: Sink>(outbox: &mut Outbox<K>, place: u32)
     ensures { Writes K.written K.faults outbox.old outbox.new (decimal place) }
 {
@@ -31,8 +31,25 @@ pub(crate) fn write_place<K: Sink>(outbox: &mut Outbox<K>, place: u32)
         outbox.write_short(&two_digits(place as u8), 2);
         return;
     }
-    write_place(outbox, place / 100);
-    outbox.write_short(&two_digits((place % 100) as u8), 2);
+    if place < 10000 {
+        write_place(outbox, place / 100);
+        outbox.write_short(&two_digits((place % 100) as u8), 2);
+        return;
+    }
+    write_place(outbox, place / 10000);
+    outbox.write_short(&four_digits((place % 10000) as u16), 4);
+}
+
+/// Four digits of a number below 10,000.
+#[inline(always)]
+fn four_digits(number: u16) -> [u8; 8]
+    requires { number < 10000 }
+    ensures { take 4 result ≡ (48 + number / 100 / 10) ∷ (48 + number / 100 % 10)
+        ∷ (48 + number % 100 / 10) ∷ (48 + number % 100 % 10) ∷ [] }
+{
+    let front = u64::from(DIGIT_PAIRS[usize::from(number / 100)]);
+    let back = u64::from(DIGIT_PAIRS[usize::from(number % 100)]);
+    (front + 65536 * back).to_le_bytes()
 }
 
 /// Two digits of a number below 100.
@@ -76,10 +93,54 @@ fn spaced_number(number: u8) -> ([u8; 8], usize)
     ensures text { take result.1 result.0 ≡ spaced number }
 {
     if number < 100 {
-        let text = SPACED_NUMBERS[usize::from(number)].to_le_bytes();
+        let text = spaced_word(number).to_le_bytes();
         return (text, if number < 10 { 2 } else { 3 });
     }
     let last = b'0' + number % 10;
     let middle = b'0' + number / 10 % 10;
     ([b' ', b'0' + number / 100, middle, last, 0, 0, 0, 0], 4)
 }
+
+/// The text of a number below 100 behind a space, its first byte lowest.
+#[inline(always)]
+fn spaced_word(number: u8) -> u64
+    requires { number < 100 }
+    ensures digit { number < 10 → result ≡ 32 + 256 * (48 + number) }
+    ensures digits { 10 ≤ number
+        → result ≡ 32 + 256 * (48 + number / 10) + 65536 * (48 + number % 10) }
+{
+    SPACED_NUMBERS[usize::from(number)]
+}
+
+/// A digit and a number, each behind a space, and how many bytes that are.
+#[inline(always)]
+pub(crate) fn digit_and_number(digit: u8, number: u8) -> ([u8; 8], usize)
+    requires digit { digit < 10 }
+    requires number { number < 100 }
+    ensures count { result.1 ≤ 8 }
+    ensures text { take result.1 result.0 ≡ spaced digit ++ spaced number }
+{
+    let text = spaced_word(digit) + 65536 * spaced_word(number);
+    (text.to_le_bytes(), if number < 10 { 4 } else { 5 })
+}
+
+/// A number and two digits, each behind a space, with the line feed behind them, and how many bytes
+/// that are.
+#[inline(always)]
+pub(crate) fn number_and_digits(number: u8, first: u8, second: u8) -> ([u8; 8], usize)
+    requires number { number < 100 }
+    requires first { first < 10 }
+    requires second { second < 10 }
+    ensures count { result.1 ≤ 8 }
+    ensures text { take result.1 result.0
+        ≡ spaced number ++ spaced first ++ spaced second ++ codes "\n" }
+{
+    let digits = spaced_word(first) + 65536 * spaced_word(second) + LINE_FEED_BEHIND_FOUR;
+    if number < 10 {
+        return ((spaced_word(number) + 65536 * digits).to_le_bytes(), 7);
+    }
+    ((spaced_word(number) + 16777216 * digits).to_le_bytes(), 8)
+}
+
+/// A line feed as the fifth byte of a text.
+const LINE_FEED_BEHIND_FOUR: u64 = 0x0a_0000_0000;
