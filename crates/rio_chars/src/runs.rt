@@ -54,13 +54,42 @@ pub(crate) fn write_words(words: &mut [[u8; 4]], chars: &[Char]) -> usize
         ≡ spaced_chars (take result chars.now) }
 {
     let most = chars.len().min(words.len());
-    for (i, c) in chars[..most].iter().enumerate() {
-        let Char::Data(byte) = *c else {
+    for i in write_fours(words, chars, most)..most {
+        let Char::Data(byte) = chars[i] else {
             return i;
         };
         words[i] = data_word(byte);
     }
     most
+}
+
+/// Makes the texts of the data characters at the front, four at a time, up to a number of them.
+/// Answers how many they are.
+fn write_fours(words: &mut [[u8; 4]], chars: &[Char], most: usize) -> usize
+    requires chars { most ≤ length chars.now }
+    requires words { most ≤ length words.old }
+    ensures most { result ≤ most }
+    ensures len { length words.new ≡ length words.old }
+    ensures text { flat_map (λ word. word) (take result words.new)
+        ≡ spaced_chars (take result chars.now) }
+{
+    let mut i = 0;
+    while most - i >= 4 {
+        let (Char::Data(a), Char::Data(b), Char::Data(c), Char::Data(d)) = (
+            chars[i],
+            chars[i + 1],
+            chars[i + 2],
+            chars[i + 3],
+        ) else {
+            return i;
+        };
+        words[i] = data_word(a);
+        words[i + 1] = data_word(b);
+        words[i + 2] = data_word(c);
+        words[i + 3] = data_word(d);
+        i += 4;
+    }
+    i
 }
 
 /// The text of a data character behind a space.

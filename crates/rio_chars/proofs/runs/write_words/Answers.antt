@@ -1,5 +1,4 @@
-use Rattle.std.proofs.Common.{◌<◌, length, sym, ◌∙◌, arith}
-use Rattle.std.proofs.lemmas.List.{get_or-take, length-take}
+use Rattle.std.proofs.Common.{◌<◌, length, arith}
 use Rattle.rio_chars.proofs.SpacedLaws.{words-step}
 use Rattle.rio_chars.proofs.runs.write_words.Goals as goal
 
@@ -7,12 +6,9 @@ pub loop-i-preserved : goal.loop-i-preserved
 loop-i-preserved c =
     let i = c.loop-i.i in
     let most = c.min-most.result in
-    let size = length-take most c.args.chars.now in
-    let test = c.loop-i-test.true in
-    let few : i < most = omega (arith, size, test, c.min-most.ensures) in
+    let few : i < most = omega (arith, c.loop-i-test.true) in
     let below : i < length c.loop-i.words =
     omega (arith, few, c.min-most.ensures, c.loop-i.auto.words) in
     let within : i < length c.args.chars.now = omega (arith, few, c.min-most.ensures) in
-    let here = sym (get_or-take most c.args.chars.now i _ few) ∙ c.in-Data.is in
-    rw c.data_word.ensures (words-step c.loop-i.words c.args.chars.now i _ _ below within here
-    c.loop-i.invariant)
+    rw c.data_word.ensures (words-step c.loop-i.words c.args.chars.now i _ _ below within
+    c.in-Data.is c.loop-i.invariant)
