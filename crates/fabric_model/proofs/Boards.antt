@@ -2,7 +2,6 @@
 -- goes from a place to
 -- another, or one goes and then one comes.
 use Rattle.std.proofs.Common.{◌≡◌, ℕ, ◌+◌, Bool, true, false, eqb, List, [], ◌∷◌, ◌++◌, map, Some, sym, ap, ap₂, ◌∙◌, subst, refl, cond, append-nil}
-use Rattle.std.specs.List.{AllByRecursion}
 use Rattle.std.proofs.lemmas.Bool.{and_parts, eqb-true}
 use Rattle.rio_packets.specs.Fields.{prio_of, dest_of, is_request}
 use Rattle.rio_packets.specs.LinkForm.{Passes}
@@ -12,10 +11,11 @@ use Rattle.fabric_script.specs.declared.ports.PortRef.{PortRef}
 use Rattle.fabric_model.specs.Network.{Item, Network, same_port, port_of, peer_in, first_packet, IsEndpoint}
 use Rattle.fabric_model.specs.Serving.{next_at}
 use Rattle.fabric_model.specs.Steps.{Hold, Free, Take, Leave, Move, Drop, Answer, Step, Linked, AtNode, ByDevice, Needs, IsForRegisters, only_first, behind_first, moved_item, without_first, item_of, after_hold, after}
-use Rattle.fabric_model.specs.Laws.History.{IsEmptyNetwork, End, Left, Dropped, Answered, same_end, taken_by, ended_by}
+use Rattle.fabric_model.specs.Laws.History.{End, Left, Dropped, Answered, same_end, taken_by, ended_by}
 use Rattle.fabric_model.specs.Laws.Holding.{Place, Received, Waiting, Over, same_place, items_at}
 use Rattle.fabric_model.proofs.Peers.{port_is}
 use Rattle.fabric_model.proofs.Moving.{moves_on, named_goes, sent_by}
+pub use Rattle.fabric_model.proofs.Lists.{all-append, all-parts, all_weaker}
 
 end_is : (e f : End) → same_end e f ≡ true → e ≡ f
 end_is Left Left same = refl
@@ -68,6 +68,23 @@ pub data Allowed (net : Network) : Place → Place → Item → Item → Type 0 
       → Allowed net (Received p (prio_of item.now)) (Over Dropped) item item
   IsHeard : (p : PortRef) (item : Item) → IsForRegisters net p item.now
       → Allowed net (Received p (prio_of item.now)) (Over Answered) item item
+
+-- an item never goes from where it has ended
+pub allowed_open : (net : Network) (from to : Place) (item moved : Item)
+    → Allowed net from to item moved → (e : End) → from ≡ Over e → ⊥
+allowed_open net from to item moved (Crosses p q r item2 peer) e is = absurd (cc)
+allowed_open net from to item moved (Turns p q item2 same named) e is = absurd (cc)
+allowed_open net from to item moved (Leaves n item2 endpoint other) e is = absurd (cc)
+allowed_open net from to item moved (Falls p item2 named) e is = absurd (cc)
+allowed_open net from to item moved (IsHeard p item2 heard) e is = absurd (cc)
+
+pub moved_number : (net : Network) (from to : Place) (item moved : Item)
+    → Allowed net from to item moved → moved.number ≡ item.number
+moved_number net from to item moved (Crosses p q r item2 peer) = refl
+moved_number net from to item moved2 (Turns p q item2 same named) = refl
+moved_number net from to item moved (Leaves n item2 endpoint other) = refl
+moved_number net from to item moved (Falls p item2 named) = refl
+moved_number net from to item moved (IsHeard p item2 heard) = refl
 
 -- what stays of an item that goes
 pub record Along (item moved : Item) : Type 0 where
@@ -331,103 +348,3 @@ module _ (net : Network) (out : End → List Item) where
   step_on (ByDevice (Move p q packet)) needs = moved_on p q packet needs
   step_on (ByDevice (Drop p packet)) needs = dropped_on p packet needs
   step_on (ByDevice (Answer p packet response)) needs = answered_on p packet response needs
-
--- ---- what holds of each item at each place
-
-abbrev pub AllOn : (Place → Item → Type 0) → Board → Type 0
-AllOn Holds board = (place : Place) → AllByRecursion (Holds place) (board place)
-
-pub all-append : {X : Type 0} (P : X → Type 0) (xs ys : List X) → AllByRecursion P xs
-    → AllByRecursion P ys → AllByRecursion P (xs ++ ys)
-all-append P [] ys all more = more
-all-append P (x ∷ xs) ys all more = (all.0, all-append P xs ys all.1 more)
-
-pub all-parts : {X : Type 0} (P : X → Type 0) (xs ys : List X) → AllByRecursion P (xs ++ ys)
-    → AllByRecursion P xs × AllByRecursion P ys
-all-parts P [] ys all = (tt, all)
-all-parts P (x ∷ xs) ys all =
-    let parts = all-parts P xs ys all.1 in
-    ((all.0, parts.0), parts.1)
-
-pub all_weaker : {X : Type 0} (P Q : X → Type 0) → ((x : X) → P x → Q x) → (xs : List X)
-    → AllByRecursion P xs → AllByRecursion Q xs
-all_weaker P Q weaker [] all = tt
-all_weaker P Q weaker (x ∷ xs) all = (weaker x all.0, all_weaker P Q weaker xs all.1)
-
-pub AllOn-same : (Holds : Place → Item → Type 0) (old new : Board)
-    → ((place : Place) → new place ≡ old place) → AllOn Holds old → AllOn Holds new
-AllOn-same Holds old new same all place = subst (AllByRecursion (Holds place)) (sym (same place))
-    (all place)
-
-pub AllOn-put : (Holds : Place → Item → Type 0) (old : Board) (to : Place) (item : Item)
-    → AllOn Holds old → Holds to item → AllOn Holds (put old to item)
-AllOn-put Holds old to item all one place = go (same_place place to) refl
-  where
-    go : (t : Bool) → same_place place to ≡ t
-        → AllByRecursion (Holds place) (cond t (old to ++ item ∷ []) (old place))
-    go true same = subst (λ x. AllByRecursion (Holds x) (old to ++ item ∷ []))
-        (sym (place_is place to same))
-        (all-append (Holds to) (old to) (item ∷ []) (all to) (one, tt))
-    go false apart = all place
-
-pub AllOn-cut : (Holds : Place → Item → Type 0) (old : Board) (from : Place) (item : Item)
-    (rest : List Item) → AllOn Holds old → old from ≡ item ∷ rest → Holds from item
-    × AllOn Holds (cut old from rest)
-AllOn-cut Holds old from item rest all was =
-    (whole.0, λ place. go place (same_place place from) refl)
-  where
-    whole : AllByRecursion (Holds from) (item ∷ rest)
-    whole = subst (AllByRecursion (Holds from)) was (all from)
-
-    go : (place : Place) (t : Bool) → same_place place from ≡ t
-        → AllByRecursion (Holds place) (cond t rest (old place))
-    go place true same = subst (λ x. AllByRecursion (Holds x) rest) (sym (place_is place from same))
-        whole.1
-    go place false apart = all place
-
--- What holds of an item where it comes, and of an item as it goes if it held of it before, holds of
--- all after a step.
-module _ (Holds : Place → Item → Type 0) (net : Network) where
-  pub AllOn-goes : (old new : Board) → (g : Goes net old new)
-      → (Holds g.from g.item → Holds g.to g.moved) → AllOn Holds old → AllOn Holds new
-  AllOn-goes old new g goes all =
-      let parts = AllOn-cut Holds old g.from g.item g.rest all g.was in
-      AllOn-same Holds (put (cut old g.from g.rest) g.to g.moved) new g.becomes
-      (AllOn-put Holds (cut old g.from g.rest) g.to g.moved parts.1 (goes parts.0))
-
-  pub AllOn-comes : (made : List Item) (old new : Board) → (c : Comes net made old new)
-      → Holds (Waiting c.port (prio_of c.packet)) (item_of net c.port c.packet) → AllOn Holds old
-      → AllOn Holds new
-  AllOn-comes made old new c comes all =
-      AllOn-same Holds (put old (Waiting c.port (prio_of c.packet)) (item_of net c.port c.packet))
-      new c.becomes
-      (AllOn-put Holds old (Waiting c.port (prio_of c.packet)) (item_of net c.port c.packet) all
-      comes)
-
-  pub AllOn-step : (next : Network) (made : List Item) (old new : Board)
-      → StepOn net next made old new
-      → ((p : PortRef) (packet : List ℕ) → Passes packet → Holds (Waiting p (prio_of packet))
-      (item_of net p packet))
-      → ((from to : Place) (item moved : Item) → Allowed net from to item moved → Holds from item
-      → Holds to moved) → AllOn Holds old → AllOn Holds new
-  AllOn-step next made old new (Stays none given same) comes goes all =
-      AllOn-same Holds old new same all
-  AllOn-step next made old new (IsTaken given c) comes goes all =
-      AllOn-comes made old new c (comes c.port c.packet c.passes) all
-  AllOn-step next made old new (IsMoved none given g) comes goes all =
-      AllOn-goes old new g (goes g.from g.to g.item g.moved g.allowed) all
-  AllOn-step next made old new (IsAnswered mid given g c) comes goes all =
-      AllOn-comes made mid new c (comes c.port c.packet c.passes)
-      (AllOn-goes old mid g (goes g.from g.to g.item g.moved g.allowed) all)
-
--- nothing stands anywhere in an empty network
-pub nothing_at : (net : Network) → IsEmptyNetwork net → (place : Place)
-    → items_at net (λ e. []) place ≡ []
-nothing_at net empty (Received p r) = empty.received p r
-nothing_at net empty (Waiting p r) = empty.waiting p r
-nothing_at net empty (Over e) = refl
-
-pub AllOn-empty : (Holds : Place → Item → Type 0) (net : Network) → IsEmptyNetwork net
-    → AllOn Holds (items_at net (λ e. []))
-AllOn-empty Holds net empty place =
-    subst (AllByRecursion (Holds place)) (sym (nothing_at net empty place)) tt

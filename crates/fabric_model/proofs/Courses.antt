@@ -14,8 +14,9 @@ use Rattle.fabric_model.specs.Laws.History.{End, Left, Dropped, Answered}
 use Rattle.fabric_model.specs.Laws.Holding.{Place, Received, Waiting, Over}
 use Rattle.fabric_model.specs.Laws.Proper.{AreProper}
 use Rattle.fabric_model.proofs.Peers.{peer_back}
-use Rattle.fabric_model.proofs.Boards.{Allowed, Crosses, Turns, Leaves, Falls, IsHeard}
+use Rattle.fabric_model.proofs.Boards.{Allowed, Crosses, Turns, Leaves, Falls, IsHeard, Along}
 use Rattle.fabric_model.proofs.Moving.{Key, key_of, moved_key, moves_on, named_goes, by_key, Agrees, next_agrees, SentBy, sent_by}
+use Rattle.fabric_model.specs.Laws.Flows.{SameCourse}
 
 -- What the way of a flow depends on: the links, which nodes are switches, and the route of the one
 -- destination.
@@ -72,6 +73,13 @@ pub data Fits : Place → Place → Type 0 where
 pub fits_open : (a b : Place) → Fits a b → ((e : End) → b ≡ Over e → ⊥) → a ≡ b
 fits_open a b (Stands place) goes_on = refl
 fits_open a b (Ends e) goes_on = absurd (goes_on e refl)
+
+pub fits_from : (a b : Place) → Fits a b → ((e : End) → a ≡ Over e → ⊥) → b ≡ a
+fits_from a b (Stands place) goes_on = refl
+fits_from a b (Ends e) goes_on = absurd (goes_on Answered refl)
+
+pub fits_same : (a b : Place) → a ≡ b → Fits a b
+fits_same a b same = subst (Fits a) same (Stands a)
 
 -- what has left by its course has left, or was answered
 pub fits_left : (a : Place) → Fits a (Over Left) → (a ≡ Over Left) ⊎ (a ≡ Over Answered)
@@ -192,3 +200,25 @@ allowed_next net from to item moved proper passes (IsHeard p item2 (inl endpoint
 allowed_next net from to item moved proper passes (IsHeard p item2 (inr named)) =
     not_named net p (prio_of item.now) item.now RegisterUnit (Over Answered)
     (sent_by net p.node item.now RegisterUnit named) (λ n e. absurd (cc)) (Ends Dropped)
+
+-- ---- items of one course
+
+-- an item goes the way of what it was
+pub course_back : (x item moved : Item) → Along item moved → SameCourse x moved → SameCourse x item
+course_back x item moved along same = record {
+  port = same.port ∙ along.port;
+  dest = same.dest ∙ ap dest_of along.taken;
+  priority = same.priority ∙ ap prio_of along.taken;
+  maintenance = same.maintenance ∙ ap (λ p. ftype_of p == 8) along.taken;
+  hop = same.hop ∙ ap hop_of along.taken;
+}
+
+-- and is what it was on that way
+pub course_forth : (x item moved : Item) → Along item moved → SameCourse x item → SameCourse x moved
+course_forth x item moved along same = record {
+  port = same.port ∙ sym along.port;
+  dest = same.dest ∙ ap dest_of (sym along.taken);
+  priority = same.priority ∙ ap prio_of (sym along.taken);
+  maintenance = same.maintenance ∙ ap (λ p. ftype_of p == 8) (sym along.taken);
+  hop = same.hop ∙ ap hop_of (sym along.taken);
+}

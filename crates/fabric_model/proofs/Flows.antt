@@ -1,5 +1,5 @@
 -- In order per flow, over any list of legal steps.
-use Rattle.std.proofs.Common.{◌≡◌, ◌⊎◌, inl, inr, ℕ, suc, ◌+◌, ◌-◌, ◌≤◌, ◌<◌, Bool, true, false, eqb, leb, List, [], ◌∷◌, ◌++◌, Option, Some, None, option_map, slice_get, sym, ap, ◌∙◌, subst, refl, cond, arith, append_assoc, append-nil}
+use Rattle.std.proofs.Common.{◌≡◌, ◌⊎◌, inl, inr, ℕ, suc, ◌+◌, ◌-◌, ◌≤◌, ◌<◌, Bool, true, false, eqb, leb, List, [], ◌∷◌, ◌++◌, Option, Some, None, option_map, slice_get, sym, ap, ◌∙◌, subst, refl, cond, arith, append_assoc, append-nil, le-leb}
 use Rattle.std.specs.List.{AllByRecursion}
 use Rattle.std.proofs.lemmas.Bool.{eq-eqb}
 use Rattle.rio_packets.specs.Fields.{prio_of, dest_of}
@@ -19,12 +19,14 @@ use Rattle.fabric_model.specs.Laws.Flows.{SameCourse, RoutesStand, EarlierFirst,
 use Rattle.fabric_model.specs.Laws.Proper.{AreProper}
 use Rattle.fabric_model.proofs.Devices.{kinds_stay}
 use Rattle.fabric_model.proofs.Joining.{legal_parts, links_stay}
-use Rattle.fabric_model.proofs.Boards.{place_is, step_on, AllOn, all_weaker}
+use Rattle.fabric_model.proofs.Boards.{place_is, step_on}
+use Rattle.fabric_model.proofs.OnBoards.{AllOn}
+use Rattle.fabric_model.proofs.Lists.{all_weaker, all-without, all-both, Some_of, some_without, some_with, some_both}
 use Rattle.fabric_model.proofs.Tables.{registers_stay}
 use Rattle.fabric_model.proofs.Holding.{slice_below, AsTaken, Held, held_along, how_often-append}
-use Rattle.fabric_model.proofs.Courses.{Chart, chart_of, course, onward, Fits, fits_left, course_ends, at_node}
-use Rattle.fabric_model.proofs.Journal.{Entry, lane, all-without, all-both, FirstAt, first_at, since}
-use Rattle.fabric_model.proofs.Order.{Some_of, some_without, some_with, some_both, first_spot, WellEntry, IsOwn, Journal, Behind, all_behind, journal-begins, journal-step, leb_of, fits_from}
+use Rattle.fabric_model.proofs.Courses.{Chart, chart_of, course, onward, Fits, fits_left, course_ends, at_node, fits_from}
+use Rattle.fabric_model.proofs.Journal.{Entry, lane, FirstAt, first_at, since}
+use Rattle.fabric_model.proofs.Order.{first_spot, WellEntry, IsOwn, Journal, Behind, all_behind, journal-begins, journal-step}
 
 -- ---- which nodes are switches stays
 
@@ -199,7 +201,7 @@ module _ (x : Item) (chart : Chart) where
     found : FirstAt (Received (port_of n) r) j.entries y (since x.number rest)
     found = first_at (Received (port_of n) r) j.entries y (since x.number rest)
         (sym (j.lanes (Received (port_of n) r))
-        ∙ (ap (since x.number) was ∙ rw (leb_of x.number y.number (omega (arith, less))) refl))
+        ∙ (ap (since x.number) was ∙ rw (le-leb x.number y.number (omega (arith, less))) refl))
 
     closed : (e : End) → Received (port_of n) r ≡ Over e → ⊥
     closed e is = absurd (cc)

@@ -18,7 +18,9 @@ use Rattle.fabric_model.specs.Steps.{Hold, Free, Take, Leave, Move, Drop, Answer
 use Rattle.fabric_model.specs.Laws.History.{IsEmptyNetwork, taken_by, ended_by}
 use Rattle.fabric_model.specs.Laws.Holding.{Place, Received, Waiting, Over, items_at}
 use Rattle.fabric_model.specs.Laws.Forms.{ArePackets, IsFormed, AnswersPass}
-use Rattle.fabric_model.proofs.Boards.{allowed_along, step_on, all-append, AllOn, AllOn-step}
+use Rattle.fabric_model.proofs.Boards.{allowed_along, step_on}
+use Rattle.fabric_model.proofs.Lists.{all-append}
+use Rattle.fabric_model.proofs.OnBoards.{AllOn, AllOn-step}
 use Rattle.fabric_model.proofs.Tables.{registers_stay}
 
 -- ---- items

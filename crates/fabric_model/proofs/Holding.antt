@@ -8,7 +8,9 @@ use Rattle.fabric_model.specs.Steps.{Step, Needs, item_of, after, LegalFrom}
 use Rattle.fabric_model.specs.Laws.History.{IsEmptyNetwork, End, taken_by, ended_by, taken, ended, WasTaken}
 use Rattle.fabric_model.specs.Laws.Holding.{Place, Waiting, same_place, items_at, how_often, StandsAt, HoldingExactly}
 use Rattle.fabric_model.proofs.Joining.{carried}
-use Rattle.fabric_model.proofs.Boards.{place_is, Board, put, cut, Allowed, allowed_along, Goes, Comes, StepOn, Stays, IsTaken, IsMoved, IsAnswered, step_on, AllOn, all_weaker, AllOn-same, AllOn-put, AllOn-cut, AllOn-goes, nothing_at, AllOn-empty}
+use Rattle.fabric_model.proofs.Boards.{place_is, Board, put, cut, Allowed, allowed_along, Goes, Comes, StepOn, Stays, IsTaken, IsMoved, IsAnswered, step_on}
+use Rattle.fabric_model.proofs.OnBoards.{AllOn, AllOn-same, AllOn-put, AllOn-cut, AllOn-goes, nothing_at, AllOn-empty}
+use Rattle.fabric_model.proofs.Lists.{all_weaker}
 
 -- how often a number is the one item's
 abbrev one : ℕ → Item → ℕ

@@ -1,12 +1,12 @@
 -- All items since one was taken, in the order of their arrival: each list of the network is read
 -- from this one.
-use Rattle.std.proofs.Common.{◌≡◌, ℕ, Bool, true, false, leb, List, [], ◌∷◌, ◌++◌, filter, sym, ap, ◌∙◌, subst, refl, cond, append-nil}
-use Rattle.std.specs.Bool.{⊤}
+use Rattle.std.proofs.Common.{◌≡◌, ℕ, Bool, true, false, leb, List, [], ◌∷◌, ◌++◌, filter, sym, ap, ◌∙◌, subst, refl, cond, append-nil, ◌<◌, arith, leb-true}
 use Rattle.std.specs.List.{AllByRecursion}
 use Rattle.std.proofs.lemmas.List.Elements.{filter-append}
 use Rattle.fabric_model.specs.Network.{Item}
 use Rattle.fabric_model.specs.Laws.Holding.{Place, same_place}
-use Rattle.fabric_model.proofs.Boards.{place_is, Board, put, cut, all-append, all-parts}
+use Rattle.fabric_model.proofs.Boards.{place_is, Board, put, cut}
+use Rattle.std.proofs.lemmas.Bool.{false_from_ne_true}
 
 -- an item, where it stands, and how many places of its course it has passed
 pub record Entry : Type 0 where
@@ -29,56 +29,6 @@ lane-append place (x ∷ xs) ys = go (same_place place x.place) (lane-append pla
         ≡ cond t (x.item ∷ lane place xs) (lane place xs) ++ lane place ys
     go true same = ap (λ items. x.item ∷ items) same
     go false same = same
-
--- ---- parts of lists
-
--- what holds of each entry together with each behind it
-abbrev pub Pairs : {X : Type 0} → (X → X → Type 0) → List X → Type 0
-Pairs R [] = ⊤
-Pairs R (x ∷ xs) = AllByRecursion (R x) xs × Pairs R xs
-
--- one of a list, and what stands before and behind it
-pub record Found {X : Type 0} (all : List X) : Type 0 where
-  pub before : List X
-  pub one : X
-  pub behind : List X
-  pub parts : all ≡ before ++ one ∷ behind
-
-pub all-without : {X : Type 0} (P : X → Type 0) (xs ys : List X) (x : X)
-    → AllByRecursion P (xs ++ x ∷ ys) → P x × AllByRecursion P (xs ++ ys)
-all-without P xs ys x all =
-    let parts = all-parts P xs (x ∷ ys) all in
-    (parts.1.0, all-append P xs ys parts.0 parts.1.1)
-
--- without one, and what holds of it with the others
-pub record Without {X : Type 0} (R : X → X → Type 0) (xs ys : List X) (x : X) : Type 0 where
-  pub pairs : Pairs R (xs ++ ys)
-  pub before : AllByRecursion (λ z. R z x) xs
-  pub behind : AllByRecursion (R x) ys
-
-pub pairs-without : {X : Type 0} (R : X → X → Type 0) (xs ys : List X) (x : X)
-    → Pairs R (xs ++ x ∷ ys) → Without R xs ys x
-pairs-without R [] ys x pairs = record { pairs = pairs.1; before = tt; behind = pairs.0 }
-pairs-without R (z ∷ xs) ys x pairs =
-    let without = pairs-without R xs ys x pairs.1 in
-    let own = all-without (R z) xs ys x pairs.0 in
-    record {
-      pairs = (own.1, without.pairs);
-      before = (own.0, without.before);
-      behind = without.behind;
-    }
-
-pub pairs-append : {X : Type 0} (R : X → X → Type 0) (xs : List X) (x : X) → Pairs R xs
-    → AllByRecursion (λ z. R z x) xs → Pairs R (xs ++ x ∷ [])
-pairs-append R [] x pairs all = (tt, tt)
-pairs-append R (z ∷ xs) x pairs all =
-    (all-append (R z) xs (x ∷ []) pairs.0 (all.0, tt), pairs-append R xs x pairs.1 all.1)
-
--- two facts of each
-pub all-both : {X : Type 0} (P Q S : X → Type 0) → ((x : X) → P x → Q x → S x) → (xs : List X)
-    → AllByRecursion P xs → AllByRecursion Q xs → AllByRecursion S xs
-all-both P Q S both [] ps qs = tt
-all-both P Q S both (x ∷ xs) ps qs = (both x ps.0 qs.0, all-both P Q S both xs ps.1 qs.1)
 
 -- ---- the first entry of a place
 
@@ -141,6 +91,14 @@ since low items = filter (λ item. leb low item.number) items
 
 abbrev pub AreLanes : ℕ → Board → List Entry → Type 0
 AreLanes low board entries = (place : Place) → since low (board place) ≡ lane place entries
+
+pub not_leb : (m n : ℕ) → n < m → leb m n ≡ false
+not_leb m n less = false_from_ne_true (leb m n) (λ le. omega (arith, less, leb-true m n le))
+
+pub since_none : (low : ℕ) (items : List Item) → AllByRecursion (λ (i : Item). i.number < low) items
+    → since low items ≡ []
+since_none low [] all = refl
+since_none low (item ∷ items) all = rw (not_leb low item.number all.0) (since_none low items all.1)
 
 pub since-append : (low : ℕ) (xs ys : List Item) → since low (xs ++ ys) ≡ since low xs
     ++ since low ys

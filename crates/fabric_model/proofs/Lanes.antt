@@ -12,7 +12,9 @@ use Rattle.fabric_model.specs.Laws.Forms.{IsFormed}
 use Rattle.fabric_model.specs.Laws.Priorities.{ByPriority}
 use Rattle.fabric_model.specs.Laws.Holding.{Place, Received, Waiting, Over, items_at}
 use Rattle.fabric_model.proofs.Joining.{carried}
-use Rattle.fabric_model.proofs.Boards.{Allowed, Crosses, Turns, Leaves, Falls, IsHeard, Along, allowed_along, step_on, AllOn, AllOn-step, AllOn-empty, all_weaker}
+use Rattle.fabric_model.proofs.Boards.{Allowed, Crosses, Turns, Leaves, Falls, IsHeard, Along, allowed_along, step_on}
+use Rattle.fabric_model.proofs.OnBoards.{AllOn, AllOn-step, AllOn-empty}
+use Rattle.fabric_model.proofs.Lists.{all_weaker, all-both}
 
 -- the priority of the list where an item stands
 abbrev HasPriority : Place → Item → Type 0
@@ -74,18 +76,15 @@ well_priority net well = record {
         all_weaker (StandsWell place) (HasPriority place) (λ item well. well.1)
         (items_at net (λ e. []) place) (well place)
 
-all_both : (P Q : Item → Type 0) (items : List Item) → AllByRecursion P items
-    → AllByRecursion Q items → AllByRecursion (λ item. P item × Q item) items
-all_both P Q [] one other = tt
-all_both P Q (item ∷ items) one other = ((one.0, other.0), all_both P Q items one.1 other.1)
-
 -- the two halves of it by themselves
 pub well_by : (net : Network) → IsFormed net → ByPriority net → AreWell net
 well_by net formed own (Received p r) =
-    all_both (λ item. Passes item.now) (HasPriority (Received p r)) (net.received p r)
+    all-both (λ item. Passes item.now) (HasPriority (Received p r)) (StandsWell (Received p r))
+    (λ item passes own. (passes, own)) (net.received p r)
     (formed.received p r) (own.received p r)
 well_by net formed own (Waiting p r) =
-    all_both (λ item. Passes item.now) (HasPriority (Waiting p r)) (net.waiting p r)
+    all-both (λ item. Passes item.now) (HasPriority (Waiting p r)) (StandsWell (Waiting p r))
+    (λ item passes own. (passes, own)) (net.waiting p r)
     (formed.waiting p r) (own.waiting p r)
 well_by net formed own (Over e) = tt
 

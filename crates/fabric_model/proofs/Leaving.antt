@@ -9,7 +9,7 @@ use Rattle.fabric_model.specs.Laws.History.{IsEmptyNetwork, Left, ended_by, take
 use Rattle.fabric_model.specs.Laws.Holding.{Over, same_place, how_often}
 use Rattle.fabric_model.specs.Laws.Leaving.{packet_left, packets_left, moves, Once, Unchanged}
 use Rattle.fabric_model.proofs.Freeing.{packets, packets-append, packets-only_first}
-use Rattle.fabric_model.proofs.Journal.{all-both}
+use Rattle.fabric_model.proofs.Lists.{all-both}
 use Rattle.fabric_model.proofs.Moves.{HasMoved, moved_along}
 use Rattle.fabric_model.proofs.Holding.{AsTaken, Held, held_along}
 

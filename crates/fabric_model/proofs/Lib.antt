@@ -2,7 +2,9 @@ pub mod Devices
 pub mod Joining
 pub mod Peers
 pub mod Freeing
+pub mod Lists
 pub mod Boards
+pub mod OnBoards
 pub mod Holding
 pub mod Moves
 pub mod Leaving

@@ -13,8 +13,9 @@ use Rattle.fabric_model.specs.Laws.History.{IsEmptyNetwork, End, Left, Dropped, 
 use Rattle.fabric_model.specs.Laws.Holding.{Place, Received, Waiting, Over, same_place, items_at, how_often, StandsAt}
 use Rattle.fabric_model.specs.Laws.Leaving.{IsAfterMoves, AsItWas, OnceMore, moved_by, moves}
 use Rattle.fabric_model.proofs.Moving.{MovesOn, moves_on, named_goes, sent_by}
-use Rattle.fabric_model.proofs.Boards.{place_is, Board, put, cut, ending, holds_on, frees_on, takes_on, turns_on, ends_on, answers_on, First, first_item, all-append, all_weaker, AllOn, AllOn-same, AllOn-put, AllOn-cut, AllOn-empty}
-use Rattle.fabric_model.proofs.Journal.{all-both}
+use Rattle.fabric_model.proofs.Boards.{place_is, Board, put, cut, ending, holds_on, frees_on, takes_on, turns_on, ends_on, answers_on, First, first_item}
+use Rattle.fabric_model.proofs.Lists.{all-append, all_weaker, all-both}
+use Rattle.fabric_model.proofs.OnBoards.{AllOn, AllOn-same, AllOn-put, AllOn-cut, AllOn-empty}
 use Rattle.fabric_model.proofs.Holding.{slice_below, Standing, AsTaken, Held, held_step, Held-empty, how_often-append, how_often-cut}
 
 abbrev pub HasMoved : List Item → Item → Type 0

@@ -22,6 +22,7 @@ use Rattle.fabric_model.specs.Laws.Nodes.{HasPort, IsPortOf, JoinsNodes, IsSpot,
 use Rattle.fabric_model.proofs.Devices.{map-with_device}
 use Rattle.fabric_model.proofs.Flows.{switches_stay}
 use Rattle.fabric_model.proofs.Joining.{links_stay}
+use Rattle.fabric_model.proofs.Lists.{all_weaker}
 use Rattle.fabric_model.proofs.Peers.{port_is}
 use Rattle.fabric_model.proofs.Tables.{registers_stay}
 
@@ -109,11 +110,6 @@ all_behind : (P : Type 0) (items : List Item) → AllByRecursion (λ item. P) it
     → AllByRecursion (λ item. P) (behind_first items)
 all_behind P [] all = tt
 all_behind P (item ∷ items) all = all.1
-
-all_other : (P Q : Type 0) (items : List Item) → (P → Q) → AllByRecursion (λ item. P) items
-    → AllByRecursion (λ item. Q) items
-all_other P Q [] on all = tt
-all_other P Q (item ∷ items) on all = (on all.0, all_other P Q items on all.1)
 
 -- all items of lanes stand at spots
 abbrev AreThere : List Device → Lanes → Type 0
@@ -215,8 +211,8 @@ there_by net received waiting one other = record { received = one; waiting = oth
 spot_on : (net : Network) (step : Step) (lanes : Lanes) → AreThere net.registers lanes
     → AreThere (after net step).registers lanes
 spot_on net step lanes all p r =
-    all_other (IsSpot net.registers p r) (IsSpot (after net step).registers p r) (lanes p r)
-    (λ own. (port_on net step p own.0, own.1)) (all p r)
+    all_weaker (λ _. IsSpot net.registers p r) (λ _. IsSpot (after net step).registers p r)
+    (λ _ own. (port_on net step p own.0, own.1)) (lanes p r) (all p r)
 
 pub stands_on : (net : Network) (step : Step) → JoinsNodes net → Needs net step → StandAtNodes net
     → StandAtNodes (after net step)

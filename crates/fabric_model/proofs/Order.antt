@@ -1,21 +1,23 @@
 -- In order per flow: of two items of one course the older has passed no fewer places, wherever they
 -- stand.
-use Rattle.std.proofs.Common.{◌≡◌, ◌⊎◌, inl, inr, ℕ, zero, suc, ◌+◌, ◌≤◌, ◌<◌, ◌==◌, Bool, true, false, leb, List, [], ◌∷◌, ◌++◌, sym, ap, ◌∙◌, subst, refl, arith, le-leb, leb-true}
+use Rattle.std.proofs.Common.{◌≡◌, ◌⊎◌, inl, inr, ℕ, zero, suc, ◌+◌, ◌≤◌, ◌<◌, Bool, true, false, leb, List, [], ◌∷◌, ◌++◌, sym, ap, ◌∙◌, subst, refl, arith, le-leb}
 use Rattle.std.specs.List.{AllByRecursion}
-use Rattle.std.proofs.lemmas.Bool.{cases_eq, false≢true, false_from_ne_true}
-use Rattle.rio_packets.specs.Fields.{prio_of, ftype_of, dest_of, hop_of}
+use Rattle.std.proofs.lemmas.Bool.{cases_eq, false≢true}
+use Rattle.rio_packets.specs.Fields.{prio_of, dest_of}
 use Rattle.rio_packets.specs.LinkForm.{Passes}
 use Rattle.fabric_script.specs.declared.ports.PortRef.{PortRef}
 use Rattle.fabric_model.specs.Network.{Item, Network}
 use Rattle.fabric_model.specs.Steps.{item_of}
-use Rattle.fabric_model.specs.Laws.History.{End, Answered}
+use Rattle.fabric_model.specs.Laws.History.{End}
 use Rattle.fabric_model.specs.Laws.Holding.{Place, Waiting, Over, same_place}
 use Rattle.fabric_model.specs.Laws.Flows.{SameCourse}
 use Rattle.fabric_model.specs.Laws.Proper.{AreProper}
-use Rattle.fabric_model.proofs.Boards.{place_is, Board, cut, all-append, all_weaker, AllOn, AllOn-cut, Allowed, Crosses, Turns, Leaves, Falls, IsHeard, Along, allowed_along, Goes, Comes, StepOn, Stays, IsTaken, IsMoved, IsAnswered}
+use Rattle.fabric_model.proofs.Boards.{place_is, Board, cut, Along, allowed_along, Goes, Comes, StepOn, Stays, IsTaken, IsMoved, IsAnswered, allowed_open, moved_number}
+use Rattle.fabric_model.proofs.Lists.{all-append, all_weaker, Pairs, pairs-without, pairs-append, all-without, all-both, all-parts, Some_of, some_left, some_right, some_without}
+use Rattle.fabric_model.proofs.OnBoards.{AllOn, AllOn-cut}
 use Rattle.fabric_model.proofs.Moving.{key_of}
-use Rattle.fabric_model.proofs.Courses.{Chart, chart_of, Spot, onward, course, Fits, Stands, Ends, fits_open, allowed_next}
-use Rattle.fabric_model.proofs.Journal.{Entry, Pairs, pairs-without, pairs-append, all-without, all-both, Elsewhere, FirstAt, first_at, since, AreLanes, lanes-comes, lanes-older, lanes-cut, lanes-cut_older}
+use Rattle.fabric_model.proofs.Courses.{Chart, chart_of, Spot, onward, course, Fits, fits_open, allowed_next, fits_from, fits_same, course_back, course_forth}
+use Rattle.fabric_model.proofs.Journal.{Entry, Elsewhere, FirstAt, first_at, since, AreLanes, lanes-comes, lanes-older, lanes-cut, lanes-cut_older, since_none, not_leb}
 
 -- the entry of an item that is taken
 abbrev taken_entry : Network → PortRef → List ℕ → Entry
@@ -23,89 +25,6 @@ taken_entry net port packet = record {
   item = item_of net port packet;
   place = Waiting port (prio_of packet);
   passed = zero;
-}
-
--- some entry is such a one
-abbrev pub Some_of : (Entry → Type 0) → List Entry → Type 0
-Some_of P [] = ⊥
-Some_of P (e ∷ es) = P e ⊎ Some_of P es
-
-pub some_left : (P : Entry → Type 0) (xs ys : List Entry) → Some_of P xs → Some_of P (xs ++ ys)
-some_left P [] ys some = absurd some
-some_left P (x ∷ xs) ys (inl own) = inl own
-some_left P (x ∷ xs) ys (inr more) = inr (some_left P xs ys more)
-
-pub some_right : (P : Entry → Type 0) (xs ys : List Entry) → Some_of P ys → Some_of P (xs ++ ys)
-some_right P [] ys some = some
-some_right P (x ∷ xs) ys some = inr (some_right P xs ys some)
-
--- it is the one between, or one of the others
-pub some_without : (P : Entry → Type 0) (xs ys : List Entry) (x : Entry) → Some_of P (xs ++ x ∷ ys)
-    → P x ⊎ Some_of P (xs ++ ys)
-some_without P [] ys x some = some
-some_without P (z ∷ xs) ys x (inl own) = inr (inl own)
-some_without P (z ∷ xs) ys x (inr more) = go (some_without P xs ys x more)
-  where
-    go : P x ⊎ Some_of P (xs ++ ys) → P x ⊎ Some_of P (z ∷ (xs ++ ys))
-    go (inl one) = inl one
-    go (inr others) = inr (inr others)
-
--- the one between put in again
-pub some_with : (P : Entry → Type 0) (xs ys : List Entry) (x : Entry) → Some_of P (xs ++ ys)
-    → Some_of P (xs ++ x ∷ ys)
-some_with P [] ys x some = inr some
-some_with P (z ∷ xs) ys x (inl own) = inl own
-some_with P (z ∷ xs) ys x (inr more) = inr (some_with P xs ys x more)
-
-pub some_both : (P Q S : Entry → Type 0) → ((e : Entry) → P e → Q e → S e) → (es : List Entry)
-    → Some_of P es → AllByRecursion Q es → Some_of S es
-some_both P Q S both [] some all = absurd some
-some_both P Q S both (e ∷ es) (inl own) all = inl (both e own all.0)
-some_both P Q S both (e ∷ es) (inr more) all = inr (some_both P Q S both es more all.1)
-
-pub leb_of : (m n : ℕ) → m ≤ n → leb m n ≡ true
-leb_of m n le = le-leb m n le
-
-not_leb : (m n : ℕ) → n < m → leb m n ≡ false
-not_leb m n less = false_from_ne_true (leb m n) (λ le. omega (arith, less, leb-true m n le))
-
-since_none : (low : ℕ) (items : List Item) → AllByRecursion (λ (i : Item). i.number < low) items
-    → since low items ≡ []
-since_none low [] all = refl
-since_none low (item ∷ items) all = rw (not_leb low item.number all.0) (since_none low items all.1)
-
--- an item never goes from where it has ended
-allowed_open : (net : Network) (from to : Place) (item moved : Item)
-    → Allowed net from to item moved → (e : End) → from ≡ Over e → ⊥
-allowed_open net from to item moved (Crosses p q r item2 peer) e is = absurd (cc)
-allowed_open net from to item moved (Turns p q item2 same named) e is = absurd (cc)
-allowed_open net from to item moved (Leaves n item2 endpoint other) e is = absurd (cc)
-allowed_open net from to item moved (Falls p item2 named) e is = absurd (cc)
-allowed_open net from to item moved (IsHeard p item2 heard) e is = absurd (cc)
-
-moved_number : (net : Network) (from to : Place) (item moved : Item)
-    → Allowed net from to item moved → moved.number ≡ item.number
-moved_number net from to item moved (Crosses p q r item2 peer) = refl
-moved_number net from to item moved2 (Turns p q item2 same named) = refl
-moved_number net from to item moved (Leaves n item2 endpoint other) = refl
-moved_number net from to item moved (Falls p item2 named) = refl
-moved_number net from to item moved (IsHeard p item2 heard) = refl
-
-pub fits_from : (a b : Place) → Fits a b → ((e : End) → a ≡ Over e → ⊥) → b ≡ a
-fits_from a b (Stands place) goes_on = refl
-fits_from a b (Ends e) goes_on = absurd (goes_on Answered refl)
-
-fits_same : (a b : Place) → a ≡ b → Fits a b
-fits_same a b same = subst (Fits a) same (Stands a)
-
--- an item goes the way of what it was
-course_back : (x item moved : Item) → Along item moved → SameCourse x moved → SameCourse x item
-course_back x item moved along same = record {
-  port = same.port ∙ along.port;
-  dest = same.dest ∙ ap dest_of along.taken;
-  priority = same.priority ∙ ap prio_of along.taken;
-  maintenance = same.maintenance ∙ ap (λ p. ftype_of p == 8) along.taken;
-  hop = same.hop ∙ ap hop_of along.taken;
 }
 
 -- ---- the journal since one item was taken
@@ -197,15 +116,11 @@ module _ (x : Item) (chart : Chart) where
       (λ z elsewhere both. in_front given from goes_on e z f.here elsewhere wells.0 both.0
       both.1) f.before f.elsewhere
       (all-both (WellEntry given) (λ z. Line z e) (λ z. WellEntry given z × Line z e)
-      (λ z w l. (w, l)) f.before (fronts_of f.before f.behind wells.1) apart.before) in
+      (λ z w l. (w, l)) f.before (all-parts (WellEntry given) f.before f.behind wells.1).0
+      apart.before) in
       all-append (Behind e) f.before f.behind fronts
       (all_weaker (Line e) (Behind e) (λ z l. turned e z l) f.behind apart.behind)
     where
-      fronts_of : (xs ys : List Entry) → AllByRecursion (WellEntry given) (xs ++ ys)
-          → AllByRecursion (WellEntry given) xs
-      fronts_of [] ys all = tt
-      fronts_of (z ∷ xs) ys all = (all.0, fronts_of xs ys all.1)
-
       turned : (e z : Entry) → Line e z → Behind e z
       turned e z line same_z same_e =
           let l = line same_e same_z in
@@ -311,17 +226,8 @@ module _ (x : Item) (chart : Chart) where
             → Some_of IsOwn ((found.before ++ found.behind) ++ next ∷ [])
         go (inl is) = some_right IsOwn (found.before ++ found.behind) (next ∷ []) (inl (record {
           number = along.number ∙ (ap (λ (i : Item). i.number) (sym found.item) ∙ is.number);
-          course = forth (subst (SameCourse x) found.item is.course);
+          course = course_forth x g.item g.moved along (subst (SameCourse x) found.item is.course);
         }))
-          where
-            forth : SameCourse x g.item → SameCourse x g.moved
-            forth same = record {
-              port = same.port ∙ sym along.port;
-              dest = same.dest ∙ ap dest_of (sym along.taken);
-              priority = same.priority ∙ ap prio_of (sym along.taken);
-              maintenance = same.maintenance ∙ ap (λ p. ftype_of p == 8) (sym along.taken);
-              hop = same.hop ∙ ap hop_of (sym along.taken);
-            }
         go (inr others) = some_left IsOwn (found.before ++ found.behind) (next ∷ []) others
 
     goes_newer : Journal given new
@@ -382,7 +288,7 @@ module _ (x : Item) (chart : Chart) where
     lanes = λ place. ap (since x.number) (c.becomes place)
         ∙ lanes-comes x.number old (taken_entry net c.port c.packet).place
         (taken_entry net c.port c.packet).item zero j.entries
-        (leb_of x.number net.given (omega (arith, j.later))) j.lanes place;
+        (le-leb x.number net.given (omega (arith, j.later))) j.lanes place;
     well = all-append (WellEntry (net.given + 1)) j.entries (taken_entry net c.port c.packet ∷ [])
         (all_weaker (WellEntry net.given) (WellEntry (net.given + 1)) grows j.entries j.well)
         (own_well, tt);
@@ -445,7 +351,7 @@ module _ (x : Item) (chart : Chart) where
     lanes = λ place. ap (since x.number) (c.becomes place)
         ∙ lanes-comes x.number old (taken_entry net c.port c.packet).place
         (taken_entry net c.port c.packet).item zero []
-        (leb_of x.number net.given (omega (arith, ap (λ (i : Item). i.number) same))) lanes place;
+        (le-leb x.number net.given (omega (arith, ap (λ (i : Item). i.number) same))) lanes place;
     well = (first_well net c.port c.packet c.passes, tt);
     line = (tt, tt);
     has = inl
