@@ -1,18 +1,14 @@
--- One answer or the other: a test, two texts, the first number below a bound.
+-- One answer or the other: two texts, the first number below a bound.
 use Rattle.std.proofs.Common.{◌≡◌, ◌≢◌, ℕ, zero, suc, ◌<◌, ◌≤◌, Bool, true, false, List, refl, subst, ◌⊎◌, inl, inr, arith}
 use Rattle.std.specs.Bool.{Decides}
 use Rattle.std.specs.Str.{bytes_eq}
-use Rattle.std.proofs.lemmas.Bool.{cases_lt}
+use Rattle.std.proofs.lemmas.Bool.{cases_lt, cases_Bool}
 use Rattle.std.proofs.lemmas.Bool.Decides.{not_from_Decides}
 use Rattle.std.proofs.lemmas.Slice.Eq.{bytes_eq-Decides}
 
 -- it holds, or it does not
 abbrev pub Decided : Type 0 → Type 0
 Decided A = A ⊎ (A → ⊥)
-
-pub true_or_false : (b : Bool) → (b ≡ true) ⊎ (b ≡ false)
-true_or_false true = inl refl
-true_or_false false = inr refl
 
 pub both_or_not : {A B : Type 0} → Decided A → Decided B → Decided (A × B)
 both_or_not (inl a) (inl b) = inl (a, b)
@@ -27,7 +23,7 @@ same_or_not xs ys = by_test (bytes_eq xs ys) (bytes_eq-Decides xs ys)
     by_test false tells = inr (not_from_Decides false tells refl)
 
 pub differ : (xs ys : List ℕ) → xs ≢ ys → bytes_eq xs ys ≡ false
-differ xs ys other = elim (true_or_false (bytes_eq xs ys)) [
+differ xs ys other = elim (cases_Bool (bytes_eq xs ys)) [
   | inl same ↦ absurd (other ((bytes_eq-Decides xs ys).0 same))
   | inr differs ↦ differs
 ]

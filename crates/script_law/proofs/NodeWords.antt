@@ -1,5 +1,6 @@
 -- A word may name a new node, or a reason hits it; and it names a node, or a reason hits it.
 use Rattle.std.proofs.Common.{◌≡◌, ℕ, ◌<◌, List, Contains, length, sym, ◌⊎◌, inl, inr}
+use Rattle.std.proofs.lemmas.Bool.{cases_Bool}
 use Rattle.fabric_script.specs.declared.reasons.Reason.{Reason}
 use Rattle.fabric_script.specs.declared.reasons.Reason.TheVariants.{BadName, NameTaken, UnknownNode}
 use Rattle.fabric_script.specs.Names.{is_name, name_of}
@@ -8,7 +9,7 @@ use Rattle.fabric_script.specs.Texts.{Named, AtNode}
 use Rattle.fabric_script.specs.Known.{Known}
 use Rattle.fabric_script.specs.Hits.{Fits, Hits, NewNameIsBad, NodeIsBad, NameIsTaken, NodeIsUnknown}
 use Rattle.fabric_script.proofs.Exclusion.{named_is_there, there_is_named}
-use Rattle.script_law.proofs.Choosing.{true_or_false, same_or_not, first_or_none}
+use Rattle.script_law.proofs.Choosing.{same_or_not, first_or_none}
 use Rattle.script_law.proofs.NumberWords.{SaysOrHit}
 
 -- the node that has the name, or none has it
@@ -24,7 +25,7 @@ node_or_none names name = elim (first_or_none (λ n. name_of names n ≡ name)
 
 pub new_name_or_hit : (known : Known) (word : List ℕ)
     → Fits known NewName (Named word) ⊎ ((reason : Reason) × Hits known reason NewName word)
-new_name_or_hit known word = elim (true_or_false (is_name word)) [
+new_name_or_hit known word = elim (cases_Bool (is_name word)) [
   | inl named ↦ elim (node_or_none known.names word) [
     | inl node ↦
         let there = named_is_there known.names node.0 word node.1 node.2 in
@@ -35,7 +36,7 @@ new_name_or_hit known word = elim (true_or_false (is_name word)) [
 ]
 
 pub node_or_hit : (known : Known) (word : List ℕ) → SaysOrHit known Node (λ n. AtNode n) word
-node_or_hit known word = elim (true_or_false (is_name word)) [
+node_or_hit known word = elim (cases_Bool (is_name word)) [
   | inl named ↦ elim (node_or_none known.names word) [
     | inl node ↦ inl (node.0, node.1, sym node.2)
     | inr none ↦ inr (UnknownNode, NodeIsUnknown named none)

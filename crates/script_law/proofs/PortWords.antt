@@ -2,7 +2,7 @@
 use Rattle.std.proofs.Common.{◌≡◌, ℕ, suc, ◌<◌, true, List, ◌∷◌, ◌++◌, length, length-append, take, sym, ap, ◌∙◌, inl, inr, arith}
 use Rattle.std.specs.Fmt.{decimal}
 use Rattle.std.proofs.Math.Seq.{take-append_seam}
-use Rattle.std.proofs.lemmas.Bool.{cases_lt}
+use Rattle.std.proofs.lemmas.Bool.{cases_lt, cases_Bool}
 use Rattle.fabric_script.specs.declared.ports.PortRef.{PortRef}
 use Rattle.fabric_script.specs.declared.reasons.Reason.TheVariants.{BadName, UnknownNode, PortOutside}
 use Rattle.fabric_script.specs.Names.{is_name}
@@ -11,7 +11,7 @@ use Rattle.fabric_script.specs.Texts.{AtPort, port_text}
 use Rattle.fabric_script.specs.Known.{Known, ports_of}
 use Rattle.fabric_script.specs.Hits.{PortIsBad, PortIsUnknown, PortIsOutside, point_text}
 use Rattle.fabric_script.proofs.Points.{point_text-parts}
-use Rattle.script_law.proofs.Choosing.{Decided, true_or_false, both_or_not, same_or_not, first_or_none}
+use Rattle.script_law.proofs.Choosing.{Decided, both_or_not, same_or_not, first_or_none}
 use Rattle.script_law.proofs.NumberWords.{SaysOrHit}
 use Rattle.script_law.proofs.NodeWords.{node_or_none}
 
@@ -24,7 +24,7 @@ abbrev Cuts : List ℕ → ℕ → Type 0
 Cuts word port = (i : ℕ) × (i < suc (length word)) × CutsAt word port i
 
 named_or_not : (word : List ℕ) → Decided (is_name word ≡ true)
-named_or_not word = elim (true_or_false (is_name word)) [
+named_or_not word = elim (cases_Bool (is_name word)) [
   | inl named ↦ inl named
   | inr other ↦ inr (λ named. cc)
 ]

@@ -1,11 +1,11 @@
 -- A test of reasons: the least that passes it, or none does.
 use Rattle.std.proofs.Common.{◌≡◌, ℕ, ◌≤◌, Bool, true, false, List, [], ◌∷◌, get_or, refl, sym, ap, ◌∙◌, ◌⊎◌, inl, inr, arith}
-use Rattle.std.proofs.lemmas.Bool.{cases_eq}
+use Rattle.std.proofs.lemmas.Bool.{cases_eq, cases_Bool}
 use Rattle.fabric_script.specs.declared.reasons.Reason.{Reason}
 use Rattle.fabric_script.specs.declared.reasons.Reason.TheVariants.{UnknownLine, BadNumber, BadName, NameTaken, UnknownNode, PortOutside, PortTaken, IdTaken, BadHex, BadLength, WrongKind, OutOfPlace, NotLinked, TooMuchWork}
 use Rattle.fabric_script.specs.Reasons.{reason_number}
 use Rattle.fabric_script.proofs.Outcomes.{number_in_range}
-use Rattle.script_law.proofs.Choosing.{Decided, true_or_false, first_or_none}
+use Rattle.script_law.proofs.Choosing.{Decided, first_or_none}
 
 reasons : List Reason
 reasons = UnknownLine ∷ UnknownLine ∷ BadNumber ∷ BadName ∷ NameTaken ∷ UnknownNode ∷ PortOutside
@@ -39,7 +39,7 @@ Passed test n = (reason : Reason) × (reason_number reason ≡ n) × (test reaso
 
 passed_or_not : (test : Reason → Bool) (n : ℕ) → Decided (Passed test n)
 passed_or_not test n = elim (cases_eq (reason_number (reason_at n)) n) [
-  | inl numbered ↦ elim (true_or_false (test (reason_at n))) [
+  | inl numbered ↦ elim (cases_Bool (test (reason_at n))) [
     | inl passes ↦ inl (reason_at n, numbered, passes)
     | inr fails ↦ inr (λ passed.
         let e = ap test (there passed) ∙ passed.2 in
@@ -64,7 +64,7 @@ least_or_none test = elim (first_or_none (Passed test) (passed_or_not test) 15) 
         let low = found.least (reason_number other) (other, refl, passes) in
         omega (arith, found.is.1),
   )
-  | inr none ↦ inr (λ reason. elim (true_or_false (test reason)) [
+  | inr none ↦ inr (λ reason. elim (cases_Bool (test reason)) [
     | inl passes ↦
         let range = number_in_range reason in
         absurd (none (reason_number reason) (omega arith) (reason, refl, passes))

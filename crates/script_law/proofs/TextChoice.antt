@@ -1,5 +1,6 @@
 -- Bytes spell a script, or are refused.
 use Rattle.std.proofs.Common.{◌≡◌, ℕ, suc, ◌+◌, true, false, List, [], ◌∷◌, ◌++◌, length, refl, ap, ◌⊎◌, inl, inr}
+use Rattle.std.proofs.lemmas.Bool.{cases_Bool}
 use Rattle.fabric_script.specs.declared.reasons.Reason.{Reason}
 use Rattle.fabric_script.specs.declared.lines.Line.{Line}
 use Rattle.fabric_script.specs.declared.lines.Numbered.{Numbered}
@@ -10,7 +11,6 @@ use Rattle.fabric_script.specs.Scripts.{pieces_of, is_skipped, SpellsFrom, IsScr
 use Rattle.fabric_script.specs.SetUps.{IsReady, IsRefused}
 use Rattle.fabric_script.proofs.KnownLaws.{nothing-orderly}
 use Rattle.fabric_script.proofs.ScriptLaws.{orderly-spelled}
-use Rattle.script_law.proofs.Choosing.{true_or_false}
 use Rattle.script_law.proofs.LineChoice.{spelled_or_hit}
 
 -- the pieces spell lines up to one that a reason hits
@@ -95,7 +95,7 @@ stop number known text texts reason kept least = inr record {
 goes : (number : ℕ) (known : Known) (texts : List (List ℕ)) → IsOrderly known
     → Goes number known texts
 goes number known [] orderly = inl record { lines = []; end = known; spelled = (refl, refl) }
-goes number known (text ∷ texts) orderly = elim (true_or_false (is_skipped text)) [
+goes number known (text ∷ texts) orderly = elim (cases_Bool (is_skipped text)) [
   | inl skipped ↦ skip number known text texts skipped (goes (suc number) known texts orderly)
   | inr kept ↦ elim (spelled_or_hit known text orderly) [
     | inl is ↦ keep number known text texts is.0 kept is.1
