@@ -1,27 +1,21 @@
--- The sizes of the profile, one by one, and parts of tests.
-use Rattle.std.proofs.Common.{◌≡◌, ℕ, ◌%◌, ◌<◌, ◌≤◌, ◌==◌, ◌&&◌, ◌||◌, ◌⊎◌, Bool, true, false, Some, None, if◌then◌else◌, refl, subst, sym, inl, inr, arith, eqb-true, leb-true}
+-- The sizes of the profile, one by one.
+use Rattle.std.proofs.Common.{◌≡◌, ℕ, ◌%◌, ◌<◌, ◌≤◌, ◌==◌, ◌&&◌, ◌||◌, Bool, true, false, Some, None, if◌then◌else◌, refl, subst, sym, inl, inr, arith, eqb-true, leb-true}
 use Rattle.std.specs.Prelude.{nat_le}
-use Rattle.std.proofs.lemmas.Bool.{and_parts}
+use Rattle.std.proofs.lemmas.Bool.{and_parts, or_cases}
 use Rattle.io_packets.specs.Layout.{size_named}
 use Rattle.io_packets.specs.Forms.{is_size, is_stream_size, is_status}
 use Rattle.io_packets.specs.Writing.{code_of, wdptr_of}
-
--- ---- parts of tests
-
-either_part : (a b : Bool) → (a || b) ≡ true → (a ≡ true) ⊎ (b ≡ true)
-either_part true b h = inl refl
-either_part false b h = inr h
 
 -- ---- sizes
 
 -- what holds of the four sizes holds of each size
 pub of_sizes : (P : ℕ → Type 0) (n : ℕ) → is_size n ≡ true → P 8 → P 16 → P 32 → P 64 → P n
 of_sizes P n h a b c d =
-    elim (either_part (n == 8) ((n == 16) || ((n == 32) || (n == 64))) h) [
+    elim (or_cases (n == 8) ((n == 16) || ((n == 32) || (n == 64))) h) [
       | inl e ↦ subst P (sym (eqb-true n 8 e)) a
-      | inr h ↦ elim (either_part (n == 16) ((n == 32) || (n == 64)) h) [
+      | inr h ↦ elim (or_cases (n == 16) ((n == 32) || (n == 64)) h) [
         | inl e ↦ subst P (sym (eqb-true n 16 e)) b
-        | inr h ↦ elim (either_part (n == 32) (n == 64) h) [
+        | inr h ↦ elim (or_cases (n == 32) (n == 64) h) [
           | inl e ↦ subst P (sym (eqb-true n 32 e)) c
           | inr e ↦ subst P (sym (eqb-true n 64 e)) d
         ]
@@ -81,7 +75,7 @@ stream_eights n h = eqb-true (n % 8) 0 (and_parts (n % 8 == 0) (nat_le 8 n && na
 
 pub status_small : (status : ℕ) → is_status status ≡ true → status < 16
 status_small status h =
-    elim (either_part (status == 0) (status == 7) h) [
+    elim (or_cases (status == 0) (status == 7) h) [
       | inl e ↦ (let is = eqb-true status 0 e in omega (arith, is))
       | inr e ↦ (let is = eqb-true status 7 e in omega (arith, is))
     ]
