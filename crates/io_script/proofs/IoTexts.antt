@@ -1,34 +1,8 @@
--- The texts of addresses, and of words behind a keyword.
-use Rattle.std.proofs.Common.{◌≡◌, ℕ, ◌+◌, ◌*◌, ◌<◌, ◌/◌, ◌%◌, List, [], ◌∷◌, ◌++◌, length, get_or, refl, sym, ap, ◌∙◌, append-nil, arith}
-use Rattle.std.specs.List.{join_with_byte}
+-- The texts of addresses.
+use Rattle.std.proofs.Common.{◌≡◌, ℕ, ◌+◌, ◌*◌, ◌<◌, ◌/◌, ◌%◌, List, [], ◌∷◌, ◌++◌, length, get_or, sym, ap, ◌∙◌, arith}
 use Rattle.rio_chars.specs.HexText.{hex_of}
-use Rattle.fabric_script.specs.LineTexts.{after_words}
 use Rattle.fabric_script.specs.Texts.{digits_text}
-use Rattle.fabric_script.proofs.Joins.{after_words-join}
-
--- eight digits of a number are those of its four bytes
-pub eight_digits : (n : ℕ)
-    → hex_of (n / 0x1000000 % 0x100 ∷ n / 0x10000 % 0x100 ∷ n / 0x100 % 0x100 ∷ n % 0x100 ∷ [])
-    ≡ digits_text 8 n
-eight_digits n =
-    let a : n / 0x1000000 % 0x100 / 16 ≡ n / 16 / 16 / 16 / 16 / 16 / 16 / 16 % 16 = omega arith in
-    let b : n / 0x1000000 % 0x100 % 16 ≡ n / 16 / 16 / 16 / 16 / 16 / 16 % 16 = omega arith in
-    let c : n / 0x10000 % 0x100 / 16 ≡ n / 16 / 16 / 16 / 16 / 16 % 16 = omega arith in
-    let d : n / 0x10000 % 0x100 % 16 ≡ n / 16 / 16 / 16 / 16 % 16 = omega arith in
-    let e : n / 0x100 % 0x100 / 16 ≡ n / 16 / 16 / 16 % 16 = omega arith in
-    let f : n / 0x100 % 0x100 % 16 ≡ n / 16 / 16 % 16 = omega arith in
-    let g : n % 0x100 / 16 ≡ n / 16 % 16 = omega arith in
-    let h : n % 0x100 % 16 ≡ n % 16 = omega arith in
-    rw (a, b, c, d, e, f, g, h) refl
-
--- a word and words behind it, a space before each, are the words joined by spaces
-pub word_and_words : (word : List ℕ) (words : List (List ℕ))
-    → word ++ after_words [] words ≡ join_with_byte 32 (word ∷ words)
-word_and_words word words =
-    ap (λ t. word ++ t) (after_words-join [] [] words)
-    ∙ sym (after_words-join word [] words)
-    ∙ ap (λ t. after_words t words) (append-nil word)
-    ∙ after_words-join [] word words
+use Rattle.fabric_script.proofs.SpacedWords.{eight_digits}
 
 -- four bytes are the eight digits of the number that they make
 pub four_bytes : (p q r s : ℕ) → p < 256 → q < 256 → r < 256 → s < 256

@@ -1,5 +1,5 @@
 use Rattle.rio_chars.proofs.WrittenLaws.{Writes-then}
-use Rattle.io_script.proofs.IoTexts.{eight_digits}
+use Rattle.fabric_script.proofs.SpacedWords.{eight_digits}
 use Rattle.io_script.proofs.writing.write_addr.Goals as goal
 
 pub returns : goal.returns
