@@ -1,5 +1,6 @@
 -- Which IDs are given, as the list of devices grows.
 use Rattle.std.proofs.Common.{◌≡◌, ℕ, zero, suc, ◌==◌, ◌||◌, Bool, true, false, List, [], ◌∷◌, ◌++◌, Contains, arith, refl, ap, ◌∙◌, subst, sym, inl, inr, ◌⊎◌, find, Some, Option, cond, None, eqb-true}
+use Rattle.std.proofs.lemmas.Bool.{or_right}
 use Rattle.std.proofs.lemmas.List.Folds.{list_any-append}
 use Rattle.fabric_map.specs.declared.map.Kind.{Kind}
 use Rattle.fabric_map.specs.declared.map.Kind.TheVariants.{Endpoint, Switch}
@@ -43,11 +44,7 @@ pub is_given-new : (devices : List Device) (device : Device) (id : ℕ)
     → has_id id device ≡ true → is_given (devices ++ device ∷ []) id ≡ true
 is_given-new devices device id has =
     is_given-push devices device id
-    ∙ (ap (λ b. is_given devices id || b) has ∙ or_true (is_given devices id))
-  where
-    or_true : (b : Bool) → (b || true) ≡ true
-    or_true true = refl
-    or_true false = refl
+    ∙ (ap (λ b. is_given devices id || b) has ∙ or_right (is_given devices id) true refl)
 
 pub is_given-contains : (devices : List Device) (device : Device) (id : ℕ)
     → Contains devices device → has_id id device ≡ true → is_given devices id ≡ true
