@@ -1,7 +1,7 @@
 -- What is left of the lines of a script while they are taken in one by one.
-use Rattle.std.proofs.Common.{◌≡◌, ℕ, suc, ◌+◌, ◌<◌, ◌≤◌, Bool, true, false, not, List, [], ◌∷◌, length, get_or, drop, Some, arith, refl, sym, ap, subst, ◌∙◌}
+use Rattle.std.proofs.Common.{◌≡◌, ℕ, suc, ◌+◌, ◌<◌, ◌≤◌, true, false, not, List, [], ◌∷◌, length, get_or, drop, Some, arith, refl, sym, ap, subst, ◌∙◌}
 use Rattle.std.proofs.Math.Seq.{drop-cons}
-use Rattle.std.proofs.lemmas.Bool.{true≢false}
+use Rattle.std.proofs.lemmas.Bool.{not-false}
 use Rattle.std.proofs.lemmas.List.{length-map}
 use Rattle.std.proofs.Math.ListN.{drop_of_length-le}
 use Rattle.std.proofs.lemmas.Option.{slice_get-get_or}
@@ -19,10 +19,6 @@ use Rattle.fabric_map.specs.Plain.{registers_of}
 use Rattle.host_enumerate.specs.Devised.{MayDevise, devices_after, devices_after_all, links_after_all, devices_of, links_of}
 use Rattle.host_enumerate.proofs.NewDevices.{kind_known}
 use Rattle.host_enumerate.proofs.Devised.{Stage, stage_after, first_stage}
-
-not_not : (t : Bool) → not t ≡ false → t ≡ true
-not_not true e = refl
-not_not false e = absurd (true≢false e)
 
 module _ (known : Known) (new : List ℕ) (devices : List Device) (stage : Stage known devices) where
   node_there : (n : ℕ) → n < length known.names → n < length devices
@@ -42,7 +38,7 @@ module _ (known : Known) (new : List ℕ) (devices : List Device) (stage : Stage
   switch_there : (n : ℕ) → n < length known.names → not (is_known_switch known.nodes n) ≡ false
       → is_switch (registers_of devices n) ≡ true
   switch_there n inside own =
-      kind_there n inside ∙ not_not (is_known_switch known.nodes n) own
+      kind_there n inside ∙ not-false (is_known_switch known.nodes n) own
 
   may_devise : (line : Line) → MayBe known new line → IsFree known line → MayDevise devices line
   may_devise (Switch name ports) may free = may.fit.1.0

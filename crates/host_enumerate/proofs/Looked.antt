@@ -42,32 +42,42 @@ ended_longer first before after faults_first faults faults_after met P Q end sam
     go WriteFault ended = ended
     go NoMemory ended = ended
 
-module _ (topology later_topology : Topology) (now mid later : Registers) (host_id next : ℕ)
-    (devices : List Device) (switch : Found) (port : ℕ) (path : List ℕ)
-    (found : IsFound topology now host_id devices switch)
-    (some : (before : Registers)
-    × IsUnderway topology before now host_id devices next (onward switch.path port))
-    (is_topology : later_topology ≡ topology) (same : AreSame now mid)
-    (becomes : Becomes mid later found.at.node (with_entry (mid found.at.node) 255 port))
-    (link : (end : PortRef) × (topology.peer (port_at found.at.node port) ≡ Some end))
-    (below : port < switch.ports) (apart : port ≢ switch.entry)
-    (is_path : path ≡ onward switch.path port) where
+-- A switch that was found sends on through a port that has a link.
+pub record IsSetTo (topology later_topology : Topology) (now mid later : Registers)
+    (host_id next : ℕ) (devices : List Device) (switch : Found) (port : ℕ) (path : List ℕ) : Type 0
+  where
+    pub found : IsFound topology now host_id devices switch
+    pub some : (before : Registers)
+        × IsUnderway topology before now host_id devices next (onward switch.path port)
+    pub is_topology : later_topology ≡ topology
+    pub same : AreSame now mid
+    pub becomes : Becomes mid later found.at.node (with_entry (mid found.at.node) 255 port)
+    pub link : (end : PortRef) × (topology.peer (port_at found.at.node port) ≡ Some end)
+    pub below : port < switch.ports
+    pub apart : port ≢ switch.entry
+    pub is_path : path ≡ onward switch.path port
+
+module _ {topology later_topology : Topology} {now mid later : Registers} {host_id next : ℕ}
+    {devices : List Device} {switch : Found} {port : ℕ} {path : List ℕ}
+    (set : IsSetTo topology later_topology now mid later host_id next devices switch port
+    path) where
   pub underway_here : (before : Registers)
       → IsUnderway topology before now host_id devices next (onward switch.path port)
       → IsUnderway later_topology before later host_id devices next path
   underway_here before underway =
-      subst (λ t. IsUnderway t before later host_id devices next path) (sym is_topology)
-      (subst (λ l. IsUnderway topology before later host_id devices next l) (sym is_path)
-      (underway_then topology now host_id next devices switch port found some mid later link.0 same
-      becomes link.1 below apart before underway))
+      subst (λ t. IsUnderway t before later host_id devices next path) (sym set.is_topology)
+      (subst (λ l. IsUnderway topology before later host_id devices next l) (sym set.is_path)
+      (underway_then topology now host_id next devices switch port set.found set.some mid later
+      set.link.0 set.same set.becomes set.link.1 set.below set.apart before underway))
 
   pub askable_here : Fits topology now → Fits later_topology later
-      → IsAskable later_topology later host_id path link.0
+      → IsAskable later_topology later host_id path set.link.0
   askable_here fits fits_later =
-      subst (λ t. IsAskable t later host_id path link.0) (sym is_topology)
-      (subst (λ l. IsAskable topology later host_id l link.0) (sym is_path)
-      (behind_askable topology now host_id next devices switch port found some mid later link.0 same
-      becomes link.1 below apart fits (subst (λ t. Fits t later) is_topology fits_later)))
+      subst (λ t. IsAskable t later host_id path set.link.0) (sym set.is_topology)
+      (subst (λ l. IsAskable topology later host_id l set.link.0) (sym set.is_path)
+      (behind_askable topology now host_id next devices switch port set.found set.some mid later
+      set.link.0 set.same set.becomes set.link.1 set.below set.apart fits
+      (subst (λ t. Fits t later) set.is_topology fits_later)))
 
   module _ (after : Registers) (devices_after : List Device) (next_after : ℕ)
       (kind : Option Kind)
@@ -81,14 +91,14 @@ module _ (topology later_topology : Topology) (now mid later : Registers) (host_
         (onward switch.path port) kind
     tried_here before underway =
         subst (λ l. IsTried topology before after host_id devices devices_after next next_after l
-        kind) is_path
+        kind) set.is_path
         (subst (λ t. IsTried t before after host_id devices devices_after next next_after path kind)
-        is_topology (tried before (underway_here before underway)))
+        set.is_topology (tried before (underway_here before underway)))
 
     opened_here : IsOpened topology after host_id (onward switch.path port)
     opened_here =
-        subst (λ l. IsOpened topology after host_id l) is_path
-        (subst (λ t. IsOpened t after host_id path) is_topology opened)
+        subst (λ l. IsOpened topology after host_id l) set.is_path
+        (subst (λ t. IsOpened t after host_id path) set.is_topology opened)
 
     none_tried : kind ≡ None → (before : Registers)
         → IsUnderway topology before now host_id devices next (onward switch.path port)
@@ -108,20 +118,21 @@ module _ (topology later_topology : Topology) (now mid later : Registers) (host_
         (onward switch.path (port + 1))) (sym known.0)
         (subst (λ n. IsUnderway topology before after host_id devices n
         (onward switch.path (port + 1))) (sym known.1)
-        (met_passed topology now host_id next devices switch port found some mid later link.0 same
-        becomes link.1 below apart after before known.2 known.3))
+        (met_passed topology now host_id next devices switch port set.found set.some mid later
+        set.link.0 set.same set.becomes set.link.1 set.below set.apart after before known.2
+        known.3))
 
     pub none_found : kind ≡ None → IsOpened topology after host_id switch.path
         × Contains (paths_of devices_after) switch.path
     none_found is = (
       opened-front topology after host_id switch.path (port ∷ []) opened_here,
-      subst (λ l. Contains (paths_of l) switch.path) (sym (none_tried is some.0 some.1).0)
-          found.listed,
+      subst (λ l. Contains (paths_of l) switch.path) (sym (none_tried is set.some.0 set.some.1).0)
+          set.found.listed,
     )
 
     pub none_longer : kind ≡ None → length devices ≤ length devices_after
     none_longer is =
-        let long = ap (λ l. length l) (none_tried is some.0 some.1).0 in omega (arith, long)
+        let long = ap (λ l. length l) (none_tried is set.some.0 set.some.1).0 in omega (arith, long)
 
     some_tried : (is_kind : Kind) → kind ≡ Some is_kind → (before : Registers)
         → IsUnderway topology before now host_id devices next (onward switch.path port)
@@ -134,9 +145,9 @@ module _ (topology later_topology : Topology) (now mid later : Registers) (host_
     pub some_more : (is_kind : Kind) → kind ≡ Some is_kind
         → length devices < length devices_after
     some_more is_kind is =
-        one_more topology now host_id next devices switch port found some mid later link.0 same
-        becomes link.1 below apart after devices_after next_after is_kind
-        (some_tried is_kind is some.0 some.1).0 opened_here
+        one_more topology now host_id next devices switch port set.found set.some mid later
+        set.link.0 set.same set.becomes set.link.1 set.below set.apart after devices_after
+        next_after is_kind (some_tried is_kind is set.some.0 set.some.1).0 opened_here
 
     pub some_longer : (is_kind : Kind) → kind ≡ Some is_kind
         → length devices ≤ length devices_after
@@ -149,20 +160,20 @@ module _ (topology later_topology : Topology) (now mid later : Registers) (host_
         (onward switch.path (port + 1))
     endpoint_looked is_kind id is is_endpoint before underway =
         let known = some_tried is_kind is before underway in
-        endpoint_passed topology now host_id next devices switch port found some mid later link.0
-        same becomes link.1 below apart after devices_after next_after is_kind known.0 opened_here
-        id
-        is_endpoint before known.1
+        endpoint_passed topology now host_id next devices switch port set.found set.some mid later
+        set.link.0 set.same set.becomes set.link.1 set.below set.apart after devices_after
+        next_after is_kind known.0 opened_here id is_endpoint before known.1
 
     pub some_found : (is_kind : Kind) → kind ≡ Some is_kind
         → IsOpened topology after host_id switch.path
         × Contains (paths_of devices_after) switch.path
     some_found is_kind is =
-        let known = some_tried is_kind is some.0 some.1 in (
+        let known = some_tried is_kind is set.some.0 set.some.1 in (
           opened-front topology after host_id switch.path (port ∷ []) opened_here,
-          path_still topology now host_id next devices switch port found some mid later link.0 same
-              becomes link.1 below apart after devices_after next_after is_kind known.0 opened_here
-              some.0 (onward (onward switch.path port) 0) known.1,
+          path_still topology now host_id next devices switch port set.found set.some mid later
+              set.link.0 set.same set.becomes set.link.1 set.below set.apart after devices_after
+              next_after is_kind known.0 opened_here set.some.0
+              (onward (onward switch.path port) 0) known.1,
         )
 
     pub switch_looked : (is_kind : Kind) → kind ≡ Some is_kind → (before : Registers)
@@ -170,7 +181,7 @@ module _ (topology later_topology : Topology) (now mid later : Registers) (host_
         → IsUnderway topology before after host_id devices_after next_after (onward path 0)
     switch_looked is_kind is before underway =
         subst (λ l. IsUnderway topology before after host_id devices_after next_after (onward l 0))
-        (sym is_path) (some_tried is_kind is before underway).1
+        (sym set.is_path) (some_tried is_kind is before underway).1
 
     pub switch_is_found : (is_kind : Kind) (ports entry : ℕ) → kind ≡ Some is_kind
         → is_kind ≡ Switch ports entry
@@ -178,15 +189,14 @@ module _ (topology later_topology : Topology) (now mid later : Registers) (host_
         record { path = path; ports = ports; entry = entry }
         × (path ≡ onward switch.path port) × (length devices < length devices_after)
     switch_is_found is_kind ports entry is is_switch =
-        let known = some_tried is_kind is some.0 some.1 in (
+        let known = some_tried is_kind is set.some.0 set.some.1 in (
           subst (λ l. IsFound topology after host_id devices_after
-              record { path = l; ports = ports; entry = entry }) (sym is_path)
-              (switch_found topology now host_id next devices switch port found some mid later
-              link.0
-              same becomes link.1 below apart after devices_after next_after is_kind known.0
-              opened_here ports entry is_switch some.0 (onward (onward switch.path port) 0)
-              known.1),
-          is_path,
+              record { path = l; ports = ports; entry = entry }) (sym set.is_path)
+              (switch_found topology now host_id next devices switch port set.found set.some mid
+              later set.link.0 set.same set.becomes set.link.1 set.below set.apart after
+              devices_after next_after is_kind known.0 opened_here ports entry is_switch
+              set.some.0 (onward (onward switch.path port) 0) known.1),
+          set.is_path,
           some_more is_kind is,
         )
 

@@ -14,6 +14,7 @@ use Rattle.fabric_script.specs.declared.known.Node.{Node}
 use Rattle.fabric_script.specs.Known.{same_port, node_is_switch, is_switch as is_known_switch}
 use Rattle.fabric_script.proofs.PeerLaws.{port_is, same_port-refl}
 use Rattle.fabric_map.specs.Topology.{port_at}
+use Rattle.fabric_map.proofs.Given.{or_false}
 use Rattle.host_enumerate.specs.Devised.{with_linked_end}
 
 -- ---- one device
@@ -159,13 +160,9 @@ also_own linked a = go (linked a) (same_port-refl a)
 also_other : (linked : PortRef → Bool) (a p : PortRef) → p ≢ a → also linked a p ≡ linked p
 also_other linked a p apart = go (cases_Bool (same_port a p))
   where
-    drop : (b : Bool) → (b || false) ≡ b
-    drop true = refl
-    drop false = refl
-
     go : (same_port a p ≡ true) ⊎ (same_port a p ≡ false) → also linked a p ≡ linked p
     go (inl same) = absurd (apart (sym (port_is a p same)))
-    go (inr other) = ap (λ b. linked p || b) other ∙ drop (linked p)
+    go (inr other) = ap (λ b. linked p || b) other ∙ or_false (linked p)
 
 linked_at_is : (linked : PortRef → Bool) (a : PortRef) (held : Device)
     → IsNew linked a.node held → IsNew (also linked a) a.node (linked_at a.port held)
