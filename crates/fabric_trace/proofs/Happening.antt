@@ -1,11 +1,10 @@
 -- What a script that passes gives: its lines of set-up may stand behind each other, and its events
 -- may happen.
-use Rattle.std.proofs.Common.{◌≡◌, ℕ, ◌%◌, ◌<◌, ◌≤◌, zero, suc, nat_lt, nat_le, ◌==◌, Bool, true, false, not, ◌&&◌, ◌||◌, List, [], ◌∷◌, ◌++◌, Option, Some, None, map, get_or, length, length-append, All, is_some, refl, sym, ap, ◌∙◌, subst, arith, append-nil}
-use Rattle.std.proofs.lemmas.Bool.{and_parts, or_parts, eqb-true, true≢false, false≢true}
+use Rattle.std.proofs.Common.{◌≡◌, ℕ, ◌%◌, ◌<◌, ◌≤◌, zero, suc, nat_lt, nat_le, ◌==◌, Bool, true, false, not, ◌&&◌, ◌||◌, List, [], ◌∷◌, ◌++◌, Option, Some, None, map, get_or, length, All, is_some, refl, sym, ap, ◌∙◌, subst, arith}
+use Rattle.std.proofs.lemmas.Bool.{and_parts, or_parts, eqb-true, true≢false, false≢true, not-false}
 use Rattle.std.proofs.lemmas.Bool.Decides.{nat_tests}
 use Rattle.std.proofs.lemmas.List.Elements.{All-nil, All-cons}
-use Rattle.std.proofs.lemmas.List.{length-map, map-append}
-use Rattle.std.proofs.lemmas.Option.{slice_get-map}
+use Rattle.std.proofs.lemmas.List.{map-append}
 use Rattle.std.specs.List.{slice_get}
 use Rattle.rio_packets.specs.Making.{most_rest}
 use Rattle.fabric_script.specs.declared.ports.PortRef.{PortRef}
@@ -14,21 +13,17 @@ use Rattle.fabric_script.specs.declared.lines.Line.TheVariants.{Endpoint, Switch
 use Rattle.fabric_script.specs.declared.lines.Numbered.{Numbered}
 use Rattle.fabric_script.specs.declared.reasons.Reason.TheVariants.{PortTaken, BadLength, WrongKind, OutOfPlace, NotLinked}
 use Rattle.fabric_script.specs.Lines.{is_event, new_name}
-use Rattle.fabric_script.specs.Known.{Known, of_script, nothing, known_after, names_after, nodes_after, links_after, node_ports, ports_of, node_is_switch, is_switch as is_known_switch, same_port, is_linked}
+use Rattle.fabric_script.specs.Known.{Known, of_script, nothing, known_after, node_ports, ports_of, same_port, is_linked}
 use Rattle.fabric_script.specs.Refusals.{is_bad_length, out_of_place_in}
 use Rattle.fabric_script.specs.Reading.{MayBe, IsFree}
 use Rattle.fabric_script.specs.Scripts.{PassesFrom, Passes}
 use Rattle.fabric_script.proofs.PrintLaws.{named_all}
-use Rattle.maint_registers.specs.Devices.{is_switch}
-use Rattle.fabric_model.specs.Network.{Network, IsEndpoint, IsSwitch, switch_at, peer_in}
+use Rattle.fabric_model.specs.Network.{Network, peer_in}
 use Rattle.fabric_trace.specs.Runs.{bare, set_up, set_up_all}
 use Rattle.fabric_trace.specs.SetUps.{MaySetUp, MaySetUpAll}
-use Rattle.fabric_trace.proofs.SettingUp.{set_up-links, set_up-event, made_by, set_up-kinds}
+use Rattle.fabric_trace.proofs.SettingUp.{set_up-event}
 use Rattle.fabric_trace.specs.Events.{IsDataLength, IsInRange, HasLink, IsThere, MayHappen, IsPort, ArePorts, counts_after, counts_after_all, port_counts}
-
-not_not : (t : Bool) → not t ≡ false → t ≡ true
-not_not true e = refl
-not_not false e = absurd (true≢false e)
+use Rattle.fabric_trace.proofs.KnownNetworks.{KnowsNetwork, knows-after, endpoint_at, switch_is_at, device_at, knows_bare}
 
 -- ---- links
 
@@ -55,76 +50,9 @@ a_peer (link ∷ links) p e =
         rw (a, b) (later (sym (ap (λ x. (x || same_port link.1 p) || is_linked links p) a
         ∙ ap (λ x. x || is_linked links p) b) ∙ e))
 
--- ---- what is known of earlier lines, and the network that they set up
-
-record Stage (known : Known) (net : Network) : Type 0 where
-  linked : net.links ≡ known.links
-  count : length known.nodes ≡ length known.names
-  kinds : map is_switch net.registers ≡ map (λ node. node_is_switch (Some node)) known.nodes
-
-kinds-made : (known : Known) (line : Line)
-    → map (λ node. node_is_switch (Some node)) known.nodes ++ map is_switch (made_by line)
-    ≡ map (λ node. node_is_switch (Some node)) (nodes_after known.nodes line)
-kinds-made known (Endpoint name id) =
-    sym (map-append (λ node. node_is_switch (Some node)) known.nodes _)
-kinds-made known (Switch name ports) =
-    sym (map-append (λ node. node_is_switch (Some node)) known.nodes _)
-kinds-made known _ = append-nil _
-
-one_more : {A B : Type 0} (xs : List A) (ys : List B) (x : A) (y : B) → length xs ≡ length ys
-    → length (xs ++ x ∷ []) ≡ length (ys ++ y ∷ [])
-one_more xs ys x y same = omega (arith, length-append xs (x ∷ []), length-append ys (y ∷ []))
-
-count-made : (known : Known) (new : List ℕ) (line : Line) → length known.nodes ≡ length known.names
-    → length (nodes_after known.nodes line) ≡ length (names_after known.names new line)
-count-made known new (Endpoint name id) same = one_more known.nodes known.names _ new same
-count-made known new (Switch name ports) same = one_more known.nodes known.names _ new same
-count-made known new _ same = same
-
-stage-after : (known : Known) (new : List ℕ) (net : Network) (line : Line) → Stage known net
-    → Stage (known_after known new line) (set_up net line)
-stage-after known new net line s = record {
-  linked = set_up-links net line ∙ ap (λ links. links_after links line) s.linked;
-  count = count-made known new line s.count;
-  kinds = set_up-kinds net line ∙ ap (λ kinds. kinds ++ map is_switch (made_by line)) s.kinds
-      ∙ kinds-made known line;
-}
-
--- a node that is known is a switch of the network, or an endpoint, as it is known to be
-kind_at : (known : Known) (net : Network) (n : ℕ) → Stage known net → n < length known.names
-    → switch_at net n ≡ Some (is_known_switch known.nodes n)
-kind_at known net n s within =
-    let same = s.count in
-    sym (slice_get-map is_switch net.registers n) ∙ ap (λ kinds. slice_get kinds n) s.kinds
-    ∙ there node_is_switch known.nodes n (omega arith)
-  where
-    there : {N : Type 0} (f : Option N → Bool) (nodes : List N) (n : ℕ) → n < length nodes
-        → slice_get (map (λ node. f (Some node)) nodes) n ≡ Some (f (slice_get nodes n))
-    there f [] n within = absurd (omega arith)
-    there f (node ∷ nodes) zero within = refl
-    there f (node ∷ nodes) (suc n) within = there f nodes n (omega arith)
-
-endpoint_at : (known : Known) (net : Network) (n : ℕ) → Stage known net → n < length known.names
-    → is_known_switch known.nodes n ≡ false → IsEndpoint net n
-endpoint_at known net n s within own = kind_at known net n s within ∙ ap Some own
-
-switch_is_at : (known : Known) (net : Network) (n : ℕ) → Stage known net → n < length known.names
-    → not (is_known_switch known.nodes n) ≡ false → IsSwitch net n
-switch_is_at known net n s within own =
-    kind_at known net n s within ∙ ap Some (not_not (is_known_switch known.nodes n) own)
-
-device_at : (known : Known) (net : Network) (n : ℕ) → Stage known net → n < length known.names
-    → n < length net.registers
-device_at known net n s within =
-    let names = s.count in
-    let nodes : length net.registers ≡ length known.nodes =
-    sym (length-map net.registers is_switch) ∙ ap length s.kinds
-    ∙ length-map known.nodes (λ node. node_is_switch (Some node)) in
-    omega arith
-
 -- ---- each line of set-up may stand behind those before it
 
-may_one : (known : Known) (new : List ℕ) (net : Network) (line : Line) → Stage known net
+may_one : (known : Known) (new : List ℕ) (net : Network) (line : Line) → KnowsNetwork known net
     → MayBe known new line → IsFree known line → MaySetUp net line
 may_one known new net (Endpoint name id) s may free = let id_in = may.fit.1.0.1 in omega arith
 may_one known new net (Switch name ports) s may free = may.fit.1.0
@@ -156,21 +84,17 @@ may_one known new net (Large node id) s may free =
 may_one known new net _ s may free = tt
 
 may_all : (known : Known) (names : List (List ℕ)) (net : Network) (lines : List Numbered)
-    → Stage known net → PassesFrom known names lines → MaySetUpAll net lines
+    → KnowsNetwork known net → PassesFrom known names lines → MaySetUpAll net lines
 may_all known names net [] s passes = tt
 may_all known names net (line ∷ lines) s passes = (
   may_one known (new_name names line.line) net line.line s passes.0 passes.1,
   may_all (known_after known (new_name names line.line) line.line) names (set_up net line.line)
-      lines (stage-after known (new_name names line.line) net line.line s) passes.2,
+      lines (knows-after known (new_name names line.line) net line.line s) passes.2,
 )
-
--- before the first line
-bare_stage : Stage nothing bare
-bare_stage = record { linked = refl; count = refl; kinds = refl }
 
 pub may_set_up : (names : List (List ℕ)) (lines : List Numbered) → Passes names lines
     → MaySetUpAll bare lines
-may_set_up names lines passes = may_all nothing names bare lines bare_stage passes
+may_set_up names lines passes = may_all nothing names bare lines (knows_bare of_script) passes
 
 -- ---- nothing is set up behind an event
 
@@ -211,10 +135,10 @@ data_length large ftype count e =
     let both = or_parts (not (count % 2 == 0)) (nat_lt (most_rest large) count) parts.0 in
     let long = both.1 in
     record {
-      even = eqb-true (count % 2) 0 (not_not (count % 2 == 0) both.0);
+      even = eqb-true (count % 2) 0 (not-false (count % 2 == 0) both.0);
       most = grind (arith, nat_tests, long);
       maintenance =
-          λ is. of_form (not_not (nat_le 6 count && nat_le count 70 && (count % 8 == 6))
+          λ is. of_form (not-false (nat_le 6 count && nat_le count 70 && (count % 8 == 6))
           (sym (ap (λ f. (f == 8) && forms) is) ∙ parts.1));
     }
   where
@@ -261,13 +185,13 @@ in_range known new (Erase port place n) may free = (may.fit.1.0.1, may.fit.1.1.0
 in_range known new (Run n) may free = may.fit.0
 in_range known new _ may free = tt
 
-link_at : (known : Known) (net : Network) (p : PortRef) → Stage known net
+link_at : (known : Known) (net : Network) (p : PortRef) → KnowsNetwork known net
     → not (is_linked known.links p) ≡ false → HasLink net p
 link_at known net p s e =
     subst (λ links. is_some (peer_in links p) ≡ true) (sym s.linked)
-    (a_peer known.links p (not_not (is_linked known.links p) e))
+    (a_peer known.links p (not-false (is_linked known.links p) e))
 
-is_there : (known : Known) (new : List ℕ) (net : Network) (line : Line) → Stage known net
+is_there : (known : Known) (new : List ℕ) (net : Network) (line : Line) → KnowsNetwork known net
     → MayBe known new line → IsFree known line → IsThere net line
 is_there known new net (Send node prio ftype dest hex) s may free =
     endpoint_at known net node s may.fit.0 (free WrongKind)
@@ -299,7 +223,7 @@ abbrev Happens : Network → Numbered → Type 0
 Happens net line = is_event line.line ≡ true → IsInRange line.line × IsThere net line.line
 
 happen_from : (known : Known) (names : List (List ℕ)) (net : Network) (lines : List Numbered)
-    → known.mode ≡ of_script → Stage known net → PassesFrom known names lines
+    → known.mode ≡ of_script → KnowsNetwork known net → PassesFrom known names lines
     → All (Happens (set_up_all net lines)) lines
 happen_from known names net [] mode s passes = All-nil (Happens net)
 happen_from known names net (line ∷ lines) mode s passes =
@@ -316,13 +240,13 @@ happen_from known names net (line ∷ lines) mode s passes =
           (is_there known new net line.line s passes.0 passes.1),
     ))
     (happen_from next names (set_up net line.line) lines mode
-    (stage-after known new net line.line s) passes.2)
+    (knows-after known new net line.line s) passes.2)
 
 pub may_happen : (names : List (List ℕ)) (lines : List Numbered) → Passes names lines
     → All (λ line. is_event line.line ≡ true → MayHappen names (set_up_all bare lines) line.line)
     lines
 may_happen names lines passes =
-    let all = happen_from nothing names bare lines refl bare_stage passes in
+    let all = happen_from nothing names bare lines refl (knows_bare of_script) passes in
     let named = named_all nothing names lines passes in
     λ k d within event. record {
       named = named k d within;

@@ -13,7 +13,7 @@ use Rattle.fabric_script.specs.Reading.{MayBe}
 use Rattle.fabric_script.specs.Scripts.{PassesFrom, Passes}
 use Rattle.fabric_model.specs.Network.{Network, bare, same_port, peer_in}
 use Rattle.fabric_model.specs.Laws.Nodes.{HasPort, IsPortOf, JoinsNodes}
-use Rattle.fabric_model.proofs.Boards.{all-append, all_weaker}
+use Rattle.fabric_model.proofs.Lists.{all-append, all_weaker}
 use Rattle.fabric_model.proofs.Nodes.{count_ports}
 use Rattle.fabric_model.proofs.Peers.{port_is}
 use Rattle.fabric_trace.specs.Settings.{set_up, set_up_all}

@@ -20,6 +20,7 @@ pub mod RoundsRest
 pub mod RoundsEnd
 pub mod Forming
 pub mod Existing
+pub mod KnownNetworks
 pub mod Happening
 pub mod Wiring
 pub mod Faith
@@ -35,6 +36,7 @@ pub mod FreesStill
 pub mod FreesRead
 pub mod Fronting
 pub mod Failing
+pub mod WithinBlocks
 pub mod Resting
 pub mod Shows
 pub mod Telling

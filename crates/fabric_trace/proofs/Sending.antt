@@ -41,7 +41,7 @@ use Rattle.link_wires.specs.declared.moves.Move.TheVariants.{Held, Freed}
 use Rattle.link_machine.specs.Calls.{sent_notes, has_chars, has_none, is_silent, delivery_from, move_note, told_notes, delivery_notes, pump_notes, tell_notes, time_out_notes}
 use Rattle.fabric_script.specs.declared.ports.PortRef.{PortRef}
 use Rattle.fabric_model.specs.Network.{Item, Network}
-use Rattle.fabric_model.proofs.Boards.{all-append}
+use Rattle.fabric_model.proofs.Lists.{all-append}
 use Rattle.fabric_trace.specs.Lines.{Got, Fired, TraceLine, Signed}
 use Rattle.fabric_trace.specs.Views.{packets_in, lists_in, queue}
 use Rattle.fabric_trace.specs.Known.{Seen, peer_of, port_at, kept_of, link_at}

@@ -22,7 +22,7 @@ use Rattle.fabric_script.specs.declared.lines.Numbered.{Numbered}
 use Rattle.fabric_model.specs.Network.{Network, same_port, with_device}
 use Rattle.fabric_model.specs.Steps.{Step, LegalFrom}
 use Rattle.fabric_model.specs.Laws.Lawful.{Lawful}
-use Rattle.fabric_model.proofs.Boards.{all-append}
+use Rattle.fabric_model.proofs.Lists.{all-append}
 use Rattle.fabric_model.proofs.Forms.{AreWithin-with}
 use Rattle.fabric_model.proofs.Lanes.{well_begun}
 use Rattle.fabric_model.proofs.Freeing.{freed_after_held}
