@@ -17,7 +17,8 @@ use Rattle.fabric_script.specs.Lines.{words_of}
 use Rattle.fabric_script.specs.Texts.{AtPort, port_text}
 use Rattle.fabric_script.proofs.LineLaws.{same_value}
 use Rattle.trace_check.specs.Words.{IsEnd, IsPortOf}
-use Rattle.trace_check.proofs.OneLine.{one_number, port_in}
+use Rattle.trace_check.proofs.OneLine.{one_number}
+use Rattle.trace_check.proofs.PlainLines.{port_in}
 
 -- a text has a word
 pub some_word : (text : List ℕ) → 1 ≤ length (words_of text)

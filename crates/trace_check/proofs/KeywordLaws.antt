@@ -8,7 +8,8 @@ use Rattle.trace_check.specs.declared.keywords.Keyword.{Keyword}
 use Rattle.trace_check.specs.Keywords.{keyword_of, words_behind, keyword_text, NoneBehind}
 use Rattle.trace_check.specs.Words.{SpellsLine}
 use Rattle.trace_check.proofs.FieldLaws.{some_word}
-use Rattle.trace_check.proofs.OneLine.{head_is, is_plain, made, made_is, values_of}
+use Rattle.trace_check.proofs.LineKeywords.{head_is}
+use Rattle.trace_check.proofs.PlainLines.{is_plain, made, made_is, values_of}
 
 -- a line with a keyword that stands alone has no word behind it
 pub none_alone : (known : Known) (keyword : Keyword) (text : List ℕ) → is_plain keyword ≡ true

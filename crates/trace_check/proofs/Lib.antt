@@ -3,6 +3,9 @@ pub mod Lawful
 pub mod Wording
 pub mod Exclusive
 pub mod OneLine
+pub mod LineKeywords
+pub mod PlainLines
+pub mod PrintedWords
 pub mod Legal
 pub mod Running
 pub mod ReadLaws

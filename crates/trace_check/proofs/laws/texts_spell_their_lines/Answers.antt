@@ -1,4 +1,4 @@
-use Rattle.trace_check.proofs.OneLine.{printed_words}
+use Rattle.trace_check.proofs.PrintedWords.{printed_words}
 use Rattle.trace_check.proofs.laws.texts_spell_their_lines.Goals as goal
 
 pub returns : goal.returns

@@ -1,7 +1,7 @@
 use Rattle.std.proofs.Common.{ap}
 use Rattle.trace_check.specs.Keywords.{words_behind}
 use Rattle.trace_check.proofs.KeywordLaws.{none_alone}
-use Rattle.trace_check.proofs.OneLine.{is_plain, made}
+use Rattle.trace_check.proofs.PlainLines.{is_plain, made}
 use Rattle.trace_check.proofs.reading.read_words.Goals as goal
 
 pub returns-in-Full-clause-no_form : goal.returns-in-Full-clause-no_form

@@ -1,7 +1,7 @@
 use Rattle.std.proofs.Common.{sym, subst, rules}
 use Rattle.std.specs.List.{AllByRecursion}
 use Rattle.link_model.specs.Said.{said}
-use Rattle.fabric_model.proofs.Boards.{all-append}
+use Rattle.fabric_model.proofs.Lists.{all-append}
 use Rattle.fabric_trace.specs.Owned.{HasEvent}
 use Rattle.trace_check.specs.Expecting.{OneIsLacked}
 use Rattle.trace_check.specs.Running.{told_events}
