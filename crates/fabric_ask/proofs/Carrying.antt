@@ -1,6 +1,7 @@
 -- What a link does in a round: it is made of parts, moves packets between its two ports alone, and
 -- is at rest then.
 use Rattle.std.proofs.Common.{◌≡◌, ◌&&◌, ◌||◌, not, Bool, true, false, List, [], ◌∷◌, ◌++◌, Some, None, refl, sym, ap, ◌∙◌, subst, append_assoc, if◌then◌else◌}
+use Rattle.std.proofs.lemmas.Bool.{or_right}
 use Rattle.link_watch.specs.declared.note.Note.{Note}
 use Rattle.link_watch.specs.declared.note.Note.TheVariants as Notes
 use Rattle.link_watch.specs.declared.side.Side.{Side}
@@ -34,12 +35,8 @@ use Rattle.fabric_ask.specs.Noise.{edit_line, is_idle, edit_lines, stirred, IsCa
 first_end : (a b : PortRef) → is_end a b a ≡ true
 first_end a b = ap (λ x. x || same_port a b) (same_port-refl a)
 
-or_true : (x : Bool) → (x || true) ≡ true
-or_true true = refl
-or_true false = refl
-
 second_end : (a b : PortRef) → is_end a b b ≡ true
-second_end a b = ap (λ x. same_port b a || x) (same_port-refl b) ∙ or_true (same_port b a)
+second_end a b = ap (λ x. same_port b a || x) (same_port-refl b) ∙ or_right (same_port b a) true refl
 
 end_is : (a b : PortRef) (side : Side) → is_end a b (port_at_side a b side) ≡ true
 end_is a b A = first_end a b
@@ -54,7 +51,7 @@ notes_at a b (Notes.Free side packet ∷ notes) = (end_is a b side, notes_at a b
 notes_at a b (Notes.Fire side ∷ notes) = notes_at a b notes
 
 or_turned : (x y : Bool) → (x || y) ≡ true → (y || x) ≡ true
-or_turned true y is = or_true y
+or_turned true y is = or_right y true refl
 or_turned false y is = ap (λ z. z || false) is
 
 at_turned : (a b : PortRef) (steps : List Step) → AreAt b a steps → AreAt a b steps

@@ -1,5 +1,6 @@
 -- The one packet, while one link after another carries what it can.
 use Rattle.std.proofs.Common.{◌≡◌, ◌<◌, ◌||◌, Bool, true, false, List, [], ◌∷◌, ◌++◌, length, Option, Some, None, refl, sym, ap, ◌∙◌, subst, arith, inl, inr, ◌⊎◌, cond}
+use Rattle.std.proofs.lemmas.Bool.{or_right}
 use Rattle.std.specs.List.{AllByRecursion}
 use Rattle.rio_packets.specs.Fields.{prio_of}
 use Rattle.link_rest.specs.Rest.{IsSettled}
@@ -182,12 +183,8 @@ away_alone (link ∷ links) p q away peer = by_ends (same_port link.0 p) (same_p
         let here : is_end link.0 link.1 p ≡ true =
         ap (is_end link.0 link.1) (sym (port_is link.1 p second))
         ∙ ap (λ z. same_port link.1 link.0 || z) (same_port-refl link.1)
-        ∙ or_true (same_port link.1 link.0) in
+        ∙ or_right (same_port link.1 link.0) true refl in
         absurd (cc (here, away.0))
-      where
-        or_true : (x : Bool) → (x || true) ≡ true
-        or_true true = refl
-        or_true false = refl
     by_ends false false first second later is = later is
 
 -- The packet has gone over its link, or waits at a port of none of these.

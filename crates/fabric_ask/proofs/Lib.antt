@@ -13,6 +13,7 @@ pub mod Lowering
 pub mod Packets
 pub mod Asking
 pub mod Hosting
+pub mod AskEnds
 pub mod Answering
 pub mod Quieting
 pub mod Losing

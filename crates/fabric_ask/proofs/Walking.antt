@@ -1,7 +1,7 @@
 -- Where the walk of a packet goes, and how many hops it has left then.
-use Rattle.std.proofs.Common.{◌≡◌, ℕ, zero, suc, ◌==◌, ◌&&◌, not, Bool, true, false, List, Option, Some, None, refl, sym, ap, ◌∙◌, subst, arith, if◌then◌else◌, MatchBool}
+use Rattle.std.proofs.Common.{◌≡◌, ℕ, zero, suc, ◌==◌, ◌&&◌, not, true, false, List, Option, Some, None, refl, sym, ap, ◌∙◌, subst, arith, if◌then◌else◌, MatchBool}
 use Rattle.std.specs.Option.{option_and_then}
-use Rattle.std.proofs.lemmas.Bool.{ne_eqb}
+use Rattle.std.proofs.lemmas.Bool.{ne_eqb, and_right}
 use Rattle.rio_packets.specs.Fields.{ftype_of, is_maintenance, is_request, Lowered, dest_of}
 use Rattle.maint_registers.specs.Devices.{Device}
 use Rattle.maint_registers.specs.Routes.{next_port}
@@ -25,11 +25,7 @@ use Rattle.fabric_ask.proofs.Lowering.{dest_same, hop_less}
 
 not_foreign : (packet : List ℕ) → is_maintenance packet ≡ true → is_foreign packet ≡ false
 not_foreign packet is = ap (λ b. (ftype_of packet == 8) && not b) is
-    ∙ none (ftype_of packet == 8)
-  where
-    none : (b : Bool) → (b && false) ≡ false
-    none true = refl
-    none false = refl
+    ∙ and_right (ftype_of packet == 8) false refl
 
 -- where a switch sends it, with no hop left, and with one
 pub next_ends : (device : Device) (packet : List ℕ) (dest : ℕ) → IsOn packet dest 0
