@@ -1,6 +1,6 @@
 -- What a symbol that is heard does to what is told of free buffers.
-use Rattle.std.proofs.Common.{◌≡◌, ◌⊎◌, ℕ, suc, ◌+◌, ◌-◌, ◌%◌, ◌<◌, ◌≤◌, ◌&&◌, ◌==◌, nat_lt, Bool, true, false, Option, IfSome, List, ◌∷◌, length, drop, length-drop, inl, inr, refl, sym, ◌∙◌, arith, if◌then◌else◌}
-use Rattle.std.proofs.lemmas.Bool.{eqb-true, le-leb}
+use Rattle.std.proofs.Common.{◌≡◌, ◌⊎◌, ℕ, suc, ◌+◌, ◌-◌, ◌%◌, ◌<◌, ◌≤◌, ◌==◌, nat_lt, Bool, true, false, Option, IfSome, List, ◌∷◌, length, drop, length-drop, inl, inr, refl, sym, ◌∙◌, arith, if◌then◌else◌}
+use Rattle.std.proofs.lemmas.Bool.{and_parts, eqb-true, le-leb}
 use Rattle.std.proofs.lemmas.Option.{IfSome_then}
 use Rattle.link_model.specs.Prelude.{Input, Output, Outstanding, distance, hears}
 use Rattle.link_model.specs.Output as out
@@ -47,13 +47,9 @@ AfterHearing what before next input total freed held words =
     × ((now + length (prios_of next) ≡ freed + length (prios_of before))
     ⊎ ((what ≡ Stype0.LinkResponse) × (has_asked before ≡ true)))
 
-second_true : (a b : Bool) → (a && b) ≡ true → b ≡ true
-second_true true b is = is
-second_true false b is = absurd cc
-
 is_first : (w : Outstanding) (ack : ℕ) → is_oldest w ack ≡ true → ack ≡ w.oldest
 is_first w ack is =
-    eqb-true ack w.oldest (second_true (nat_lt 0 (length w.prios)) (ack == w.oldest) is)
+    eqb-true ack w.oldest (and_parts (nat_lt 0 (length w.prios)) (ack == w.oldest) is).1
 
 same_number : (n freed held count : ℕ) → n % 32 ≡ freed % 32 → freed ≤ n → n < held
     → held ≤ freed + count → count ≤ 31 → n ≡ freed
