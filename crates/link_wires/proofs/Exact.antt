@@ -7,18 +7,7 @@ use Rattle.link_port.specs.Prelude.{Event, PortState, acts, is_acted}
 use Rattle.link_wires.specs.Acting.{acted_all}
 use Rattle.link_wires.specs.Kept.{behind, behind_some, behind_all, IsSubsequence}
 use Rattle.link_wires.specs.Deliveries.{Flow, Delivered, Through, Undetected, begun, done, met, comes, goes_on, come, ended, delivered, undetected}
-use Rattle.link_wires.proofs.KeptLaws.{all_then, is_in, finds_all}
-
--- events behind others are looked for in what these leave
-all_on : (xs ys sent : List Event)
-    → behind_all (xs ++ ys) sent ≡ behind_some (behind_all ys) (behind_all xs sent)
-all_on [] ys sent = refl
-all_on (x ∷ xs) ys sent =
-    elim (behind x sent) as (λ o. behind_some (behind_all (xs ++ ys)) o
-    ≡ behind_some (behind_all ys) (behind_some (behind_all xs) o)) [
-      | None ↦ refl
-      | Some rest ↦ all_on xs ys rest
-    ]
+use Rattle.link_wires.proofs.KeptLaws.{all_then, behind_all-append, is_in, finds_all}
 
 -- nothing is found to be not sent exactly if the search finds all of these
 abbrev Exactly : Delivered → List Event → List Event → Type 0
@@ -42,7 +31,7 @@ met_exact more es sent next flow at e None acted is h =
     all_then acted sent e ∙ ap (behind_some (behind e)) h ∙ is in
     let none : behind_all (acted ++ e ∷ rest) sent ≡ None =
     ap (λ (l : List Event). behind_all l sent) (sym (append_assoc acted (e ∷ []) rest))
-    ∙ all_on (acted ++ e ∷ []) rest sent ∙ ap (behind_some (behind_all rest)) one in
+    ∙ behind_all-append (acted ++ e ∷ []) rest sent ∙ ap (behind_some (behind_all rest)) one in
     (λ found. absurd cc, λ some. absurd (cc (some, none)))
 met_exact more es sent next flow at e (Some kept) acted is h =
     let port = (acts flow.port e).port in

@@ -6,6 +6,17 @@ use Rattle.link_model.specs.EventsEqual.{found_same, same_back}
 use Rattle.link_wires.specs.Kept.{behind, behind_some, behind_all, IsSubsequence}
 use Rattle.link_wires.specs.Kept.IsSubsequence.{Ends, Takes, Skips}
 
+-- events behind others are looked for in what these leave
+pub behind_all-append : (xs ys sent : List Event)
+    → behind_all (xs ++ ys) sent ≡ behind_some (behind_all ys) (behind_all xs sent)
+behind_all-append [] ys sent = refl
+behind_all-append (x ∷ xs) ys sent =
+    elim (behind x sent) as (λ o. behind_some (behind_all (xs ++ ys)) o
+    ≡ behind_some (behind_all ys) (behind_some (behind_all xs) o)) [
+      | None ↦ refl
+      | Some rest ↦ behind_all-append xs ys rest
+    ]
+
 -- one more event is looked for in what is left
 pub all_then : (acted sent : List Event) (e : Event)
     → behind_all (acted ++ e ∷ []) sent ≡ behind_some (behind e) (behind_all acted sent)
