@@ -1,6 +1,7 @@
 -- Turns, deliveries and time-outs of a calm link act on nothing that was not sent, and leave it
 -- calm.
 use Rattle.std.proofs.Common.{◌≡◌, ℕ, ◌+◌, ◌++◌, ◌&&◌, Bool, true, false, if◌then◌else◌, List, [], ◌∷◌, map, length, take, drop, Some, refl, sym, ap, ◌∙◌, subst}
+use Rattle.std.proofs.lemmas.Bool.{and_parts}
 use Rattle.std.proofs.lemmas.List.{take-append-drop}
 use Rattle.link_model.specs.Prelude.{Char, Place, at_rest, run, place_after, said}
 use Rattle.link_model.proofs.PlacesLaws.{place_after-append}
@@ -199,18 +200,13 @@ takes_calm n s is calm =
 
 -- ---- time-outs
 
-empty_chars : (chars : List Char) → has_none chars ≡ true → chars ≡ []
+pub empty_chars : (chars : List Char) → has_none chars ≡ true → chars ≡ []
 empty_chars [] is = refl
 empty_chars (c ∷ chars) is = absurd cc
 
-both_parts : (x y : Bool) → (x && y) ≡ true → (x ≡ true) × (y ≡ true)
-both_parts true true is = (refl, refl)
-both_parts true false is = absurd cc
-both_parts false y is = absurd cc
-
 fires_calm : (s : LinkState) → is_silent s ≡ true → IsCalm s → IsCalm (first_fires s)
 fires_calm s silent calm =
-    let both = both_parts (has_none s.wire_a.chars) (has_none s.wire_b.chars) silent in
+    let both = and_parts (has_none s.wire_a.chars) (has_none s.wire_b.chars) silent in
     let none_a = empty_chars s.wire_a.chars both.0 in
     let none_b = empty_chars s.wire_b.chars both.1 in
     record {
@@ -223,7 +219,7 @@ fire_calm side s calm = by_test (is_silent s) refl side
   where
     round_silent : is_silent s ≡ true → is_silent (turned_round s) ≡ true
     round_silent is =
-        let both = both_parts (has_none s.wire_a.chars) (has_none s.wire_b.chars) is in
+        let both = and_parts (has_none s.wire_a.chars) (has_none s.wire_b.chars) is in
         (λ i. both.1 i && both.0 i)
 
     by_test : (b : Bool) → is_silent s ≡ b → (side : Side)
