@@ -49,12 +49,12 @@ one_stops {W} {grew} {cut} act before old new stopped = record {
 }
 
 -- by what became of the delivery
-through_is : (to : Side) (next : LinkState) (d : Delivered) (x : Edited) → Ok x ≡ taken_by to d
+pub through_is : (to : Side) (next : LinkState) (d : Delivered) (x : Edited) → Ok x ≡ taken_by to d
     → reached_by to next d ≡ At next
 through_is to next (Through flow) x is = refl
 through_is to next (Unsent told e) x is = absurd cc
 
-found_is : (to side : Side) (next : LinkState) (d : Delivered) (e : Event)
+pub found_is : (to side : Side) (next : LinkState) (d : Delivered) (e : Event)
     → Err (Undetected side e) ≡ taken_by to d → reached_by to next d ≡ Found side e
 found_is to side next (Through flow) e is = absurd cc
 found_is to side next (Unsent told x) e is =

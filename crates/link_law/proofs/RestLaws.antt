@@ -1,6 +1,7 @@
 -- A link that has nothing to do is left as it is: its ports send nothing, and it settles by
 -- nothing.
 use Rattle.std.proofs.Common.{◌≡◌, ◌&&◌, ◌||◌, ◌∙◌, ℕ, nat_lt, length, Bool, true, false, not, if◌then◌else◌, MatchBool, List, [], Option, Some, None, refl, sym, ap, subst}
+use Rattle.std.proofs.lemmas.Bool.{and_parts, not-true}
 use Rattle.link_buffers.specs.Priorities.{highest}
 use Rattle.link_model.specs.Output as out
 use Rattle.link_model.specs.Prelude.{window}
@@ -17,14 +18,6 @@ use Rattle.link_rest.proofs.Settled.{FromSending, FromTelling, FromRecovering}
 use Rattle.link_law.specs.Resting.{rest_both, none_waits, none_tells, are_idle, has_no_work}
 use Rattle.link_law.proofs.IdleTurns.{idle_pumped, idle_chars}
 
-both : (a b : Bool) → (a && b) ≡ true → (a ≡ true) × (b ≡ true)
-both true b is = (refl, is)
-both false b is = absurd cc
-
-neither : (a : Bool) → not a ≡ true → a ≡ false
-neither true is = absurd cc
-neither false is = refl
-
 -- what the test says of a link
 pub record IsIdle (s : LinkState) : Type 0 where
   pub silent : is_silent s ≡ true
@@ -37,20 +30,20 @@ pub record IsIdle (s : LinkState) : Type 0 where
 
 pub idle_by : (s : LinkState) → has_no_work s ≡ true → IsIdle s
 idle_by s is =
-    let parts = both (is_silent s) (are_idle s.a s.b) is in
-    let more = both (rest_both s.a s.b) (none_waits s.a s.b && none_tells s.a s.b) parts.1 in
-    let rest = both (rests_to s.a s.b) (rests_to s.b s.a) more.0 in
-    let last = both (none_waits s.a s.b) (none_tells s.a s.b) more.1 in
-    let none = both (not (waits s.a)) (not (waits s.b)) last.0 in
-    let quiet = both (not s.a.tells) (not s.b.tells) last.1 in
+    let parts = and_parts (is_silent s) (are_idle s.a s.b) is in
+    let more = and_parts (rest_both s.a s.b) (none_waits s.a s.b && none_tells s.a s.b) parts.1 in
+    let rest = and_parts (rests_to s.a s.b) (rests_to s.b s.a) more.0 in
+    let last = and_parts (none_waits s.a s.b) (none_tells s.a s.b) more.1 in
+    let none = and_parts (not (waits s.a)) (not (waits s.b)) last.0 in
+    let quiet = and_parts (not s.a.tells) (not s.b.tells) last.1 in
     record {
       silent = parts.0;
       rests_a = rest.0;
       rests_b = rest.1;
-      none_a = neither (waits s.a) none.0;
-      none_b = neither (waits s.b) none.1;
-      quiet_a = neither s.a.tells quiet.0;
-      quiet_b = neither s.b.tells quiet.1;
+      none_a = not-true (waits s.a) none.0;
+      none_b = not-true (waits s.b) none.1;
+      quiet_a = not-true s.a.tells quiet.0;
+      quiet_b = not-true s.b.tells quiet.1;
     }
 
 -- ---- turns
@@ -78,7 +71,7 @@ port_turns : (port far : PortState) → rests_to port far ≡ true → waits por
     → (turn_of port).sends ≡ out.unstarted port.tells
 port_turns port far rests none =
     done_sends port.tells port.output (highest (waiting_in port))
-    (both (is_done port.output) _ rests).0 none
+    (and_parts (is_done port.output) _ rests).0 none
 
 port_sends : (port far : PortState) → rests_to port far ≡ true → waits port ≡ false
     → port.tells ≡ false → (turn_sends port).sent ≡ []
@@ -117,7 +110,7 @@ held false P part = refl
 
 module _ (s : LinkState) (idle : IsIdle s) where
   pub wires_empty : (has_none s.wire_a.chars ≡ true) × (has_none s.wire_b.chars ≡ true)
-  wires_empty = both (has_none s.wire_a.chars) (has_none s.wire_b.chars) idle.silent
+  wires_empty = and_parts (has_none s.wire_a.chars) (has_none s.wire_b.chars) idle.silent
 
   not_busy : is_busy (At s) ≡ false
   not_busy =
@@ -149,7 +142,7 @@ module _ (s : LinkState) (idle : IsIdle s) where
   restarts side =
       skipped (is_retry_stopped (from_end side s).a.output) _
       (done_is_ok (from_end side s).a.output
-      (both (is_done (from_end side s).a.output) _ (end_rests side)).0)
+      (and_parts (is_done (from_end side s).a.output) _ (end_rests side)).0)
 
   requests : (side : Side) → Requests side (At s) []
   requests side = skipped (not (first_rests (from_end side s))) _ (ap not (end_rests side))

@@ -63,7 +63,7 @@ impl WirePair {
         ensures sent { OnOk result (sent.new.items
             ≡ (bursts turns (from_end from (link self.old a.old b.old)).a).chars) }
     {
-        // Most ports have nothing to send, and a burst is dear to make.
+        // Most ports have nothing to send: they take no turn.
         if has_no_turn(near(from, a, b)) {
             sent.clear();
             return Ok(());
