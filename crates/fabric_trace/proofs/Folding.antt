@@ -6,11 +6,11 @@ use Rattle.link_model.specs.declared.event.Event.{Event}
 use Rattle.link_model.specs.Places.{run}
 use Rattle.link_watch.specs.declared.note.Note.{Note}
 use Rattle.link_watch.specs.declared.side.Side.{Side}
-use Rattle.link_wires.specs.Kept.{behind, behind_some, behind_all}
+use Rattle.link_wires.specs.Kept.{behind_some, behind_all}
 use Rattle.link_wires.specs.declared.edits.Edit.{Edit}
 use Rattle.link_wires.specs.declared.moves.Move.{Move}
 use Rattle.link_wires.specs.declared.moves.Move.TheVariants.{Held, Freed}
-use Rattle.link_wires.proofs.KeptLaws.{all-more}
+use Rattle.link_wires.proofs.KeptLaws.{all-more, behind_all-append}
 use Rattle.link_machine.specs.Calls.{sent_notes, move_note}
 use Rattle.link_machine.specs.Queues as link
 use Rattle.fabric_script.specs.declared.ports.PortRef.{PortRef}
@@ -122,31 +122,13 @@ unfolding sent_kept
 kept_more wire chars k = kept_is (wire_sent wire chars) (sent_kept wire chars k)
     ∙ ap (λ (l : List Event). l ++ says chars) (sym (kept_is wire k))
 
-some_on : (first : Option (List Event)) (f g : List Event → Option (List Event))
-    → ((l : List Event) → f l ≡ g l) → behind_some f first ≡ behind_some g first
-some_on None f g same = refl
-some_on (Some l) f g same = same l
-
-some_both : (found : Option (List Event)) (xs ys : List Event)
-    → behind_some (λ l. behind_some (behind_all ys) (behind_all xs l)) found
-    ≡ behind_some (behind_all ys) (behind_some (behind_all xs) found)
-some_both None xs ys = refl
-some_both (Some l) xs ys = refl
-
-pub all_both : (xs ys sent : List Event) → behind_all (xs ++ ys) sent
-    ≡ behind_some (behind_all ys) (behind_all xs sent)
-all_both [] ys sent = refl
-all_both (x ∷ xs) ys sent = some_on (behind x sent) (behind_all (xs ++ ys))
-    (λ l. behind_some (behind_all ys) (behind_all xs l)) (all_both xs ys)
-    ∙ some_both (behind x sent) xs ys
-
 -- more was acted on
 pub acted_kept : (wire : Wire) (chars : List Char) (acted left : List Event) (k : IsKept wire)
     → behind_all acted (kept_of wire) ≡ Some left
     → IsKept (record { chars = chars; sent = wire.sent; acted = wire.acted ++ acted })
 acted_kept wire chars acted left k is = record {
   left = left;
-  found = all_both wire.acted acted wire.sent ∙ ap (behind_some (behind_all acted)) k.found
+  found = behind_all-append wire.acted acted wire.sent ∙ ap (behind_some (behind_all acted)) k.found
       ∙ ap (behind_all acted) (sym (kept_is wire k)) ∙ is;
 }
 

@@ -29,6 +29,7 @@ use Rattle.link_port.specs.Answers.{IsReply}
 use Rattle.link_rest.specs.Led.{AreAnswers}
 use Rattle.link_rest.proofs.AnswerLaws.{IsNarrow, port_narrow, acts_narrow, AreAnswers-append}
 use Rattle.link_rest.proofs.Bursting.{turns_read, tell_read}
+use Rattle.link_rest.proofs.Calming.{empty_chars}
 use Rattle.link_sound.proofs.PortBounds.{turn_port}
 use Rattle.link_watch.specs.declared.note.Note.TheVariants as Notes
 use Rattle.link_watch.specs.declared.side.Side.{Side}
@@ -333,10 +334,6 @@ delivery_owned s p q n is has =
           (controls_there t.network q told.replies))),
     )
 
-none_chars : (chars : List Char) → has_none chars ≡ true → chars ≡ []
-none_chars [] is = refl
-none_chars (c ∷ chars) is = absurd cc
-
 fires_owned : (s : Seen) (p q : PortRef) → peer_of s p ≡ Some q → is_silent (link_at s p q) ≡ true
     → AreOwned s (lines_of p q (time_out_notes A (link_at s p q)))
 fires_owned s p q peer silent =
@@ -347,8 +344,8 @@ fires_owned s p q peer silent =
       record {
         peer = q;
         peer_is = peer;
-        near = none_chars (s.wires p).chars both.0;
-        far = none_chars (s.wires q).chars both.1;
+        near = empty_chars (s.wires p).chars both.0;
+        far = empty_chars (s.wires q).chars both.1;
       },
       tt,
     )
