@@ -1,9 +1,7 @@
-use Rattle.std.proofs.Common.{◌≡◌, [], Bool, true, false, Some, sym, ◌∙◌}
+use Rattle.std.proofs.Common.{[], Some, sym, ◌∙◌}
+use Rattle.std.proofs.lemmas.Bool.{both_ways}
 use Rattle.fabric_maint.proofs.Owned.{own_device, read_answer, read_registers, done_answer, failed_answer, written_registers, written_whole, written_follows}
 use Rattle.fabric_maint.proofs.maint.FabricMaintMaint.own.Goals as goal
-
-not_both : (b : Bool) → b ≡ false → b ≡ true → ⊥
-not_both b first second = let bad : false ≡ true = sym first ∙ second in absurd cc
 
 pub returns-in-Some-clause-answer : goal.returns-in-Some-clause-answer
 returns-in-Some-clause-answer g c =
@@ -69,7 +67,7 @@ returns-else-register_write-clause-answer g c =
     c.requires.whole.rests.can.stands own.stands in
     failed_answer c.args.self.now c.requires.whole c.args.access c.in-Write.offset
     c.in-Write.value c.in-Write.is
-    (λ some. absurd (not_both _ c.if-register_write.false (wrote.exact.1 some)))
+    (λ some. absurd (both_ways _ c.if-register_write.false (wrote.exact.1 some)))
 
 pub returns-else-register_write-clause-registers :
     goal.returns-else-register_write-clause-registers
