@@ -15,7 +15,7 @@ use Rattle.link_model.proofs.ReadingSpeltLaws.{kind-data}
 use Rattle.link_model.proofs.ReadingSteps.{below}
 use Rattle.rio_framer.specs.Framing.{Framing, framing_at, framing_after, ended_of}
 use Rattle.rio_framer.specs.Giving.{told_of}
-use Rattle.rio_framer.specs.Parts.{later, IsPart, StartsWithSymbol, Takes, with_bytes}
+use Rattle.rio_framer.specs.Parts.{later, IsPart, StartsWithSymbol, TakesBytes, with_bytes}
 use Rattle.rio_framer.specs.declared.events.Told.{Told}
 use Rattle.rio_framer.specs.declared.events.Told.TheVariants as told
 use Rattle.rio_framer.proofs.GivingLaws.{quiet-step}
@@ -138,7 +138,7 @@ part-data bytes xs chars to most some is stands =
     }
 
 pub part-run : (t : Text) (p : Pending) (n : ℕ) (xs : List ℕ) (chars : List Char) (to : Framing)
-    → 0 < n → Takes t p n → length xs ≡ n → chars ≡ data_chars xs ++ drop n chars
+    → 0 < n → TakesBytes t p n → length xs ≡ n → chars ≡ data_chars xs ++ drop n chars
     → to ≡ framing_at (place (with_bytes t xs) Nothing) → IsPart (place t p) chars n told.Nothing to
 part-run (Within bytes) Nothing n xs chars to some takes many is stands =
     subst (λ (m : ℕ). IsPart (place (Within bytes) Nothing) chars m told.Nothing to) many
@@ -151,13 +151,14 @@ part-run Plain p n xs chars to some takes many is stands = absurd takes
 part-run Skipped p n xs chars to some takes many is stands = absurd takes
 
 -- where some bytes fit, fewer do
-pub Takes-fewer : (t : Text) (p : Pending) (m n : ℕ) → Takes t p n → m ≤ n → Takes t p m
-Takes-fewer (Within bytes) Nothing m n takes fewer = omega arith
-Takes-fewer (Within bytes) (Opened d) m n takes fewer = takes
-Takes-fewer (Within bytes) (One d x) m n takes fewer = takes
-Takes-fewer (Within bytes) (Two d x y) m n takes fewer = takes
-Takes-fewer Plain p m n takes fewer = takes
-Takes-fewer Skipped p m n takes fewer = takes
+pub TakesBytes-fewer : (t : Text) (p : Pending) (m n : ℕ) → TakesBytes t p n → m ≤ n
+    → TakesBytes t p m
+TakesBytes-fewer (Within bytes) Nothing m n takes fewer = omega arith
+TakesBytes-fewer (Within bytes) (Opened d) m n takes fewer = takes
+TakesBytes-fewer (Within bytes) (One d x) m n takes fewer = takes
+TakesBytes-fewer (Within bytes) (Two d x y) m n takes fewer = takes
+TakesBytes-fewer Plain p m n takes fewer = takes
+TakesBytes-fewer Skipped p m n takes fewer = takes
 
 -- ---- a symbol
 

@@ -28,13 +28,13 @@ pub record IsPart (from : Place) (chars : List Char) (count : ℕ) (outcome : To
       × (to ≡ framing_after (telling_front from chars).step)
 
 -- so many bytes fit into the packet in progress, and no symbol is in progress
-abbrev pub Takes : Text → Pending → ℕ → Type 0
-Takes (Within bytes) Nothing n = length bytes + n ≤ 276
-Takes (Within bytes) (Opened d) n = ⊥
-Takes (Within bytes) (One d x) n = ⊥
-Takes (Within bytes) (Two d x y) n = ⊥
-Takes Plain pending n = ⊥
-Takes Skipped pending n = ⊥
+abbrev pub TakesBytes : Text → Pending → ℕ → Type 0
+TakesBytes (Within bytes) Nothing n = length bytes + n ≤ 276
+TakesBytes (Within bytes) (Opened d) n = ⊥
+TakesBytes (Within bytes) (One d x) n = ⊥
+TakesBytes (Within bytes) (Two d x y) n = ⊥
+TakesBytes Plain pending n = ⊥
+TakesBytes Skipped pending n = ⊥
 
 -- the text with bytes more of the packet in progress
 abbrev pub with_bytes : Text → List ℕ → Text

@@ -19,7 +19,7 @@ impl Framer {
     ghost use Rattle.link_model.specs.Fronts.{telling_front};
     ghost use Rattle.rio_framer.specs.Framing.{framing_at, framing_after};
     ghost use Rattle.rio_framer.specs.Giving.{listed, events_of, told_of, IsPaired};
-    ghost use Rattle.rio_framer.specs.Parts.{IsPart, Takes, with_bytes};
+    ghost use Rattle.rio_framer.specs.Parts.{IsPart, TakesBytes, with_bytes};
 
     /// Takes characters up to and with the first that tells an event, or all where none does, and
     /// answers their number and what the last of them tells. A packet that it ended stays where it
@@ -89,7 +89,7 @@ impl Framer {
     /// How many data characters the packet in progress takes, none where there is none.
     fn room(&self) -> usize
         ensures most { result ≤ 276 }
-        ensures takes { 0 < result → Takes self.now.place.text self.now.place.pending result }
+        ensures takes { 0 < result → TakesBytes self.now.place.text self.now.place.pending result }
     {
         match (self.mode, self.pending) {
             (Mode::InPacket, Pending::Nothing) if !self.ended => {
@@ -105,7 +105,7 @@ impl Framer {
         requires ended { self.old.ended ≡ None }
         requires some { 0 < room }
         requires most { room ≤ 276 }
-        requires takes { Takes self.old.place.text self.old.place.pending room }
+        requires takes { TakesBytes self.old.place.text self.old.place.pending room }
         requires starts { StartsWithData 8 chars.now }
         ensures { IsPart self.old.place chars.now result Told.Nothing self.new }
     {
@@ -118,7 +118,7 @@ impl Framer {
     /// Bytes of a packet.
     fn add_bytes(&mut self, bytes: &[u8])
         requires ended { self.old.ended ≡ None }
-        requires takes { Takes self.old.place.text self.old.place.pending (length bytes.now) }
+        requires takes { TakesBytes self.old.place.text self.old.place.pending (length bytes.now) }
         ensures { self.new
             ≡ framing_at (place_of (with_bytes self.old.place.text bytes.now) Pending.Nothing) }
     {
