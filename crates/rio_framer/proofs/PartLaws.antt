@@ -150,7 +150,7 @@ part-run (Within bytes) (Two d x y) n xs chars to some takes many is stands = ab
 part-run Plain p n xs chars to some takes many is stands = absurd takes
 part-run Skipped p n xs chars to some takes many is stands = absurd takes
 
--- where some bytes fit, fewer do
+-- if some bytes fit, so do fewer
 pub TakesBytes-fewer : (t : Text) (p : Pending) (m n : ℕ) → TakesBytes t p n → m ≤ n
     → TakesBytes t p m
 TakesBytes-fewer (Within bytes) Nothing m n takes fewer = omega arith

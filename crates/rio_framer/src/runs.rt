@@ -86,7 +86,7 @@ impl Framer {
         (1, told)
     }
 
-    /// How many data characters the packet in progress takes, none where there is none.
+    /// How many data characters the packet in progress takes: none if there is none.
     fn room(&self) -> usize
         ensures most { result ≤ 276 }
         ensures takes { 0 < result → TakesBytes self.now.place.text self.now.place.pending result }
