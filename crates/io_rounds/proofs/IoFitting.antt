@@ -1,18 +1,9 @@
 -- Each line of a script of reads and writes may be carried out.
-use Rattle.std.proofs.Common.{◌≡◌, ℕ, ◌+◌, ◌%◌, ◌<◌, zero, suc, false, List, [], ◌∷◌, ◌++◌, All, Some, map, length, length-append, append-nil, refl, sym, ap, ◌∙◌, subst, arith}
+use Rattle.std.proofs.Common.{◌≡◌, ℕ, ◌+◌, ◌%◌, suc, false, List, [], ◌∷◌, All, length, sym, ap, ◌∙◌, subst}
 use Rattle.std.proofs.lemmas.Bool.{eqb-true, not-true}
-use Rattle.std.proofs.lemmas.List.{map-append}
 use Rattle.std.proofs.lemmas.List.Elements.{All-cons, All-nil}
-use Rattle.std.proofs.lemmas.Option.{slice_get-map}
-use Rattle.std.specs.List.{slice_get}
-use Rattle.std.specs.Prelude.{option_map}
-use Rattle.maint_registers.specs.Devices.{is_switch as is_switch_device}
-use Rattle.fabric_script.specs.declared.known.Node.{Node}
-use Rattle.fabric_script.specs.declared.known.Node.TheVariants.{Endpoint as EndpointNode, Switch as SwitchNode}
-use Rattle.fabric_script.specs.declared.lines.Line.{Line}
-use Rattle.fabric_script.specs.declared.lines.Line.TheVariants.{Endpoint, Switch}
 use Rattle.fabric_script.specs.declared.lines.Numbered.{Numbered}
-use Rattle.fabric_script.specs.Known.{Known, is_switch, known_after, names_after, node_is_switch, nodes_after, nothing_in, of_set_up}
+use Rattle.fabric_script.specs.Known.{Known, is_switch, known_after, nothing_in, of_set_up}
 use Rattle.fabric_script.specs.Lines.{is_event}
 use Rattle.fabric_script.specs.Reading.{new_name_in}
 use Rattle.fabric_script.specs.Scripts.{is_skipped, KeptThen, pieces_of, SpellsFrom}
@@ -20,10 +11,10 @@ use Rattle.fabric_script.specs.SetUps.{NoEvents}
 use Rattle.fabric_script.specs.Texts.{AtNode}
 use Rattle.fabric_script.proofs.ScriptLaws.{Passes-from_script}
 use Rattle.fabric_script.proofs.SetUpLaws.{set_up_passes}
-use Rattle.fabric_model.specs.Network.{IsEndpoint, Network}
+use Rattle.fabric_model.specs.Network.{Network}
 use Rattle.fabric_trace.specs.Runs.{bare, set_up, set_up_all, start}
 use Rattle.fabric_trace.proofs.Rounds.{by_test}
-use Rattle.fabric_trace.proofs.SettingUp.{made_by, set_up-kinds}
+use Rattle.fabric_trace.proofs.KnownNetworks.{KnowsNetwork, endpoint_at, knows-after, knows_bare}
 use Rattle.script_input.specs.Inputs.{set_up_bytes}
 use Rattle.io_script.specs.declared.lines.IoLine.{IoLine}
 use Rattle.io_script.specs.declared.lines.IoLine.TheVariants.{Memory, NRead, NWrite, NWriteR, SWrite, Round}
@@ -32,49 +23,18 @@ use Rattle.io_script.specs.IoForms.{AnEndpoint, io_fields_of}
 use Rattle.io_script.specs.IoLines.{io_form_of, io_values_of}
 use Rattle.io_script.specs.IoReading.{Earlier, earlier_with, no_lines}
 use Rattle.io_script.specs.IoScripts.{first_behind, IsIoScript, SpellIoFrom}
-use Rattle.io_script.specs.IoTaking.{switches_among}
 use Rattle.io_script.specs.IoWords.{FitIoAll, FitsIo}
 use Rattle.io_script.proofs.IoOnce.{KeptIo}
 use Rattle.io_rounds.specs.Drives.{IsIoFit, IsStation, MayCarry}
 
--- ---- what is known of the nodes, and the network that the lines set up
-
--- each node has a name, and is a switch of the network if it is known to be one
-record KnowsNodes (known : Known) (net : Network) : Type 0 where
-  as_many : length known.nodes ≡ length known.names
-  kinds : map is_switch_device net.registers ≡ switches_among known.nodes
-
-as_many_more : (nodes : List Node) (names : List (List ℕ)) (new : List ℕ) (line : Line)
-    → length nodes ≡ length names
-    → length (nodes_after nodes line) ≡ length (names_after names new line)
-as_many_more nodes names new (Endpoint name id) same =
-    omega (arith, same, length-append nodes (EndpointNode id ∷ []), length-append names (new ∷ []))
-as_many_more nodes names new (Switch name ports) same =
-    omega (arith, same, length-append nodes (SwitchNode ports ∷ []), length-append names (new ∷ []))
-as_many_more nodes names new _ same = same
-
-kinds_made : (nodes : List Node) (line : Line)
-    → switches_among nodes ++ map is_switch_device (made_by line)
-    ≡ switches_among (nodes_after nodes line)
-kinds_made nodes (Endpoint name id) = sym (map-append _ nodes _)
-kinds_made nodes (Switch name ports) = sym (map-append _ nodes _)
-kinds_made nodes _ = append-nil (switches_among nodes)
-
-knows_more : (known : Known) (net : Network) (new : List ℕ) (line : Line)
-    → KnowsNodes known net → KnowsNodes (known_after known new line) (set_up net line)
-knows_more known net new line knows = record {
-  as_many = as_many_more known.nodes known.names new line knows.as_many;
-  kinds = set_up-kinds net line
-      ∙ ap (λ kinds. kinds ++ map is_switch_device (made_by line)) knows.kinds
-      ∙ kinds_made known.nodes line;
-}
+-- ---- what is known of the network that the lines set up
 
 knows_all : (number : ℕ) (known : Known) (net : Network) (texts : List (List ℕ))
-    (lines : List Numbered) (end : Known) → KnowsNodes known net
-    → SpellsFrom number known texts lines end → KnowsNodes end (set_up_all net lines)
+    (lines : List Numbered) (end : Known) → KnowsNetwork known net
+    → SpellsFrom number known texts lines end → KnowsNetwork end (set_up_all net lines)
 knows_all number known net [] lines end knows spelled =
-    subst (λ l. KnowsNodes end (set_up_all net l)) (sym spelled.0)
-    (subst (λ k. KnowsNodes k net) (sym spelled.1) knows)
+    subst (λ l. KnowsNetwork end (set_up_all net l)) (sym spelled.0)
+    (subst (λ k. KnowsNetwork k net) (sym spelled.1) knows)
 knows_all number known net (text ∷ texts) lines end knows spelled =
     by_test {P = SpellsFrom (suc number) known texts lines end}
     {Q = KeptThen (λ next rest. SpellsFrom (suc number) next texts rest end) number known text
@@ -82,37 +42,22 @@ knows_all number known net (text ∷ texts) lines end knows spelled =
     (λ skips. knows_all (suc number) known net texts lines end knows skips)
     (λ keeps.
     let new = new_name_in text keeps.0 in
-    subst (λ l. KnowsNodes end (set_up_all net l)) (sym keeps.2)
+    subst (λ l. KnowsNetwork end (set_up_all net l)) (sym keeps.2)
     (knows_all (suc number) (known_after known new keeps.0) (set_up net keeps.0) texts keeps.1 end
-    (knows_more known net new keeps.0 knows) keeps.4))
+    (knows-after known new net keeps.0 knows) keeps.4))
     spelled
 
 -- ---- a node that is known to be no switch
 
-endpoint_known : (nodes : List Node) (n : ℕ) → n < length nodes → is_switch nodes n ≡ false
-    → option_map (λ node. node_is_switch (Some node)) (slice_get nodes n) ≡ Some false
-endpoint_known [] n within own = absurd (omega (arith, within))
-endpoint_known (node ∷ nodes) zero within own = ap Some own
-endpoint_known (node ∷ nodes) (suc n) within own =
-    endpoint_known nodes n (omega (arith, within)) own
-
-station_is : (known : Known) (net : Network) (n : ℕ) → KnowsNodes known net
+station_is : (known : Known) (net : Network) (n : ℕ) → KnowsNetwork known net
     → FitsIo known AnEndpoint (AtNode n) → IsStation known.names net n
 station_is known net n knows fit =
-    let same = knows.as_many in
-    let within = fit.0 in
-    let own = not-true (is_switch known.nodes n) fit.1 in
-    let is : IsEndpoint net n =
-    sym (slice_get-map is_switch_device net.registers n)
-    ∙ ap (λ kinds. slice_get kinds n) knows.kinds
-    ∙ slice_get-map (λ node. node_is_switch (Some node)) known.nodes n
-    ∙ endpoint_known known.nodes n (omega (arith, within, same)) own in
-    (within, is)
+    (fit.0, endpoint_at known net n knows fit.0 (not-true (is_switch known.nodes n) fit.1))
 
 -- ---- the lines behind the set-up lines
 
 -- a line whose words may be said may be carried out
-fits_carry : (known : Known) (net : Network) (line : IoLine) → KnowsNodes known net
+fits_carry : (known : Known) (net : Network) (line : IoLine) → KnowsNetwork known net
     → FitIoAll known (io_fields_of (io_form_of line)) (io_values_of line)
     → MayCarry known.names net line
 fits_carry known net (Memory node bytes) knows fit = station_is known net node knows fit.0
@@ -131,7 +76,7 @@ abbrev MayCarryAll : List (List ℕ) → Network → List NumberedIo → Type 0
 MayCarryAll names net lines = All (λ line. MayCarry names net line.io) lines
 
 spelled_carry : (number : ℕ) (known : Known) (net : Network) (earlier : Earlier)
-    (texts : List (List ℕ)) (lines : List NumberedIo) → KnowsNodes known net
+    (texts : List (List ℕ)) (lines : List NumberedIo) → KnowsNetwork known net
     → SpellIoFrom number known earlier texts lines → MayCarryAll known.names net lines
 spelled_carry number known net earlier [] lines knows spelled =
     subst (MayCarryAll known.names net) (sym spelled)
@@ -166,13 +111,12 @@ script_fits bytes names lines io script =
     let named : end.names ≡ names =
     ap (λ (k : Known). k.names) (sym accepted.known_is) ∙ script.named in
     let net = (start lines).network in
-    let begun : KnowsNodes (nothing_in of_set_up) bare = record { as_many = refl; kinds = refl } in
-    let at_end : KnowsNodes end net =
-    knows_all 1 (nothing_in of_set_up) bare (pieces_of (set_up_bytes bytes)) lines end begun
-    accepted.spelled in
-    let knows : KnowsNodes script.known net =
-    subst (λ k. KnowsNodes k net) (sym accepted.known_is)
-    (record { as_many = at_end.as_many; kinds = at_end.kinds }) in
+    let at_end : KnowsNetwork end net =
+    knows_all 1 (nothing_in of_set_up) bare (pieces_of (set_up_bytes bytes)) lines end
+    (knows_bare of_set_up) accepted.spelled in
+    let knows : KnowsNetwork script.known net =
+    subst (λ k. KnowsNetwork k net) (sym accepted.known_is)
+    (record { linked = at_end.linked; count = at_end.count; kinds = at_end.kinds }) in
     let passes = set_up_passes names lines (Passes-from_script of_set_up (set_up_bytes bytes) names
     lines (end, named, accepted.spelled)) in
     record {
