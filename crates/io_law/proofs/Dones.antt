@@ -9,7 +9,7 @@ use Rattle.fabric_script.specs.declared.lines.Line.{Line}
 use Rattle.fabric_script.specs.declared.lines.Numbered.{Numbered}
 use Rattle.fabric_model.specs.Network.{Item}
 use Rattle.fabric_model.specs.Laws.History.{taken_by, taken, gone}
-use Rattle.fabric_model.proofs.Boards.{all-append, all_weaker}
+use Rattle.fabric_model.proofs.Lists.{all-append, all_weaker}
 use Rattle.fabric_trace.specs.Fold.{seen}
 use Rattle.fabric_trace.specs.Lines.{steps_of}
 use Rattle.fabric_trace.specs.Runs.{start}

@@ -14,7 +14,7 @@ use Rattle.fabric_model.specs.Laws.Tables.{is_answer}
 use Rattle.fabric_model.proofs.Flows.{in_order_of_course}
 use Rattle.fabric_model.proofs.Holding.{how_often-append, holding_exactly}
 use Rattle.fabric_model.proofs.Joining.{legal_parts}
-use Rattle.fabric_model.proofs.Boards.{all-parts}
+use Rattle.fabric_model.proofs.Lists.{all-parts}
 use Rattle.fabric_model.proofs.Room.{at_most_first}
 use Rattle.io_law.specs.Laws.{ComesBefore}
 use Rattle.io_law.proofs.Places.{slice_get-append, slice_get-front, get_below, find_number, find_step}

@@ -10,7 +10,7 @@ use Rattle.fabric_script.specs.declared.lines.Line.TheVariants.{Send}
 use Rattle.fabric_script.specs.declared.lines.Numbered.{Numbered}
 use Rattle.fabric_model.specs.Network.{Item, port_of, room_out}
 use Rattle.fabric_model.specs.Steps.{Take as Takes, AtNode}
-use Rattle.fabric_model.proofs.Boards.{all-append}
+use Rattle.fabric_model.proofs.Lists.{all-append}
 use Rattle.fabric_model.specs.Laws.History.{taken, gone}
 use Rattle.fabric_trace.specs.Blocks.{IsBlock}
 use Rattle.fabric_trace.specs.Fold.{seen}

@@ -16,7 +16,7 @@ use Rattle.fabric_model.specs.Steps.{Hold, Free, Take as Takes, Leave, Move, Dro
 use Rattle.fabric_model.specs.Laws.Flows.{RoutesStand}
 use Rattle.fabric_model.specs.Laws.History.{IsEmptyNetwork}
 use Rattle.fabric_model.specs.Laws.Tables.{is_answer}
-use Rattle.fabric_model.proofs.Boards.{all-append}
+use Rattle.fabric_model.proofs.Lists.{all-append}
 use Rattle.fabric_model.proofs.Tables.{registers_stay}
 
 -- ---- networks without maintenance packets

@@ -10,7 +10,7 @@ use Rattle.fabric_model.specs.Network.{Item}
 use Rattle.fabric_model.specs.Laws.History.{taken_by, taken, gone, WasTaken}
 use Rattle.fabric_model.specs.Laws.Leaving.{IsAfterMoves, moves}
 use Rattle.fabric_model.specs.Laws.Holding.{how_often}
-use Rattle.fabric_model.proofs.Boards.{all-append, all_weaker}
+use Rattle.fabric_model.proofs.Lists.{all-append, all_weaker}
 use Rattle.fabric_model.proofs.Holding.{how_often-append}
 use Rattle.fabric_trace.specs.Lines.{steps_of}
 use Rattle.fabric_trace.specs.Runs.{start, set_up_all, bare}

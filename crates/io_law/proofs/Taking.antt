@@ -12,7 +12,7 @@ use Rattle.fabric_script.specs.declared.lines.Numbered.{Numbered}
 use Rattle.fabric_model.specs.Network.{Network, port_of, id_of, room_out}
 use Rattle.fabric_model.specs.Steps.{Take as Takes, Leave, Move, Drop, Answer, Linked, AtNode, ByDevice, after}
 use Rattle.fabric_model.specs.Laws.History.{Left, ended_by, taken, gone}
-use Rattle.fabric_model.proofs.Boards.{all-append}
+use Rattle.fabric_model.proofs.Lists.{all-append}
 use Rattle.fabric_trace.specs.Blocks.{IsBlock}
 use Rattle.fabric_trace.specs.Fold.{seen}
 use Rattle.fabric_trace.specs.Known.{Seen}

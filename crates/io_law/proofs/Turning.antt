@@ -13,7 +13,7 @@ use Rattle.fabric_model.specs.Steps.{Take as Takes, AtNode}
 use Rattle.fabric_model.specs.Laws.Flows.{SameCourse}
 use Rattle.fabric_model.specs.Laws.History.{Left, taken, gone, WasTaken}
 use Rattle.fabric_model.specs.Laws.Holding.{Over}
-use Rattle.fabric_model.proofs.Boards.{all-append, all_weaker}
+use Rattle.fabric_model.proofs.Lists.{all-append, all_weaker}
 use Rattle.fabric_trace.specs.Blocks.{IsBlock}
 use Rattle.fabric_trace.specs.Fold.{seen}
 use Rattle.fabric_trace.specs.Known.{Seen}
