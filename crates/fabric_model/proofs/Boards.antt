@@ -15,7 +15,6 @@ use Rattle.fabric_model.specs.Laws.History.{End, Left, Dropped, Answered, same_e
 use Rattle.fabric_model.specs.Laws.Holding.{Place, Received, Waiting, Over, same_place, items_at}
 use Rattle.fabric_model.proofs.Peers.{port_is}
 use Rattle.fabric_model.proofs.Moving.{moves_on, named_goes, sent_by}
-pub use Rattle.fabric_model.proofs.Lists.{all-append, all-parts, all_weaker}
 
 end_is : (e f : End) → same_end e f ≡ true → e ≡ f
 end_is Left Left same = refl
