@@ -36,7 +36,8 @@ first_end : (a b : PortRef) → is_end a b a ≡ true
 first_end a b = ap (λ x. x || same_port a b) (same_port-refl a)
 
 second_end : (a b : PortRef) → is_end a b b ≡ true
-second_end a b = ap (λ x. same_port b a || x) (same_port-refl b) ∙ or_right (same_port b a) true refl
+second_end a b = ap (λ x. same_port b a || x) (same_port-refl b)
+    ∙ or_right (same_port b a) true refl
 
 end_is : (a b : PortRef) (side : Side) → is_end a b (port_at_side a b side) ≡ true
 end_is a b A = first_end a b

@@ -182,7 +182,8 @@ returns-in_default-clause-longer g c =
 
 pub returns-in_default-kind-clause-looked : goal.returns-in_default-kind-clause-looked
 returns-in_default-kind-clause-looked g c =
-    endpoint_looked (set_here g (goal.at.returns-in_default-kind-clause-looked g c).After-onward-path)
+    endpoint_looked
+    (set_here g (goal.at.returns-in_default-kind-clause-looked g c).After-onward-path)
     (g.M.Maint.registers c.meet.new.maint) c.meet.new.numbering.devices.items
     c.meet.new.numbering.next_id c.in_ok-kind.field-0 c.in_ok-kind.ensures.tried
     c.in_ok-kind.ensures.opened c.in-Some.kind c.in_default-kind.field-0 c.in-Some.is
