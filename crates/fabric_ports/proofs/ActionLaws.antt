@@ -1,5 +1,5 @@
 -- What a fabric shows after an event at a link, by what the call between two ports says.
-use Rattle.std.proofs.Common.{◌≡◌, ℕ, Option, List, length, Result, Ok, Err, IfOk, slice_get, slice_set, slice_index_or, Some, refl, sym, ap, ◌∙◌, subst}
+use Rattle.std.proofs.Common.{◌≡◌, ℕ, true, Option, List, [], length, Result, Ok, Err, IfOk, slice_get, slice_set, slice_index_or, Some, refl, sym, ap, ◌∙◌, subst, append-nil}
 use Rattle.std.proofs.lemmas.List.{with_items_is, length-set}
 use Rattle.std.specs.Vec.{with_item, with_items}
 use Rattle.rio_chars.specs.Written.{Writes}
@@ -26,6 +26,7 @@ use Rattle.fabric_ports.specs.Standing.{Stands}
 use Rattle.fabric_ports.specs.declared.actions.Acted.{Acted}
 use Rattle.fabric_ports.specs.declared.actions.Action.{Action}
 use Rattle.fabric_ports.specs.declared.answers.EventEnd.{EventEnd}
+use Rattle.fabric_ports.specs.declared.answers.EventEnd.TheVariants as EventEnds
 use Rattle.fabric_ports.specs.declared.ends.LinkPlace.{LinkPlace}
 use Rattle.fabric_ports.specs.declared.fabric.Cable.{Cable}
 use Rattle.fabric_ports.specs.declared.fabric.Fabric.{Fabric}
@@ -196,3 +197,20 @@ pub written_by : {K : Type 0} {written : K → Option (List ℕ)} {faults : K �
     → Writes written faults old next text
 written_by {K} {written} {faults} {old} {new} {text} next same writes =
     subst (λ o. Writes written faults old o text) (sym same) writes
+
+-- it was told whole, but a write failed
+pub failed_behind : {K : Type 0} {written : K → Option (List ℕ)} {faults : K → ℕ} {line : Line}
+    {names : List (List ℕ)} {old new : Outbox K} {from : Seen} {lines : List TraceLine}
+    {fabric : Fabric} → Blocked line names written faults old new from lines fabric
+    → new.failed ≡ true → BlockEnds line names written faults old new from lines EventEnds.Failed
+failed_behind all failed = (
+  record {
+    block = all.block;
+    front = all.block;
+    rest = [];
+    prints = all.prints;
+    is = all.is;
+    whole = sym (append-nil all.block);
+  },
+  failed,
+)

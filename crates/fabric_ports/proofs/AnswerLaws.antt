@@ -1,5 +1,5 @@
 -- What is said of an ask by what was told of it.
-use Rattle.std.proofs.Common.{◌≡◌, ℕ, ◌<◌, List, [], ◌∷◌, ◌++◌, Option, Some, None, Result, Ok, Err, IfOk, IfErr, refl, sym, ap, ◌∙◌, subst, append_assoc}
+use Rattle.std.proofs.Common.{◌≡◌, ℕ, ◌<◌, List, [], ◌∷◌, ◌++◌, Option, Some, None, Result, Ok, Err, IfOk, IfErr, refl, sym, ap, ◌∙◌, subst, append-nil, append_assoc}
 use Rattle.std.proofs.lemmas.Grind.{flat_map-append}
 use Rattle.std.proofs.lemmas.List.{same_from_push}
 use Rattle.std.specs.Io.KnownBytes.{Appends}
@@ -36,7 +36,7 @@ use Rattle.fabric_ask.proofs.Laying.{laid_heard}
 use Rattle.fabric_ask.proofs.Uncollected.{nothing_answers, answers-append}
 use Rattle.fabric_ports.specs.Asking.{CanAsk, Returns, Replied, AskEnds, Unwritten}
 use Rattle.fabric_ports.specs.Fetching.{NoneLeaves, AskLeaves, response_or_end, response_in, answer_to}
-use Rattle.fabric_ports.specs.Ran.{Ran, RanEnds}
+use Rattle.fabric_ports.specs.Ran.{Ran, RanShort, RanEnds}
 use Rattle.fabric_ports.specs.declared.answers.EventEnd.{EventEnd}
 use Rattle.fabric_ports.specs.declared.answers.EventEnd.TheVariants as Ends
 use Rattle.fabric_ports.specs.declared.asking.AskEnd.{AskEnd}
@@ -90,6 +90,7 @@ module _ (names : List (List ℕ)) {K : Type 0} (written : K → Option (List �
   told_text (Ok left) from lines ran = (trace_text names ran.block, ran.prints)
   told_text (Err (Ends.Undetected port event)) from lines ran =
       (trace_text names ran.block, ran.prints)
+  told_text (Err Ends.Failed) from lines ran = (trace_text names ran.0.front, ran.0.prints)
   told_text (Err Ends.NoMemory) from lines ran = (trace_text names ran.front, ran.prints)
 
 module _ (names : List (List ℕ)) (before after : Option (List ℕ)) (host : ℕ) (request : Request)
@@ -229,7 +230,30 @@ module _ (names : List (List ℕ)) (before after : Option (List ℕ)) (host : �
     told_whole (Some packet) ran told =
         came (Some packet) ran told packet ran.is.1.0 ran.is.1.1
 
-    -- no write failed
+    front_more : (front rest : List TraceLine) → AppendsFront before after (trace_text names front)
+        → AppendsFront before after (trace_text names (front ++ rest))
+    front_more front rest told = record {
+      front = told.front;
+      rest = told.rest ++ trace_text names rest;
+      whole = flat_map-append (λ (line : TraceLine). trace_line_text names line ++ 10 ∷ []) front
+          rest
+          ∙ ap (λ (l : List ℕ). l ++ trace_text names rest) told.whole
+          ∙ append_assoc told.front told.rest (trace_text names rest);
+      told = told.told;
+    }
+
+    -- the first lines were told, and a front of their text was written
+    told_short : (ran : RanShort (IsAsk host request noise) names written faults a b from lines)
+        → AppendsFront before after (trace_text names ran.front)
+        → Unwritten names before after host request noise from lines
+    told_short ran front = record {
+      block = ran.block;
+      told = subst (λ (l : List TraceLine). AppendsFront before after (trace_text names l))
+          (sym ran.whole) (front_more ran.front ran.rest front);
+      is = ran.is;
+    }
+
+    -- all that was told was written
     pub told_answers : (told : Result (Option (List ℕ)) EventEnd)
         → IsTold names written faults a b host request noise from lines new told
         → ((text : List ℕ) → Writes written faults a b text → Appends before after text)
@@ -250,6 +274,14 @@ module _ (names : List (List ℕ)) (before after : Option (List ℕ)) (host : �
           found = ran.found;
           own = nothing_answers host ran.block apart.nothing;
         }
+    told_answers (Err Ends.Failed) ran whole =
+        let text = trace_text names ran.0.front in
+        told_short ran.0 (record {
+          front = text;
+          rest = [];
+          whole = sym (append-nil text);
+          told = whole text ran.0.prints;
+        })
     told_answers (Err Ends.NoMemory) ran whole = record {
       block = ran.block;
       front = ran.front;
@@ -257,18 +289,6 @@ module _ (names : List (List ℕ)) (before after : Option (List ℕ)) (host : �
       told = whole (trace_text names ran.front) ran.prints;
       is = ran.is;
       whole = ran.whole;
-    }
-
-    front_more : (front rest : List TraceLine) → AppendsFront before after (trace_text names front)
-        → AppendsFront before after (trace_text names (front ++ rest))
-    front_more front rest told = record {
-      front = told.front;
-      rest = told.rest ++ trace_text names rest;
-      whole = flat_map-append (λ (line : TraceLine). trace_line_text names line ++ 10 ∷ []) front
-          rest
-          ∙ ap (λ (l : List ℕ). l ++ trace_text names rest) told.whole
-          ∙ append_assoc told.front told.rest (trace_text names rest);
-      told = told.told;
     }
 
     -- a write failed
@@ -286,10 +306,7 @@ module _ (names : List (List ℕ)) (before after : Option (List ℕ)) (host : �
       told = front (trace_text names ran.block) ran.prints;
       is = ran.is;
     }
-    told_fails (Err Ends.NoMemory) ran front = record {
-      block = ran.block;
-      told = subst (λ (l : List TraceLine). AppendsFront before after (trace_text names l))
-          (sym ran.whole)
-          (front_more ran.front ran.rest (front (trace_text names ran.front) ran.prints));
-      is = ran.is;
-    }
+    told_fails (Err Ends.Failed) ran front =
+        told_short ran.0 (front (trace_text names ran.0.front) ran.0.prints)
+    told_fails (Err Ends.NoMemory) ran front =
+        told_short ran (front (trace_text names ran.front) ran.prints)

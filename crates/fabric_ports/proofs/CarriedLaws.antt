@@ -13,14 +13,14 @@ use Rattle.fabric_trace.specs.Lines.{TraceLine, Begun}
 use Rattle.fabric_trace.proofs.Folding.{seen-append}
 use Rattle.fabric_trace.proofs.Making.{made-append}
 use Rattle.fabric_ask.specs.Noise.{stirred}
-use Rattle.fabric_ports.specs.Blocked.{Blocked, BlockEnds}
+use Rattle.fabric_ports.specs.Blocked.{Blocked, BlockedShort, BlockEnds}
 use Rattle.fabric_ports.specs.Carrying.{AreLinked, WithLeft, Turns, BothTurn, Stirs, BothStir, Carries}
 use Rattle.fabric_ports.specs.Ends.{IsLinked}
-use Rattle.fabric_ports.specs.Ran.{Kind, Ran, RanEnds}
+use Rattle.fabric_ports.specs.Ran.{Kind, Ran, RanShort, RanEnds}
 use Rattle.fabric_ports.specs.Showing.{ShowsFabric}
 use Rattle.fabric_ports.specs.Standing.{Stands}
 use Rattle.fabric_ports.specs.declared.answers.EventEnd.{EventEnd}
-use Rattle.fabric_ports.specs.declared.answers.EventEnd.TheVariants.{Undetected, NoMemory}
+use Rattle.fabric_ports.specs.declared.answers.EventEnd.TheVariants.{Undetected, Failed, NoMemory}
 use Rattle.fabric_ports.specs.declared.fabric.Fabric.{Fabric}
 use Rattle.fabric_ports.proofs.EndLaws.{links_stand}
 use Rattle.fabric_ports.proofs.RanLaws.{Both, GoesOn, ran_both, ran_as, ends_as, ends_first, ends_second}
@@ -106,6 +106,19 @@ module _ {K : Type 0} (written : K → Option (List ℕ)) (faults : K → ℕ) (
         };
       }
 
+  turn_short : (a b : Outbox K) (from : Seen) (lines : List TraceLine) (p q : PortRef)
+      → IsOpen (seen from lines) p q
+      → BlockedShort (Pump p 1) names written faults a b from lines
+      → RanShort (Turns p q) names written faults a b from lines
+  turn_short a b from lines p q is_open ends = record {
+    block = ends.block;
+    front = ends.front;
+    rest = ends.rest;
+    prints = ends.prints;
+    is = turn_is (seen from lines) p q ends.block is_open ends.is;
+    whole = ends.whole;
+  }
+
   turn_ends : (a b : Outbox K) (from : Seen) (lines : List TraceLine) (p q : PortRef)
       (end : EventEnd) → IsOpen (seen from lines) p q
       → BlockEnds (Pump p 1) names written faults a b from lines end
@@ -116,16 +129,23 @@ module _ {K : Type 0} (written : K → Option (List ℕ)) (faults : K → ℕ) (
     is = turn_is (seen from lines) p q ends.block is_open ends.is;
     found = sym (ap (λ (t : Seen). t.unfaithful) (unbegun from lines ends.block p)) ∙ ends.found;
   }
-  turn_ends a b from lines p q NoMemory is_open ends = record {
-    block = ends.block;
-    front = ends.front;
-    rest = ends.rest;
-    prints = ends.prints;
-    is = turn_is (seen from lines) p q ends.block is_open ends.is;
-    whole = ends.whole;
-  }
+  turn_ends a b from lines p q Failed is_open ends =
+      (turn_short a b from lines p q is_open ends.0, ends.1)
+  turn_ends a b from lines p q NoMemory is_open ends = turn_short a b from lines p q is_open ends
 
   -- whichever edits are left, there are some
+  short_left : (P : List Edit → Kind) (a b : Outbox K) (from : Seen) (lines : List TraceLine)
+      → (ran : RanShort (WithLeft P) names written faults a b from lines)
+      → RanShort (P ran.is.0) names written faults a b from lines
+  short_left P a b from lines ran = record {
+    block = ran.block;
+    front = ran.front;
+    rest = ran.rest;
+    prints = ran.prints;
+    is = ran.is.1;
+    whole = ran.whole;
+  }
+
   pub ends_left : (P : List Edit → Kind) (a b : Outbox K) (from : Seen) (lines : List TraceLine)
       (end : EventEnd) → RanEnds (WithLeft P) names written faults a b from lines end
       → (left : List Edit) × RanEnds (P left) names written faults a b from lines end
@@ -133,17 +153,9 @@ module _ {K : Type 0} (written : K → Option (List ℕ)) (faults : K → ℕ) (
     ran.is.0,
     record { block = ran.block; prints = ran.prints; is = ran.is.1; found = ran.found },
   )
-  ends_left P a b from lines NoMemory ran = (
-    ran.is.0,
-    record {
-      block = ran.block;
-      front = ran.front;
-      rest = ran.rest;
-      prints = ran.prints;
-      is = ran.is.1;
-      whole = ran.whole;
-    },
-  )
+  ends_left P a b from lines Failed ran =
+      (ran.0.is.0, (short_left P a b from lines ran.0, ran.1))
+  ends_left P a b from lines NoMemory ran = (ran.is.0, short_left P a b from lines ran)
 
   -- ---- both ports of a link take a turn
 

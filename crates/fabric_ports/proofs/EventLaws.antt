@@ -26,14 +26,14 @@ use Rattle.fabric_trace.specs.Lines.{TraceLine, Begun}
 use Rattle.fabric_trace.specs.Text.{trace_line_text, trace_text}
 use Rattle.fabric_script.specs.declared.ports.PortRef.{PortRef}
 use Rattle.fabric_ports.specs.declared.answers.EventEnd.{EventEnd}
-use Rattle.fabric_ports.specs.declared.answers.EventEnd.TheVariants.{Undetected, NoMemory}
+use Rattle.fabric_ports.specs.declared.answers.EventEnd.TheVariants.{Undetected, Failed, NoMemory}
 use Rattle.fabric_ports.specs.declared.answers.Happened.{Happened}
 use Rattle.fabric_ports.specs.declared.answers.Happened.TheVariants.{Other}
-use Rattle.fabric_ports.specs.Blocked.{Blocked, BlockEnds}
+use Rattle.fabric_ports.specs.Blocked.{Blocked, BlockedShort, BlockEnds}
 use Rattle.fabric_ports.specs.Ends.{IsLinked}
 use Rattle.fabric_ports.specs.declared.fabric.Fabric.{Fabric}
 use Rattle.fabric_trace.proofs.Unique.{block_one}
-use Rattle.fabric_ports.specs.Events.{body_in, request_by, taken, happened, Did, Evented, EventEnds, IsAtLink}
+use Rattle.fabric_ports.specs.Events.{body_in, request_by, taken, happened, Did, Evented, CutShort, EventEnds, IsAtLink}
 use Rattle.fabric_ports.specs.Places.{IsEndpointAt, IsSwitchAt}
 use Rattle.fabric_ports.specs.Showing.{ShowsFabric}
 use Rattle.fabric_ports.specs.Standing.{Stands}
@@ -225,6 +225,22 @@ linked_evented line names written faults b b2 b3 from lines new other begun all 
   answered = other all.block;
 }
 
+cut_on : (line : Line) (names : List (List ℕ)) {K : Type 0} (written : K → Option (List ℕ))
+    (faults : K → ℕ) (b b2 b3 : Outbox K) (from : Seen) (lines : List TraceLine)
+    → Writes written faults b b2 (trace_line_text names (Begun line) ++ 10 ∷ [])
+    → BlockedShort line names written faults b2 b3 from lines
+    → CutShort line names written faults b b3 from lines
+cut_on line names written faults b b2 b3 from lines begun all = record {
+  block = all.block;
+  front = Begun line ∷ all.front;
+  rest = all.rest;
+  prints = Writes-then (trace_line_text names (Begun line) ++ 10 ∷ []) (trace_text names all.front)
+      begun all.prints;
+  is = all.is;
+  only = λ other own. block_one line (seen from lines) other all.block own all.is;
+  whole = ap (λ (l : List TraceLine). Begun line ∷ l) all.whole;
+}
+
 pub ends_on : (line : Line) (names : List (List ℕ)) {K : Type 0} (written : K → Option (List ℕ))
     (faults : K → ℕ) (b b2 b3 : Outbox K)
     (from : Seen) (lines : List TraceLine) (end : EventEnd)
@@ -239,16 +255,10 @@ ends_on line names written faults b b2 b3 from lines (Undetected port event) beg
   only = λ other own. block_one line (seen from lines) other all.block own all.is;
   found = all.found;
 }
-ends_on line names written faults b b2 b3 from lines NoMemory begun all = record {
-  block = all.block;
-  front = Begun line ∷ all.front;
-  rest = all.rest;
-  prints = Writes-then (trace_line_text names (Begun line) ++ 10 ∷ []) (trace_text names all.front)
-      begun all.prints;
-  is = all.is;
-  only = λ other own. block_one line (seen from lines) other all.block own all.is;
-  whole = ap (λ (l : List TraceLine). Begun line ∷ l) all.whole;
-}
+ends_on line names written faults b b2 b3 from lines Failed begun all =
+    (cut_on line names written faults b b2 b3 from lines begun all.0, all.1)
+ends_on line names written faults b b2 b3 from lines NoMemory begun all =
+    cut_on line names written faults b b2 b3 from lines begun all
 
 -- a port that has a link now had one when the fabric was made
 pub is_linked : (fabric : Fabric) (from : Seen) (lines : List TraceLine) (port : PortRef)

@@ -21,10 +21,10 @@ use Rattle.fabric_ask.proofs.Uncollected.{round_apart, unheld_apart}
 use Rattle.fabric_ports.specs.Carrying.{WithLeft}
 use Rattle.fabric_ports.specs.Events.{Did, collected}
 use Rattle.fabric_ports.specs.Fetching.{left_of, RoundsLeave}
-use Rattle.fabric_ports.specs.Ran.{Kind, Ran, RanEnds}
+use Rattle.fabric_ports.specs.Ran.{Kind, Ran, RanShort, RanEnds}
 use Rattle.fabric_ports.specs.Standing.{Stands}
 use Rattle.fabric_ports.specs.declared.answers.EventEnd.{EventEnd}
-use Rattle.fabric_ports.specs.declared.answers.EventEnd.TheVariants.{Undetected, NoMemory}
+use Rattle.fabric_ports.specs.declared.answers.EventEnd.TheVariants.{Undetected, Failed, NoMemory}
 use Rattle.fabric_ports.specs.declared.answers.Happened.{Happened}
 use Rattle.fabric_ports.specs.declared.fabric.Fabric.{Fabric}
 use Rattle.fabric_ports.proofs.LeaveLaws.{leaves_behind, nothing_leaves, left_leaves, did_stands, still_behind}
@@ -279,6 +279,28 @@ module _ {K : Type 0} (written : K → Option (List ℕ)) (faults : K → ℕ) (
             ∙ append_assoc lines first.block rest) stays;
       }
 
+  rounds_short : (b c : Outbox K) (from : Seen) (lines : List TraceLine) (mid : Fabric) (m : ℕ)
+      (noise : List Edit) → Stands from lines mid → IsEndpoint (seen from lines).network host
+      → RanShort (WithLeft (AskRound host noise)) names written faults b c from lines
+      → RanShort (AskRounds host (suc m) noise) names written faults b c from lines
+  rounds_short b c from lines mid m noise stands is ends =
+      let s = seen from lines in
+      let t = seen s ends.block in
+      let ready = ready_on stands.ready stands.made in
+      let made = (round_apart host noise ends.is.0 s ends.block (good_of ready) stands.sent is
+      ends.is.1).made in
+      let more = after_round host m ends.is.0 t t.unfaithful (ready_on ready made)
+      (stays_endpoint s host ends.block is) refl in
+      record {
+        block = ends.block ++ more.0;
+        front = ends.front;
+        rest = ends.rest ++ more.0;
+        prints = ends.prints;
+        is = (ends.is.0, (ends.block, more.0, refl, ends.is.1, more.1));
+        whole = ap (λ (l : List TraceLine). l ++ more.0) ends.whole
+            ∙ append_assoc ends.front ends.rest more.0;
+      }
+
   round_ends : (b c : Outbox K) (from : Seen) (lines : List TraceLine) (mid : Fabric) (m : ℕ)
       (noise : List Edit) (end : EventEnd) → Stands from lines mid
       → IsEndpoint (seen from lines).network host
@@ -304,23 +326,10 @@ module _ {K : Type 0} (written : K → Option (List ℕ)) (faults : K → ℕ) (
         );
         found = ends.found;
       }
+  round_ends b c from lines mid m noise Failed stands is ends =
+      (rounds_short b c from lines mid m noise stands is ends.0, ends.1)
   round_ends b c from lines mid m noise NoMemory stands is ends =
-      let s = seen from lines in
-      let t = seen s ends.block in
-      let ready = ready_on stands.ready stands.made in
-      let made = (round_apart host noise ends.is.0 s ends.block (good_of ready) stands.sent is
-      ends.is.1).made in
-      let more = after_round host m ends.is.0 t t.unfaithful (ready_on ready made)
-      (stays_endpoint s host ends.block is) refl in
-      record {
-        block = ends.block ++ more.0;
-        front = ends.front;
-        rest = ends.rest ++ more.0;
-        prints = ends.prints;
-        is = (ends.is.0, (ends.block, more.0, refl, ends.is.1, more.1));
-        whole = ap (λ (l : List TraceLine). l ++ more.0) ends.whole
-            ∙ append_assoc ends.front ends.rest more.0;
-      }
+      rounds_short b c from lines mid m noise stands is ends
 
   -- a round did not come to its end
   pub fetch_ends : (a b c : Outbox K) (from : Seen) (lines : List TraceLine) (old mid : Fabric)

@@ -1,6 +1,7 @@
 -- What an ask answers when its lines are written.
-use Rattle.std.proofs.Common.{◌≡◌, ℕ, false, List, [], Option, Some, None, Result, Ok, Err, IfOk, IfErr, IsErrAnd, IsErrOf, refl, sym, subst, append-nil}
+use Rattle.std.proofs.Common.{◌≡◌, ℕ, false, List, [], Option, Some, None, Result, Ok, Err, IfOk, IfErr, IsErrAnd, IsErrOf, refl, sym, ◌∙◌, subst, append-nil}
 use Rattle.std.proofs.KnownBytes.{Appends-nil}
+use Rattle.std.proofs.lemmas.Bool.{true≢false}
 use Rattle.rio_chars.specs.Written.{Writes}
 use Rattle.rio_chars.specs.declared.outbox.Outbox.{Outbox}
 use Rattle.rio_chars.proofs.WrittenLaws.{Writes-then, Writes-whole, Writes-front}
@@ -55,6 +56,26 @@ module _ (names : List (List ℕ)) {K : Type 0} (written : K → Option (List �
       old new written faults a b can sendable told (tells from lines can)
       (λ text own. Writes-whole written faults a c text empty (flushed_text text own) went none))
 
+  -- it is no fault of a write
+  pub no_fault : c.failed ≡ false → (result : Result Response AskEnd) → result ≡ answer_to told
+      → IsErrOf result AskEnd.WriteFault → (from : Seen) (lines : List TraceLine)
+      → CanAsk host from lines old → ⊥
+  no_fault went result is fault from lines can =
+      by_told told (tells from lines can) (subst (λ r. IsErrOf r AskEnd.WriteFault) is fault)
+    where
+      by_response : (o : Option Response) → IsErrOf (response_or_end o) AskEnd.WriteFault → ⊥
+      by_response None same = let bad : AskEnd.Unanswered ≡ AskEnd.WriteFault = cc in absurd cc
+      by_response (Some response) same =
+          let bad : Ok response ≡ Err AskEnd.WriteFault = same in absurd cc
+
+      by_told : (t : Result (Option (List ℕ)) EventEnd)
+          → IsTold names written faults a b host request noise from lines new t
+          → IsErrOf (answer_to t) AskEnd.WriteFault → ⊥
+      by_told (Ok left) ran same = by_response (response_in left) same
+      by_told (Err (Ends.Undetected port event)) ran same = absurd cc
+      by_told (Err Ends.Failed) ran same = true≢false (sym (flushed.stays ran.1).0 ∙ went)
+      by_told (Err Ends.NoMemory) ran same = absurd cc
+
   pub front_told : (from : Seen) (lines : List TraceLine) → CanAsk host from lines old
       → Unwritten names (written a.sink.now) (written c.sink.now) host request noise from lines
   front_told from lines can =
@@ -83,23 +104,6 @@ module _ (names : List (List ℕ)) (before after : Option (List ℕ)) (host : �
       → AskEnds names before after host request noise from lines end)
   err_ended (Ok response) is = tt
   err_ended (Err end) is = is
-
--- it is no fault of a write
-pub no_fault : (told : Result (Option (List ℕ)) EventEnd) (result : Result Response AskEnd)
-    → result ≡ answer_to told → IsErrOf result AskEnd.WriteFault → ⊥
-no_fault told result is fault =
-    by_told told (subst (λ r. IsErrOf r AskEnd.WriteFault) is fault)
-  where
-    by_response : (o : Option Response) → IsErrOf (response_or_end o) AskEnd.WriteFault → ⊥
-    by_response None same = let bad : AskEnd.Unanswered ≡ AskEnd.WriteFault = cc in absurd cc
-    by_response (Some response) same =
-        let bad : Ok response ≡ Err AskEnd.WriteFault = same in absurd cc
-
-    by_told : (t : Result (Option (List ℕ)) EventEnd)
-        → IsErrOf (answer_to t) AskEnd.WriteFault → ⊥
-    by_told (Ok left) same = by_response (response_in left) same
-    by_told (Err (Ends.Undetected port event)) same = absurd cc
-    by_told (Err Ends.NoMemory) same = absurd cc
 
 -- ---- memory was wanted before anything was told
 

@@ -11,10 +11,10 @@ use Rattle.fabric_trace.specs.Parts.{Made}
 use Rattle.fabric_trace.specs.Rounds.{Follows, NamesNothing, Joined}
 use Rattle.fabric_trace.specs.Text.{trace_line_text, trace_text}
 use Rattle.fabric_trace.proofs.Folding.{seen-append}
-use Rattle.fabric_ports.specs.Ran.{Kind, Ran, RanEnds}
+use Rattle.fabric_ports.specs.Ran.{Kind, Ran, RanShort, RanEnds}
 use Rattle.fabric_ports.specs.Standing.{Stands}
 use Rattle.fabric_ports.specs.declared.answers.EventEnd.{EventEnd}
-use Rattle.fabric_ports.specs.declared.answers.EventEnd.TheVariants.{Undetected, NoMemory}
+use Rattle.fabric_ports.specs.declared.answers.EventEnd.TheVariants.{Undetected, Failed, NoMemory}
 use Rattle.fabric_ports.specs.declared.fabric.Fabric.{Fabric}
 
 -- ---- kinds of lines
@@ -206,6 +206,20 @@ module _ {K : Type 0} (written : K → Option (List ℕ)) (faults : K → ℕ) (
     stands = ran.stands;
   }
 
+  short_as : (P Q : Kind) (a b : Outbox K) (from : Seen) (lines : List TraceLine)
+      → ((block : List TraceLine) → P (seen from lines) block
+      → Q (seen from lines) block)
+      → RanShort P names written faults a b from lines
+      → RanShort Q names written faults a b from lines
+  short_as P Q a b from lines turns ran = record {
+    block = ran.block;
+    front = ran.front;
+    rest = ran.rest;
+    prints = ran.prints;
+    is = turns ran.block ran.is;
+    whole = ran.whole;
+  }
+
   pub ends_as : (P Q : Kind) (a b : Outbox K) (from : Seen) (lines : List TraceLine)
       (end : EventEnd)
       → ((block : List TraceLine) → P (seen from lines) block
@@ -218,16 +232,29 @@ module _ {K : Type 0} (written : K → Option (List ℕ)) (faults : K → ℕ) (
     is = turns ran.block ran.is;
     found = ran.found;
   }
-  ends_as P Q a b from lines NoMemory turns ran = record {
-    block = ran.block;
-    front = ran.front;
-    rest = ran.rest;
-    prints = ran.prints;
-    is = turns ran.block ran.is;
-    whole = ran.whole;
-  }
+  ends_as P Q a b from lines Failed turns ran =
+      (short_as P Q a b from lines turns ran.0, ran.1)
+  ends_as P Q a b from lines NoMemory turns ran = short_as P Q a b from lines turns ran
 
   -- it ended in the first, and so nothing stands behind, or what would
+  short_first : (P Q : Kind) (a b : Outbox K) (from : Seen) (lines : List TraceLine)
+      (old : Fabric) → IsMade from P → GoesOn from Q → Stands from lines old
+      → RanShort P names written faults a b from lines
+      → RanShort (Both P Q) names written faults a b from lines
+  short_first P Q a b from lines old made on stands ran =
+      let more = more_exists Q from lines ran.block
+      (seen (seen from lines) ran.block).unfaithful on
+      (made lines ran.block stands.made stands.sent ran.is) refl in
+      record {
+        block = ran.block ++ more.0;
+        front = ran.front;
+        rest = ran.rest ++ more.0;
+        prints = ran.prints;
+        is = (ran.block, more.0, refl, ran.is, more.1);
+        whole = ap (λ (l : List TraceLine). l ++ more.0) ran.whole
+            ∙ append_assoc ran.front ran.rest more.0;
+      }
+
   pub ends_first : (P Q : Kind) (a b : Outbox K) (from : Seen) (lines : List TraceLine)
       (old : Fabric) (end : EventEnd) → IsMade from P → GoesOn from Q → Stands from lines old
       → RanEnds P names written faults a b from lines end
@@ -248,21 +275,37 @@ module _ {K : Type 0} (written : K → Option (List ℕ)) (faults : K → ℕ) (
         );
         found = ran.found;
       }
+  ends_first P Q a b from lines old Failed made on stands ran =
+      (short_first P Q a b from lines old made on stands ran.0, ran.1)
   ends_first P Q a b from lines old NoMemory made on stands ran =
-      let more = more_exists Q from lines ran.block
-      (seen (seen from lines) ran.block).unfaithful on
-      (made lines ran.block stands.made stands.sent ran.is) refl in
-      record {
-        block = ran.block ++ more.0;
-        front = ran.front;
-        rest = ran.rest ++ more.0;
-        prints = ran.prints;
-        is = (ran.block, more.0, refl, ran.is, more.1);
-        whole = ap (λ (l : List TraceLine). l ++ more.0) ran.whole
-            ∙ append_assoc ran.front ran.rest more.0;
-      }
+      short_first P Q a b from lines old made on stands ran
 
   -- it ended in the second
+  short_second : (P Q : Kind) (a b c : Outbox K) (from : Seen) (lines : List TraceLine)
+      (mid : Fabric) → (first : Ran P names written faults a b from lines mid)
+      → RanShort Q names written faults b c from (lines ++ first.block)
+      → RanShort (Both P Q) names written faults a c from lines
+  short_second P Q a b c from lines mid first second =
+      let s = seen from lines in
+      let joined = seen-append from lines first.block in
+      record {
+        block = first.block ++ second.block;
+        front = first.block ++ second.front;
+        rest = second.rest;
+        prints = lines_written a b c first.block second.front first.prints second.prints;
+        is = (
+          first.block,
+          second.block,
+          refl,
+          first.is,
+          follows_none (seen s first.block).unfaithful _ second.block
+              (sym (ap (λ (t : Seen). t.unfaithful) joined) ∙ first.stands.sent)
+              (subst (λ (t : Seen). Q t second.block) joined second.is),
+        );
+        whole = ap (λ (l : List TraceLine). first.block ++ l) second.whole
+            ∙ sym (append_assoc first.block second.front second.rest);
+      }
+
   pub ends_second : (P Q : Kind) (a b c : Outbox K) (from : Seen) (lines : List TraceLine)
       (mid : Fabric) (end : EventEnd) → (first : Ran P names written faults a b from lines mid)
       → RanEnds Q names written faults b c from (lines ++ first.block) end
@@ -285,23 +328,7 @@ module _ {K : Type 0} (written : K → Option (List ℕ)) (faults : K → ℕ) (
         found = ap (λ (l : List TraceLine). (seen from l).unfaithful)
             (sym (append_assoc lines first.block second.block)) ∙ second.found;
       }
+  ends_second P Q a b c from lines mid Failed first second =
+      (short_second P Q a b c from lines mid first second.0, second.1)
   ends_second P Q a b c from lines mid NoMemory first second =
-      let s = seen from lines in
-      let joined = seen-append from lines first.block in
-      record {
-        block = first.block ++ second.block;
-        front = first.block ++ second.front;
-        rest = second.rest;
-        prints = lines_written a b c first.block second.front first.prints second.prints;
-        is = (
-          first.block,
-          second.block,
-          refl,
-          first.is,
-          follows_none (seen s first.block).unfaithful _ second.block
-              (sym (ap (λ (t : Seen). t.unfaithful) joined) ∙ first.stands.sent)
-              (subst (λ (t : Seen). Q t second.block) joined second.is),
-        );
-        whole = ap (λ (l : List TraceLine). first.block ++ l) second.whole
-            ∙ sym (append_assoc first.block second.front second.rest);
-      }
+      short_second P Q a b c from lines mid first second

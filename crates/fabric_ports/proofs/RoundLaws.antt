@@ -19,12 +19,12 @@ use Rattle.fabric_trace.proofs.Keeping.{IsGood}
 use Rattle.fabric_trace.proofs.Making.{made-append}
 use Rattle.fabric_trace.proofs.Rounds.{all_found, settle_all_come, round_come}
 use Rattle.fabric_trace.proofs.Running.{link_made, move_made}
-use Rattle.fabric_ports.specs.Blocked.{Blocked, BlockEnds}
-use Rattle.fabric_ports.specs.Ran.{Kind, Ran, RanEnds, LinksSettle, SwitchesServe, Serves}
+use Rattle.fabric_ports.specs.Blocked.{Blocked, BlockedShort, BlockEnds}
+use Rattle.fabric_ports.specs.Ran.{Kind, Ran, RanShort, RanEnds, LinksSettle, SwitchesServe, Serves}
 use Rattle.fabric_ports.specs.Showing.{ShowsFabric}
 use Rattle.fabric_ports.specs.Standing.{Stands}
 use Rattle.fabric_ports.specs.declared.answers.EventEnd.{EventEnd}
-use Rattle.fabric_ports.specs.declared.answers.EventEnd.TheVariants.{Undetected, NoMemory}
+use Rattle.fabric_ports.specs.declared.answers.EventEnd.TheVariants.{Undetected, Failed, NoMemory}
 use Rattle.fabric_ports.specs.declared.fabric.Fabric.{Fabric}
 use Rattle.fabric_ports.proofs.StandLaws.{stands_on}
 use Rattle.fabric_ports.proofs.RanLaws.{Both, Nothing, both_as, both_nothing, nothing_both, both_assoc, GoesOn, IsMade, ran_nothing, ran_both, ran_as, ends_as, ends_first, ends_second}
@@ -243,7 +243,9 @@ module _ {K : Type 0} (written : K → Option (List ℕ)) (faults : K → ℕ) (
       (switches_go_on from stands.ready) first.stands (links (lines ++ first.block) first.stands) in
       let more = ends_first written faults names (Round IsSettle) (Rounds IsSettle left.0) b c from
       (lines ++ first.block) mid end (round_made from stands.ready)
-      (λ l made sent. (let own = rounds_exist left.0 (seen from l) (ready_on stands.ready made) sent in (own.lines, own.is))) first.stands own in
+      (λ l made sent.
+      (let own = rounds_exist left.0 (seen from l) (ready_on stands.ready made) sent in
+      (own.lines, own.is))) first.stands own in
       ends_as written faults names (Both (Rounds IsSettle k) (Rounds IsSettle (suc left.0)))
       (Rounds IsSettle n) a c from lines end
       (λ block both. subst (λ m. Rounds IsSettle m (seen from lines) block) left.1
@@ -284,6 +286,18 @@ module _ {K : Type 0} (written : K → Option (List ℕ)) (faults : K → ℕ) (
             (subst (ShowsFabric new) joined ran.stands.shows);
       }
 
+  run_short : (from : Seen) (lines : List TraceLine)
+      → RanShort (Rounds IsSettle n) names written faults a b from lines
+      → BlockedShort (Run n) names written faults a b from lines
+  run_short from lines ends = record {
+    block = ends.block;
+    front = ends.front;
+    rest = ends.rest;
+    prints = ends.prints;
+    is = ends.is;
+    whole = ends.whole;
+  }
+
   pub run_ends : (from : Seen) (lines : List TraceLine) (end : EventEnd)
       → RanEnds (Rounds IsSettle n) names written faults a b from lines end
       → BlockEnds (Run n) names written faults a b from lines end
@@ -299,11 +313,5 @@ module _ {K : Type 0} (written : K → Option (List ℕ)) (faults : K → ℕ) (
         is = ends.is;
         found = ap (λ (t : Seen). t.unfaithful) begun ∙ ends.found;
       }
-  run_ends from lines NoMemory ends = record {
-    block = ends.block;
-    front = ends.front;
-    rest = ends.rest;
-    prints = ends.prints;
-    is = ends.is;
-    whole = ends.whole;
-  }
+  run_ends from lines Failed ends = (run_short from lines ends.0, ends.1)
+  run_ends from lines NoMemory ends = run_short from lines ends

@@ -23,14 +23,14 @@ use Rattle.fabric_trace.proofs.Keeping.{IsGood, made_keeps}
 use Rattle.fabric_trace.proofs.Making.{made-append}
 use Rattle.fabric_trace.proofs.Rounds.{AreFound, all_found}
 use Rattle.fabric_trace.proofs.Running.{link_made}
-use Rattle.fabric_ports.specs.Blocked.{Blocked, BlockEnds}
+use Rattle.fabric_ports.specs.Blocked.{Blocked, BlockedShort, BlockEnds}
 use Rattle.fabric_ports.specs.Ends.{IsLinked}
 use Rattle.fabric_ports.specs.Places.{IsSwitchAt}
-use Rattle.fabric_ports.specs.Ran.{Kind, Ran, RanEnds, LinksSettle}
+use Rattle.fabric_ports.specs.Ran.{Kind, Ran, RanShort, RanEnds, LinksSettle}
 use Rattle.fabric_ports.specs.Showing.{ends_of, ShowsFabric}
 use Rattle.fabric_ports.specs.Standing.{Stands}
 use Rattle.fabric_ports.specs.declared.answers.EventEnd.{EventEnd}
-use Rattle.fabric_ports.specs.declared.answers.EventEnd.TheVariants.{Undetected, NoMemory}
+use Rattle.fabric_ports.specs.declared.answers.EventEnd.TheVariants.{Undetected, Failed, NoMemory}
 use Rattle.fabric_ports.specs.declared.fabric.Cable.{Cable}
 use Rattle.fabric_ports.specs.declared.fabric.Fabric.{Fabric}
 use Rattle.fabric_ports.proofs.Cables.{seen_links}
@@ -235,6 +235,19 @@ module _ {K : Type 0} (written : K → Option (List ℕ)) (faults : K → ℕ) (
         };
       }
 
+  settle_short : (a b : Outbox K) (from : Seen) (lines : List TraceLine)
+      (link : PortRef × PortRef) → link_in from.network.links link.0 ≡ Some link
+      → BlockedShort (Settle link.0) names written faults a b from lines
+      → RanShort (Settles link) names written faults a b from lines
+  settle_short a b from lines link found ends = record {
+    block = ends.block;
+    front = ends.front;
+    rest = ends.rest;
+    prints = ends.prints;
+    is = settle_is from lines ends.block link found ends.is;
+    whole = ends.whole;
+  }
+
   pub settle_ends : (a b : Outbox K) (from : Seen) (lines : List TraceLine)
       (link : PortRef × PortRef) (end : EventEnd) → link_in from.network.links link.0 ≡ Some link
       → BlockEnds (Settle link.0) names written faults a b from lines end
@@ -246,14 +259,10 @@ module _ {K : Type 0} (written : K → Option (List ℕ)) (faults : K → ℕ) (
     found = sym (ap (λ (t : Seen). t.unfaithful) (unbegun from lines ends.block link.0))
         ∙ ends.found;
   }
-  settle_ends a b from lines link NoMemory found ends = record {
-    block = ends.block;
-    front = ends.front;
-    rest = ends.rest;
-    prints = ends.prints;
-    is = settle_is from lines ends.block link found ends.is;
-    whole = ends.whole;
-  }
+  settle_ends a b from lines link Failed found ends =
+      (settle_short a b from lines link found ends.0, ends.1)
+  settle_ends a b from lines link NoMemory found ends =
+      settle_short a b from lines link found ends
 
   -- one link more has settled
   settled_next : (a b c : Outbox K) (from : Seen) (lines : List TraceLine)

@@ -1,5 +1,5 @@
 -- What is written of an event behind the line with which it begins.
-use Rattle.std.specs.Prelude.{◌≡◌, ℕ, List, ◌∷◌, ◌++◌, Option, Some}
+use Rattle.std.specs.Prelude.{◌≡◌, ℕ, true, List, ◌∷◌, ◌++◌, Option, Some}
 use Rattle.rio_chars.specs.Written.{Writes}
 use Rattle.rio_chars.specs.declared.outbox.Outbox.{Outbox}
 use Rattle.link_model.specs.declared.event.Event.{Event}
@@ -11,7 +11,7 @@ use Rattle.fabric_trace.specs.Known.{Seen}
 use Rattle.fabric_trace.specs.Lines.{TraceLine, Begun}
 use Rattle.fabric_trace.specs.Text.{trace_text}
 use Rattle.fabric_ports.specs.declared.answers.EventEnd.{EventEnd}
-use Rattle.fabric_ports.specs.declared.answers.EventEnd.TheVariants.{Undetected, NoMemory}
+use Rattle.fabric_ports.specs.declared.answers.EventEnd.TheVariants.{Undetected, Failed, NoMemory}
 use Rattle.fabric_ports.specs.declared.fabric.Fabric.{Fabric}
 use Rattle.fabric_ports.specs.Standing.{Stands}
 
@@ -45,10 +45,12 @@ pub record BlockedShort (line : Line) (names : List (List ℕ)) {K : Type 0}
   pub is : IsBlock (seen from lines) line block
   pub whole : block ≡ front ++ rest
 
--- by why the event ended
+-- by why the event ended: the outbox has failed if it ended for that
 abbrev pub BlockEnds : Line → List (List ℕ) → {K : Type 0} → (K → Option (List ℕ)) → (K → ℕ)
     → Outbox K → Outbox K → Seen → List TraceLine → EventEnd → Type 0
 BlockEnds line names written faults old new from lines (Undetected port event) =
     BlockedAt line names written faults old new from lines port event
+BlockEnds line names written faults old new from lines Failed =
+    BlockedShort line names written faults old new from lines × (new.failed ≡ true)
 BlockEnds line names written faults old new from lines NoMemory =
     BlockedShort line names written faults old new from lines

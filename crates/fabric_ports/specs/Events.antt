@@ -22,7 +22,7 @@ use Rattle.fabric_trace.specs.Lines.{Full as NoRoom, NoStep, TraceLine, Begun, S
 use Rattle.fabric_trace.specs.Served.{IsMove}
 use Rattle.fabric_trace.specs.Text.{trace_text}
 use Rattle.fabric_ports.specs.declared.answers.EventEnd.{EventEnd}
-use Rattle.fabric_ports.specs.declared.answers.EventEnd.TheVariants.{Undetected, NoMemory}
+use Rattle.fabric_ports.specs.declared.answers.EventEnd.TheVariants.{Undetected, Failed, NoMemory}
 use Rattle.fabric_ports.specs.declared.answers.Happened.{Happened}
 use Rattle.fabric_ports.specs.declared.answers.Happened.TheVariants.{Took, Full, Left, Answered, Empty, Other}
 use Rattle.fabric_ports.specs.declared.fabric.Fabric.{Fabric}
@@ -160,10 +160,12 @@ pub record CutShort (line : Line) (names : List (List ℕ)) {K : Type 0}
   pub only : IsOnlyBlock (seen from lines) line block
   pub whole : Begun line ∷ block ≡ front ++ rest
 
--- by why the event ended
+-- by why the event ended: the outbox has failed if it ended for that
 abbrev pub EventEnds : Line → List (List ℕ) → {K : Type 0} → (K → Option (List ℕ)) → (K → ℕ)
     → Outbox K → Outbox K → Seen → List TraceLine → EventEnd → Type 0
 EventEnds line names written faults old new from lines (Undetected port event) =
     Exposed line names written faults old new from lines port event
+EventEnds line names written faults old new from lines Failed =
+    CutShort line names written faults old new from lines × (new.failed ≡ true)
 EventEnds line names written faults old new from lines NoMemory =
     CutShort line names written faults old new from lines

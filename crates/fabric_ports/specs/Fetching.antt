@@ -12,7 +12,7 @@ use Rattle.fabric_ports.specs.declared.answers.EventEnd.TheVariants as Ends
 use Rattle.fabric_ports.specs.declared.answers.Happened.{Happened}
 use Rattle.fabric_ports.specs.declared.answers.Happened.TheVariants.{Left}
 use Rattle.fabric_ports.specs.declared.asking.AskEnd.{AskEnd}
-use Rattle.fabric_ports.specs.declared.asking.AskEnd.TheVariants.{Unanswered, Undetected, NoMemory}
+use Rattle.fabric_ports.specs.declared.asking.AskEnd.TheVariants.{Unanswered, Undetected, WriteFault, NoMemory}
 use Rattle.fabric_ports.specs.Ran.{Kind}
 
 -- ---- what leaves at the host
@@ -62,4 +62,5 @@ response_in (Some packet) = response_of packet
 abbrev pub answer_to : Result (Option (List ℕ)) EventEnd → Result Response AskEnd
 answer_to (Ok left) = response_or_end (response_in left)
 answer_to (Err (Ends.Undetected port event)) = Err (Undetected port event)
+answer_to (Err Ends.Failed) = Err WriteFault
 answer_to (Err Ends.NoMemory) = Err NoMemory

@@ -1,5 +1,5 @@
 -- What is done behind lines for which a fabric stands, where it is no event of its own.
-use Rattle.std.specs.Prelude.{◌≡◌, ℕ, List, ◌++◌, Option, Some}
+use Rattle.std.specs.Prelude.{◌≡◌, ℕ, true, List, ◌++◌, Option, Some}
 use Rattle.rio_chars.specs.Written.{Writes}
 use Rattle.rio_chars.specs.declared.outbox.Outbox.{Outbox}
 use Rattle.link_model.specs.declared.event.Event.{Event}
@@ -11,7 +11,7 @@ use Rattle.fabric_trace.specs.Lines.{TraceLine}
 use Rattle.fabric_trace.specs.Rounds.{SettleAll, ServesAll, ServeNodes}
 use Rattle.fabric_trace.specs.Text.{trace_text}
 use Rattle.fabric_ports.specs.declared.answers.EventEnd.{EventEnd}
-use Rattle.fabric_ports.specs.declared.answers.EventEnd.TheVariants.{Undetected, NoMemory}
+use Rattle.fabric_ports.specs.declared.answers.EventEnd.TheVariants.{Undetected, Failed, NoMemory}
 use Rattle.fabric_ports.specs.declared.fabric.Fabric.{Fabric}
 use Rattle.fabric_ports.specs.Standing.{Stands}
 
@@ -61,10 +61,12 @@ pub record RanShort (Is : Kind) (names : List (List ℕ)) {K : Type 0}
   pub is : Is (seen from lines) block
   pub whole : block ≡ front ++ rest
 
--- by why it ended
+-- by why it ended: the outbox has failed if it ended for that
 abbrev pub RanEnds : Kind → List (List ℕ) → {K : Type 0} → (K → Option (List ℕ)) → (K → ℕ)
     → Outbox K → Outbox K → Seen → List TraceLine → EventEnd → Type 0
 RanEnds Is names written faults old new from lines (Undetected port event) =
     RanInto Is names written faults old new from lines port event
+RanEnds Is names written faults old new from lines Failed =
+    RanShort Is names written faults old new from lines × (new.failed ≡ true)
 RanEnds Is names written faults old new from lines NoMemory =
     RanShort Is names written faults old new from lines

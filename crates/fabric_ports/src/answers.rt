@@ -26,6 +26,9 @@ pub enum Happened {
 pub enum EventEnd {
     /// The port acted on an event that was not sent: a corruption that no check has found.
     Undetected { port: PortRef, event: Unsent },
+    /// The sink failed: what is behind the failure was not written, and the event was not carried
+    /// out to its end.
+    Failed,
     /// Memory was wanted and not given.
     NoMemory,
 }

@@ -62,7 +62,7 @@ impl Fabric {
     /// the host. `Undetected` comes exactly if a port acted on an event that was not sent, and
     /// names that port and the first such event; the lines up to it were written. With `NoMemory`
     /// the first lines were written. `WriteFault` comes before all of these, exactly if a write
-    /// failed; a front of the text was written.
+    /// failed; a front of the text was written. The next link that settles is the last one then.
     pub fn ask<N: Noise, K: Sink>(
         &mut self,
         alloc: Global,
@@ -241,6 +241,7 @@ fn answer(told: Result<Option<Packet>, EventEnd>) -> Result<Response, AskEnd>
             let event = event.event().copy();
             Err(AskEnd::Undetected { port, event })
         }
+        Err(EventEnd::Failed) => Err(AskEnd::WriteFault),
         Err(EventEnd::NoMemory) => Err(AskEnd::NoMemory),
     }
 }

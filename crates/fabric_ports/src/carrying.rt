@@ -103,7 +103,7 @@ impl Fabric {
     {
         self.turn_both(alloc, names, ends, outbox)?;
         self.stir_both(alloc, names, ends, noise, outbox)?;
-        self.act(alloc, names, ends.0, Action::Settle, outbox)
+        self.settle_link(alloc, names, ends.0, outbox)
     }
 
     /// Both ports of a link take a turn to send.

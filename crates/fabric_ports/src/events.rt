@@ -28,8 +28,10 @@ impl Fabric {
     ///
     /// `Undetected` comes exactly if a port acted on an event that was not sent, and names that
     /// port and the first such event; the block up to it was written. With `NoMemory` a front of
-    /// the block was written. The fabric is of no use after either. A write that fails does not end
-    /// an event: ask the outbox behind it.
+    /// the block was written, and so with `Failed`, which comes only if a write has failed. The
+    /// fabric is of no use after each of them. Where a write fails, a `run` ends with `Failed`
+    /// behind the next link that settles; any other event goes on to its end, so ask the outbox
+    /// behind an `Ok`.
     pub fn event<K: Sink>(
         &mut self,
         alloc: Global,

@@ -1,10 +1,13 @@
 //! Rounds: what `run` has a fabric do.
 ghost use Rattle.std.specs.Prelude.{◌≡◌, ◌≤◌, ◌<◌, List, length, OnOk, IfErr};
+ghost use Rattle.fabric_script.specs.declared.lines.Line.TheVariants.{Settle};
 ghost use Rattle.fabric_model.specs.Network.{Network};
 ghost use Rattle.fabric_trace.specs.Blocks.{IsSettle};
 ghost use Rattle.fabric_trace.specs.Known.{Seen};
 ghost use Rattle.fabric_trace.specs.Lines.{TraceLine};
 ghost use Rattle.fabric_trace.specs.Rounds.{Rounds};
+ghost use Rattle.fabric_ports.specs.Blocked.{Blocked, BlockEnds};
+ghost use Rattle.fabric_ports.specs.Ends.{IsLinked};
 ghost use Rattle.fabric_ports.specs.Places.{IsSwitchAt};
 ghost use Rattle.fabric_ports.specs.Ran.{Ran, RanEnds, LinksSettle, SwitchesServe, Serves};
 ghost use Rattle.fabric_ports.specs.Standing.{Stands};
@@ -12,13 +15,14 @@ ghost use Rattle.fabric_ports.specs.Standing.{Stands};
 use crate::actions::Action;
 use crate::answers::EventEnd;
 use crate::fabric::Fabric;
-use fabric_script::Name;
+use fabric_script::{Name, PortRef};
 use rio_chars::{Outbox, Sink};
 use std::alloc::Global;
 
 impl Fabric {
     /// Makes so many rounds. In each, every link settles in order, and then every switch in order
-    /// makes steps until no packet of it can go.
+    /// makes steps until no packet of it can go. If a write fails, the next link that settles is
+    /// the last one.
     pub(crate) fn run<K: Sink>(
         &mut self,
         alloc: Global,
@@ -64,7 +68,32 @@ impl Fabric {
                 continue;
             }
             let port = self.cables[place].a;
-            self.act(alloc, names, port, Action::Settle, outbox)?;
+            self.settle_link(alloc, names, port, outbox)?;
+        }
+        Ok(())
+    }
+
+    /// The link of a port settles, and then the outbox is asked: behind a write that failed nothing
+    /// more would be written.
+    pub(crate) fn settle_link<K: Sink>(
+        &mut self,
+        alloc: Global,
+        names: &[Name],
+        port: PortRef,
+        outbox: &mut Outbox<K>,
+    ) -> Result<(), EventEnd>
+        requires linked { IsLinked self.old port }
+        requires named { length self.old.devices.items ≤ length names.now }
+        ensures done { OnOk result ((from : Seen) (lines : List TraceLine)
+            → Stands from lines self.old → Blocked (Settle port) names.now
+            K.written K.faults outbox.old outbox.new from lines self.new) }
+        ensures ended { IfErr result (λ end. (from : Seen) (lines : List TraceLine)
+            → Stands from lines self.old → BlockEnds (Settle port) names.now
+            K.written K.faults outbox.old outbox.new from lines end) }
+    {
+        self.act(alloc, names, port, Action::Settle, outbox)?;
+        if outbox.failed() {
+            return Err(EventEnd::Failed);
         }
         Ok(())
     }

@@ -2,6 +2,8 @@ pub mod Joining
 pub mod Cutting
 pub mod Naming
 pub mod Telling
+pub mod Writing
+pub mod EarlyEnds
 pub mod TallyLaws
 pub mod LineFeeds
 pub mod Letters

@@ -1,47 +1,33 @@
--- How a replay goes from event to event.
-use Rattle.std.proofs.Common.{◌≡◌, ◌⊎◌, inl, inr, ℕ, ◌+◌, ◌<◌, ◌≤◌, true, false, MatchBool, List, [], ◌∷◌, ◌++◌, All, length, take, drop, get_or, Option, Some, None, Result, Ok, Err, IsErrOf, OnOk, codes, refl, sym, ap, ◌∙◌, subst, append-nil, append_assoc, take-append-drop}
+-- How a replay goes from event to event, and what is told then.
+use Rattle.std.proofs.Common.{◌≡◌, inl, inr, ℕ, ◌+◌, ◌<◌, ◌≤◌, true, false, MatchBool, List, [], ◌∷◌, ◌++◌, All, length, take, drop, get_or, Option, Some, None, codes, refl, sym, ap, ◌∙◌, subst, append-nil, append_assoc, take-append-drop}
 use Rattle.std.proofs.lemmas.List.{take_more, take_all, drop_more}
 use Rattle.std.proofs.lemmas.List.Concat.{flat_map-append}
-use Rattle.std.specs.Io.KnownBytes.{Appends}
 use Rattle.rio_chars.specs.Written.{Writes}
 use Rattle.rio_chars.specs.declared.outbox.Outbox.{Outbox}
-use Rattle.rio_chars.proofs.WrittenLaws.{Writes-nil, Writes-then, Writes-whole, Writes-front}
+use Rattle.rio_chars.proofs.WrittenLaws.{Writes-nil, Writes-then}
 use Rattle.link_model.specs.declared.event.Event.{Event}
 use Rattle.fabric_script.specs.Lines.{is_event}
 use Rattle.fabric_script.specs.Scripts.{Passes}
 use Rattle.fabric_script.specs.declared.ports.PortRef.{PortRef}
 use Rattle.fabric_script.specs.declared.lines.Line.{Line}
 use Rattle.fabric_script.specs.declared.lines.Numbered.{Numbered}
-use Rattle.fabric_model.specs.Laws.Freeing.{IsFront}
-use Rattle.fabric_model.specs.Network.{Network}
 use Rattle.fabric_trace.specs.Blocks.{IsBlock}
 use Rattle.fabric_trace.specs.Events.{MayHappen}
 use Rattle.fabric_trace.specs.Fold.{seen}
 use Rattle.fabric_trace.specs.Known.{Found, Seen}
 use Rattle.fabric_trace.specs.Lines.{TraceLine, Begun, Ended, Undetected}
 use Rattle.fabric_trace.specs.Runs.{bare, set_up_all, start, BlockThen, NamesNothing, BlocksFrom, RunsFrom, Runs, Begins}
-use Rattle.fabric_trace.specs.SetUps.{MaySetUpAll}
-use Rattle.fabric_trace.specs.Shown.{Shown}
 use Rattle.fabric_trace.specs.Text.{trace_line_text, trace_text}
 use Rattle.fabric_trace.proofs.Boards.{happens_still}
 use Rattle.fabric_trace.proofs.Folding.{seen-append}
-use Rattle.fabric_trace.proofs.Happening.{may_set_up, may_happen}
-use Rattle.fabric_trace.proofs.Shows.{runs_shown, fronts_shown, blocks_shown}
-use Rattle.fabric_trace.proofs.Unique.{runs_one, first_blocks_front}
-use Rattle.fabric_ports.specs.Events.{MayFollow, Evented, Exposed, CutShort, EventEnds}
+use Rattle.fabric_trace.proofs.Happening.{may_happen}
+use Rattle.fabric_ports.specs.Events.{MayFollow, Evented, Exposed, CutShort}
 use Rattle.fabric_ports.specs.Standing.{Stands}
-use Rattle.fabric_ports.specs.declared.answers.EventEnd.{EventEnd}
-use Rattle.fabric_ports.specs.declared.answers.EventEnd.TheVariants as Early
 use Rattle.fabric_ports.specs.declared.answers.Happened.{Happened}
 use Rattle.fabric_ports.specs.declared.fabric.Fabric.{Fabric}
-use Rattle.fabric_replay.specs.Ending.{IsNamed, EndsBy}
-use Rattle.fabric_replay.specs.declared.replaying.ReplayEnd.{ReplayEnd}
-use Rattle.fabric_replay.specs.declared.replaying.ReplayEnd.TheVariants as Ends
 use Rattle.fabric_replay.specs.Going.{Going, ToldUntil, ToldFront, ToldWhole}
-use Rattle.fabric_replay.specs.Replaying.{Replayed, ReplayedWhole, ReplayedUnsent, ReplayedFront}
-use Rattle.fabric_replay.proofs.Cutting.{cut_text, part_more}
 use Rattle.fabric_replay.proofs.Joining.{blocks-append, runs-append, one_block, one_last}
-use Rattle.fabric_replay.proofs.Naming.{names_suffice, names_few, found_named}
+use Rattle.fabric_replay.proofs.Naming.{names_suffice, names_few}
 
 -- ---- the items of a script
 
@@ -170,17 +156,6 @@ module _ {K : Type 0} (written : K → Option (List ℕ)) (faults : K → ℕ) (
     blocks = blocks;
   }
 
-  -- lines were told that begin a trace
-  told_blocks : (out : Outbox K) (count : ℕ) (lines : List TraceLine)
-      → Writes written faults begun out (trace_text names lines)
-      → BlocksFrom (start script) (take count script) lines → Fronts out
-  told_blocks out count lines told blocks = record {
-    lines = lines;
-    behind = [];
-    told = told;
-    begins = inl (subst (Begins script) (sym (append-nil lines)) (first_blocks count lines blocks));
-  }
-
   -- ---- an event was carried out
 
   pub Going-event : (i : ℕ) (item : Numbered) (out out2 : Outbox K) (fabric fabric2 : Fabric)
@@ -197,16 +172,6 @@ module _ {K : Type 0} (written : K → Option (List ℕ)) (faults : K → ℕ) (
   }
 
   -- and a write failed in it
-  pub Going-failed : (i : ℕ) (item : Numbered) (out out2 : Outbox K) (fabric fabric2 : Fabric)
-      (what : Happened) → IsItem script i item → is_event item.line ≡ true → (h : Gone out i fabric)
-      → Evented item.line names written faults out out2 (start script) h.lines fabric2 what
-      → Fronts out2
-  Going-failed i item out out2 fabric fabric2 what is has h done =
-      told_blocks out2 (i + 1) (h.lines ++ Begun item.line ∷ done.block)
-      (Writes-lines names h.lines (Begun item.line ∷ done.block) h.told done.prints)
-      (blocks_with i item out fabric done.block is has h done.is)
-
-  -- and in none before
   pub Going-until : (i : ℕ) (item : Numbered) (out out2 : Outbox K) (fabric fabric2 : Fabric)
       (what : Happened) → IsItem script i item → is_event item.line ≡ true → (h : Gone out i fabric)
       → out2.failed ≡ true
@@ -215,14 +180,49 @@ module _ {K : Type 0} (written : K → Option (List ℕ)) (faults : K → ℕ) (
   Going-until i item out out2 fabric fabric2 what is has h failed done = record {
     count = i;
     before = h.lines;
-    block = Begun item.line ∷ done.block;
+    front = Begun item.line ∷ done.block;
+    rest = [];
     mid = out;
     told_before = h.told;
     blocks_before = h.blocks;
     fine = h.fine;
     told = done.prints;
-    blocks = blocks_with i item out fabric done.block is has h done.is;
+    blocks = subst (λ own. BlocksFrom (start script) (take (i + 1) script) (h.lines ++ own))
+        (sym (append-nil (Begun item.line ∷ done.block)))
+        (blocks_with i item out fabric done.block is has h done.is);
     failed = failed;
+  }
+
+  -- or before its end
+  pub Going-broken : (i : ℕ) (item : Numbered) (out out2 : Outbox K) (fabric : Fabric)
+      → IsItem script i item → is_event item.line ≡ true → (h : Gone out i fabric)
+      → CutShort item.line names written faults out out2 (start script) h.lines
+      → out2.failed ≡ true → ToldUntil written faults begun out2 names script
+  Going-broken i item out out2 fabric is has h short failed = record {
+    count = i;
+    before = h.lines;
+    front = short.front;
+    rest = short.rest;
+    mid = out;
+    told_before = h.told;
+    blocks_before = h.blocks;
+    fine = h.fine;
+    told = short.prints;
+    blocks = subst (λ own. BlocksFrom (start script) (take (i + 1) script) (h.lines ++ own))
+        short.whole (blocks_with i item out fabric short.block is has h short.is);
+    failed = failed;
+  }
+
+  -- and so a front of a trace was told
+  pub until_front : (out : Outbox K) → ToldUntil written faults begun out names script → Fronts out
+  until_front out until = record {
+    lines = until.before ++ until.front;
+    behind = until.rest;
+    told = Writes-lines names until.before until.front until.told_before until.told;
+    begins = inl
+        (subst (Begins script) (sym (append_assoc until.before until.front until.rest))
+        (first_blocks (until.count + 1) (until.before ++ (until.front ++ until.rest))
+        until.blocks));
   }
 
   -- or memory ran out in it
@@ -319,102 +319,6 @@ module _ {K : Type 0} (written : K → Option (List ℕ)) (faults : K → ℕ) (
     ends = h.ends;
   }
 
-  -- ---- what was written
-
-  -- of a whole trace, all
-  written_whole : (out : Outbox K) (last : TraceLine) (found : Option Found) → Passes names script
-      → begun.buffer.now ≡ [] → out.failed ≡ false → out.buffer.now ≡ []
-      → (h : Wholes out last found)
-      → Replayed names script (written begun.sink.now) (written out.sink.now)
-  written_whole out last found passes empty fine none h = record {
-    lines = h.lines;
-    told = Writes-whole written faults begun out (trace_text names h.lines) empty h.told fine none;
-    runs = h.runs;
-    only = λ other runs. runs_one script other h.lines runs h.runs;
-    shown = runs_shown script h.lines (may_set_up names script passes) h.runs;
-  }
-
-  pub written_done : (out : Outbox K) → Passes names script → begun.buffer.now ≡ [] → out.failed
-      ≡ false → out.buffer.now ≡ [] → Wholes out Ended None
-      → ReplayedWhole names script (written begun.sink.now) (written out.sink.now)
-  unfolding written_whole
-  written_done out passes empty fine none h =
-      record { replayed = written_whole out Ended None passes empty fine none h; ends = h.ends }
-
-  pub written_unsent : (out : Outbox K) (line : ℕ) (port : PortRef) (event : Event)
-      → Passes names script → begun.buffer.now ≡ [] → out.failed ≡ false → out.buffer.now ≡ []
-      → Wholes out (Undetected line port event) (Some (record { port = port; event = event }))
-      → ReplayedUnsent names script line port event (written begun.sink.now)
-      (written out.sink.now)
-  unfolding written_whole
-  written_unsent out line port event passes empty fine none h =
-      record {
-        replayed = written_whole out (Undetected line port event) _ passes empty fine none h;
-        ends = h.ends;
-      }
-
-  -- lines of which it is said how they begin a trace, cut once more
-  begins_again : (lines behind whole rest : List TraceLine) → lines ≡ whole ++ rest
-      → Begins script (lines ++ behind) ⊎ Runs script (lines ++ behind)
-      → Begins script (whole ++ (rest ++ behind)) ⊎ Runs script (whole ++ (rest ++ behind))
-  begins_again lines behind whole rest is begins =
-      subst (λ l. Begins script l ⊎ Runs script l)
-      (ap (λ l. l ++ behind) is ∙ append_assoc whole rest behind) begins
-
-  shown_front : (lines behind : List TraceLine) → MaySetUpAll bare script
-      → Begins script (lines ++ behind) ⊎ Runs script (lines ++ behind) → Shown script lines
-  shown_front lines behind may (inl begins) = blocks_shown script lines behind may begins
-  shown_front lines behind may (inr runs) = fronts_shown script lines behind may runs
-
-  front_of_all : (lines behind : List TraceLine) → Begins script (lines ++ behind)
-      ⊎ Runs script (lines ++ behind) → (all : List TraceLine) → Runs script all → IsFront lines all
-  front_of_all lines behind (inl begins) all runs =
-      let front = first_blocks_front script (lines ++ behind) all begins runs in
-      (behind ++ front.0, front.1 ∙ append_assoc lines behind front.0)
-  front_of_all lines behind (inr whole) all runs =
-      (behind, runs_one script all (lines ++ behind) runs whole)
-
-  -- whatever was told, a front of it
-  pub written_front : (out : Outbox K) → Passes names script → begun.buffer.now ≡ [] → Fronts out
-      → ReplayedFront names script (written begun.sink.now) (written out.sink.now)
-  written_front out passes empty h =
-      let front = Writes-front written faults begun out (trace_text names h.lines) empty h.told in
-      let cut = cut_text names h.lines front.front front.rest front.whole in
-      let begins = begins_again h.lines h.behind cut.lines cut.behind cut.whole h.begins in
-      record {
-        lines = cut.lines;
-        behind = cut.behind ++ h.behind;
-        part = cut.part;
-        told = subst (Appends (written begun.sink.now) (written out.sink.now)) cut.text front.told;
-        cut = part_more names cut.behind h.behind cut.part cut.cut;
-        begins = begins;
-        front = front_of_all cut.lines (cut.behind ++ h.behind) begins;
-        shown = shown_front cut.lines (cut.behind ++ h.behind) (may_set_up names script passes)
-            begins;
-      }
-
--- nothing was written, and so a front of nothing
-pub nothing_front : (names : List (List ℕ)) (script : List Numbered)
-    (written written_after : Option (List ℕ)) → Passes names script
-    → Appends written written_after [] → ReplayedFront names script written written_after
-nothing_front names script written written_after passes told =
-    let none : Begins script [] = record {
-      done = [];
-      rest = script;
-      whole = refl;
-      blocks = refl;
-    } in
-    record {
-      lines = [];
-      behind = [];
-      part = [];
-      told = told;
-      cut = refl;
-      begins = inl none;
-      front = λ all runs. (all, refl);
-      shown = blocks_shown script [] [] (may_set_up names script passes) none;
-    }
-
 -- the names were read from where they stand
 pub Evented-names : (line : Line) (read names : List (List ℕ)) {K : Type 0}
     {written : K → Option (List ℕ)} {faults : K → ℕ} {out out2 : Outbox K} {from : Seen}
@@ -423,79 +327,3 @@ pub Evented-names : (line : Line) (read names : List (List ℕ)) {K : Type 0}
     → Evented line names written faults out out2 from lines fabric answer
 Evented-names line read names {K} {written} {faults} {out} {out2} {from} {lines} {fabric} {answer}
     same e = subst (λ n. Evented line n written faults out out2 from lines fabric answer) same e
-
--- ---- an event that ended early
-
-pub EventEnds-names : (line : Line) (read names : List (List ℕ)) {K : Type 0}
-    (written : K → Option (List ℕ)) (faults : K → ℕ) (out out2 : Outbox K) (from : Seen)
-    (lines : List TraceLine) (end : EventEnd) → read ≡ names
-    → EventEnds line read written faults out out2 from lines end
-    → EventEnds line names written faults out out2 from lines end
-EventEnds-names line read names written faults out out2 from lines end same e =
-    subst (λ n. EventEnds line n written faults out out2 from lines end) same e
-
-pub end_named : (names read : List (List ℕ)) (script : List Numbered) {K : Type 0}
-    (written : K → Option (List ℕ)) (faults : K → ℕ) (out out2 : Outbox K) (lines : List TraceLine)
-    (line : Line) (fabric : Fabric) (end : EventEnd) → Passes names script → read ≡ names
-    → Stands (start script) lines fabric → EventEnds line names written faults out out2
-    (start script) lines end → IsNamed read end
-end_named names read script written faults out out2 lines line fabric (Early.Undetected port event)
-    passes same stands ends =
-    subst (λ n. port.node < length n) (sym same)
-    (found_named names script lines (lines ++ Begun line ∷ ends.block) fabric
-    (record { port = port; event = event }) passes stands ends.found)
-end_named names read script written faults out out2 lines line fabric Early.NoMemory passes same
-    stands ends = tt
-
-module _ {K : Type 0} (written : K → Option (List ℕ)) (faults : K → ℕ) (begun : Outbox K)
-    (names : List (List ℕ)) (script : List Numbered) where
-  -- what was told where a replay ended early
-  abbrev pub IsEnded : Outbox K → ReplayEnd → Type 0
-  IsEnded out Ends.WriteFault = ⊥
-  IsEnded out (Ends.Undetected line port event) = ToldWhole written faults begun out names script
-      (Undetected line port event) (Some (record { port = port; event = event }))
-  IsEnded out Ends.NoMemory = ToldFront written faults begun out names script
-
-  ended_by : (out : Outbox K) (result end : ReplayEnd) → result ≡ end → IsEnded out end
-      → IsEnded out result
-  ended_by out result end is ended = subst (IsEnded out) (sym is) ended
-
-  pub Going-ended : (read : List (List ℕ)) (i : ℕ) (item : Numbered) (out out2 out3 : Outbox K)
-      (fabric : Fabric) (end : EventEnd) (result : ReplayEnd) → read ≡ names → IsItem script i item
-      → is_event item.line ≡ true → (h : Going written faults begun out names script i fabric)
-      → EventEnds item.line names written faults out out2 (start script) h.lines end
-      → EndsBy end item.number read written faults out2 out3 result → IsEnded out3 result
-  Going-ended read i item out out2 out3 fabric (Early.Undetected port event) result same is has h
-      ends told =
-      ended_by out3 result (Ends.Undetected item.number port event) told.0
-      (Going-unsent written faults begun names script i item out out2 out3 fabric port event is has
-      h ends
-      (subst (λ n. Writes written faults out2 out3
-      (trace_line_text n (Undetected item.number port event) ++ codes "\n")) same told.1))
-  Going-ended read i item out out2 out3 fabric Early.NoMemory result same is has h ends told =
-      ended_by out3 result Ends.NoMemory told.0
-      (subst (λ o. ToldFront written faults begun o names script) (sym told.1)
-      (Going-short written faults begun names script i item out out2 fabric is has h ends))
-
-  pub ended_front : (out : Outbox K) (result : ReplayEnd) → IsEnded out result
-      → ToldFront written faults begun out names script
-  ended_front out Ends.WriteFault ended = absurd ended
-  ended_front out (Ends.Undetected line port event) ended =
-      whole_front written faults begun names script out _ _ ended
-  ended_front out Ends.NoMemory ended = ended
-
-  pub ended_whole : {T : Type 0} (out : Outbox K) (result : ReplayEnd) → IsEnded out result
-      → (line : ℕ) (port : PortRef) (event : Event)
-      → IsErrOf {T = T} (Err result) (Ends.Undetected line port event)
-      → ToldWhole written faults begun out names script (Undetected line port event)
-      (Some (record { port = port; event = event }))
-  ended_whole out result ended line port event is =
-      let same : result ≡ Ends.Undetected line port event = cc
-      in
-      subst (IsEnded out) same ended
-
--- what is said of an answer, by what is said of it
-pub on_ok : {T E : Type 0} {P Q : Type 0} (result : Result T E) → (P → Q) → OnOk result P
-    → OnOk result Q
-on_ok (Ok x) f p = f p
-on_ok (Err e) f p = tt

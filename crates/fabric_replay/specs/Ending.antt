@@ -5,13 +5,14 @@ use Rattle.rio_chars.specs.declared.outbox.Outbox.{Outbox}
 use Rattle.fabric_trace.specs.Lines.{Undetected as UnsentLine}
 use Rattle.fabric_trace.specs.Text.{trace_line_text}
 use Rattle.fabric_ports.specs.declared.answers.EventEnd.{EventEnd}
-use Rattle.fabric_ports.specs.declared.answers.EventEnd.TheVariants.{Undetected, NoMemory}
+use Rattle.fabric_ports.specs.declared.answers.EventEnd.TheVariants.{Undetected, Failed, NoMemory}
 use Rattle.fabric_replay.specs.declared.replaying.ReplayEnd.{ReplayEnd}
 use Rattle.fabric_replay.specs.declared.replaying.ReplayEnd.TheVariants as Ends
 
 -- the port that it tells of is of a node that has a name
 abbrev pub IsNamed : List (List ℕ) → EventEnd → Type 0
 IsNamed names (Undetected port event) = port.node < length names
+IsNamed names Failed = Unit {0}
 IsNamed names NoMemory = Unit {0}
 
 -- a replay ends for the reason that an event did, and the last line tells of an event that was not
@@ -22,5 +23,7 @@ EndsBy (Undetected port event) line names written faults old new result =
     (result ≡ Ends.Undetected line port event)
     × Writes written faults old new
     (trace_line_text names (UnsentLine line port event) ++ codes "\n")
+EndsBy Failed line names written faults old new result =
+    (result ≡ Ends.WriteFault) × (new ≡ old)
 EndsBy NoMemory line names written faults old new result =
     (result ≡ Ends.NoMemory) × (new ≡ old)

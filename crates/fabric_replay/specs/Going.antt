@@ -5,7 +5,7 @@ use Rattle.rio_chars.specs.declared.outbox.Outbox.{Outbox}
 use Rattle.fabric_script.specs.declared.lines.Numbered.{Numbered}
 use Rattle.fabric_trace.specs.Known.{Found}
 use Rattle.fabric_trace.specs.Lines.{TraceLine}
-use Rattle.fabric_trace.specs.Runs.{bare, set_up_all, start, Runs, BlocksFrom, Begins}
+use Rattle.fabric_trace.specs.Runs.{start, Runs, BlocksFrom, Begins}
 use Rattle.fabric_trace.specs.Text.{trace_text}
 use Rattle.fabric_ports.specs.Standing.{Stands}
 use Rattle.fabric_ports.specs.declared.fabric.Fabric.{Fabric}
@@ -21,20 +21,20 @@ pub record Going {K : Type 0} (written : K → Option (List ℕ)) (faults : K �
   pub blocks : BlocksFrom (start script) (take count script) lines
   pub stands : Stands (start script) lines fabric
 
--- A write failed in the last of the first so many events, and in none before. Their blocks were
--- told,
--- and nothing of an event behind them.
+-- A write failed in one of the events, and in none before. The blocks before it were told, a front
+-- of its own, and nothing of an event behind it.
 pub record ToldUntil {K : Type 0} (written : K → Option (List ℕ)) (faults : K → ℕ)
     (begun out : Outbox K) (names : List (List ℕ)) (script : List Numbered) : Type 0 where
   pub count : ℕ
   pub before : List TraceLine
-  pub block : List TraceLine
+  pub front : List TraceLine
+  pub rest : List TraceLine
   pub mid : Outbox K
   pub told_before : Writes written faults begun mid (trace_text names before)
   pub blocks_before : BlocksFrom (start script) (take count script) before
   pub fine : mid.failed ≡ false
-  pub told : Writes written faults mid out (trace_text names block)
-  pub blocks : BlocksFrom (start script) (take (count + 1) script) (before ++ block)
+  pub told : Writes written faults mid out (trace_text names front)
+  pub blocks : BlocksFrom (start script) (take (count + 1) script) (before ++ (front ++ rest))
   pub failed : out.failed ≡ true
 
 -- Lines were told that begin a trace, or the blocks of its first events.

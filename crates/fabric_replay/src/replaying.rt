@@ -50,7 +50,7 @@ impl From<rio_chars::NoMemory> for ReplayEnd {
 /// that a port acted on and that was not sent; then the answer is Undetected. WriteFault comes only
 /// if the sink's count of faults rose, and the count rises at no other answer. At WriteFault and
 /// NoMemory a front of the trace was written: whole lines, and a part of one more. Nothing more is
-/// carried out after the event in which a write failed.
+/// carried out after the event in which a write failed, and a `run` ends within it.
 pub fn replay<K: Sink>(alloc: Global, script: &Script, sink: &mut K) -> Result<(), ReplayEnd>
     requires passes { Passes script.now.names.items script.now.lines.items }
     ensures done { OnOk result (ReplayedWhole script.now.names.items script.now.lines.items
@@ -163,6 +163,7 @@ fn tell_end<K: Sink>(names: &[Name], line: u32, end: EventEnd, outbox: &mut Outb
             let event = event.event().copy();
             ReplayEnd::Undetected { line, port, event }
         }
+        EventEnd::Failed => ReplayEnd::WriteFault,
         EventEnd::NoMemory => ReplayEnd::NoMemory,
     }
 }

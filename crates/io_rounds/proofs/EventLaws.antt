@@ -1,5 +1,5 @@
 -- One event, behind what was done.
-use Rattle.std.proofs.Common.{◌≡◌, ◌<◌, ℕ, Bool, true, false, List, [], ◌∷◌, ◌++◌, Option, Some, None, refl, sym, ap, ◌∙◌, subst, arith, append_assoc, if◌then◌else◌}
+use Rattle.std.proofs.Common.{◌≡◌, ◌⊎◌, inl, inr, ◌<◌, ℕ, Bool, true, false, List, [], ◌∷◌, ◌++◌, Option, Some, None, refl, sym, ap, ◌∙◌, subst, arith, append_assoc, if◌then◌else◌}
 use Rattle.std.proofs.lemmas.List.Elements.{All-push}
 use Rattle.rio_chars.specs.declared.outbox.Outbox.{Outbox}
 use Rattle.rio_packets.specs.Fields.{prio_of}
@@ -97,15 +97,16 @@ nothing_unsent names course line written faults old new port event may exposed =
     none_some None x none some = absurd cc
     none_some (Some y) x none some = absurd cc
 
--- so only memory can be wanting
-pub only_memory : (names : List (List ℕ)) (course : Course) (line : Line) {K : Type 0}
+-- so memory can be wanting, or a write fail
+pub only_wanting : (names : List (List ℕ)) (course : Course) (line : Line) {K : Type 0}
     (written : K → Option (List ℕ)) (faults : K → ℕ) (old new : Outbox K) (end : EventEnd)
     (may : MayAct names course line)
     → EventEnds line names written faults old new (start may.script) may.trace end
-    → end ≡ Ends.NoMemory
-only_memory names course line written faults old new (Ends.Undetected port event) may ends =
+    → (end ≡ Ends.Failed) ⊎ (end ≡ Ends.NoMemory)
+only_wanting names course line written faults old new (Ends.Undetected port event) may ends =
     absurd (nothing_unsent names course line written faults old new port event may ends)
-only_memory names course line written faults old new Ends.NoMemory may ends = refl
+only_wanting names course line written faults old new Ends.Failed may ends = inl refl
+only_wanting names course line written faults old new Ends.NoMemory may ends = inr refl
 
 pub acted : (names : List (List ℕ)) (script events : List Numbered) (trace : List TraceLine)
     (stations : List Station) (line : Line) (old new : Course) (what : Happened) {K : Type 0}

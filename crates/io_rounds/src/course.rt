@@ -1,5 +1,5 @@
 //! `Course`: a fabric, and what is kept of its endpoints while a script is carried out.
-ghost use Rattle.std.specs.Prelude.{◌≡◌, ◌++◌, false, [], List, All, length, map, replicate, IfOk};
+ghost use Rattle.std.specs.Prelude.{◌≡◌, ◌⊎◌, ◌++◌, false, [], List, All, length, map, replicate, IfOk};
 ghost use Rattle.maint_registers.specs.Devices.{is_switch};
 ghost use Rattle.fabric_script.specs.Lines.{is_event};
 ghost use Rattle.fabric_script.specs.Scripts.{Passes};
@@ -69,12 +69,12 @@ impl<'a> Course<'a> {
     }
 }
 
-/// What was wanting to an event that sent all that was acted on.
+/// What was wanting to an event that sent all that was acted on. The sink of the trace never fails.
 fn want_of(end: EventEnd) -> NoMemory
-    requires { end ≡ EventEnd.NoMemory }
+    requires { (end ≡ EventEnd.Failed) ⊎ (end ≡ EventEnd.NoMemory) }
 {
     match end {
-        EventEnd::NoMemory => NoMemory,
+        EventEnd::Failed | EventEnd::NoMemory => NoMemory,
         EventEnd::Undetected { .. } => unreachable!(),
     }
 }

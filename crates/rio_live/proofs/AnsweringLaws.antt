@@ -94,7 +94,7 @@ module _ {K : Type 0} (written : K → Option (List ℕ)) (faults : K → ℕ) (
         );
       }
 
-  -- memory ran out in it, or before it
+  -- it was not carried out to its end, or not begun
   pub falls_short : (out next : Outbox K)
       → CutShort event taken.known.names written faults out next (start taken.set_up) taken.trace
       → FallsShort written faults taken event out next

@@ -1,13 +1,13 @@
 -- The answer of a line is the last one.
 use Rattle.std.proofs.Common.{◌≡◌, ℕ, ◌+◌, ◌-◌, ◌^◌, Option, Result, Ok, Err, IfOk, OnErr, true, false, List, [], ◌∷◌, ◌++◌, length, inl, inr, refl, sym, ap, subst}
 use Rattle.std.specs.Io.KnownBytes.{Consumes}
-use Rattle.rio_chars.specs.declared.failures.NoMemory.{NoMemory}
 use Rattle.rio_chars.specs.declared.outbox.Outbox.{Outbox}
 use Rattle.live_lines.specs.declared.status.Status.{Status}
 use Rattle.live_lines.specs.declared.status.Status.TheVariants as ends_with
 use Rattle.live_lines.specs.Lines.{IsLine, with_feed}
 use Rattle.live_lines.specs.Serving.{ServesLines}
 use Rattle.live_lines.proofs.ServingLaws.{Going, Going-read, Going-told, Going-no_memory, Going-undetected, Going-fault}
+use Rattle.rio_live.specs.declared.answers.BrokenOff.{BrokenOff}
 use Rattle.rio_live.specs.declared.answers.Going.{Going as Whether}
 use Rattle.rio_live.specs.declared.answers.Going.TheVariants as Goings
 use Rattle.rio_live.specs.declared.live.Live.{Live}
@@ -99,7 +99,7 @@ module _ {K : Type 0} (written : K → Option (List ℕ)) (faults : K → ℕ) (
             clear fine empty);
       }
 
-  -- memory ran out within the answer of a line
+  -- the answer of a line broke off
   breaks : {out next : Outbox K} {live : Live} {left_now left_next : Option (List ℕ)}
       (status : Status) (pending pending_next line taken : List ℕ) {count : ℕ}
       (read_faults_now read_faults_next : ℕ)
@@ -202,7 +202,7 @@ module _ {K : Type 0} (written : K → Option (List ℕ)) (faults : K → ℕ) (
   -- a write failed, whether the line was answered or not
   pub Course-failed : (next : Outbox K) (live_next : Live) {out : Outbox K} {live : Live}
       {left_now left_next : Option (List ℕ)} (pending pending_next line taken : List ℕ)
-      {count : ℕ} (read_faults_now read_faults_next : ℕ) (result : Result Whether NoMemory)
+      {count : ℕ} (read_faults_now read_faults_next : ℕ) (result : Result Whether BrokenOff)
       → Course written faults begun out live left left_now pending count read_faults
       read_faults_now
       → begun.buffer.now ≡ [] → begun.failed ≡ false → next.failed ≡ true

@@ -122,7 +122,7 @@ pub record Answered {K : Type 0} (written : K → Option (List ℕ)) (faults : K
   pub told : Writes written faults old new (answer_text taken number line outcome)
   pub goes : Goes going live (after taken number line outcome)
 
--- memory ran out, and a front of the answer was written
+-- the answer broke off, and a front of it was written
 pub record BreaksOff {K : Type 0} (written : K → Option (List ℕ)) (faults : K → ℕ)
     (taken : Taken) (number : ℕ) (line : List ℕ) (old new : Outbox K) : Type 0 where
   pub text : List ℕ

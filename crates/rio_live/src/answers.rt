@@ -24,15 +24,25 @@ pub(crate) enum Going {
     Undetected,
 }
 
+/// An answer was not written to its end: memory ran out, or a write failed. The outbox tells which.
+#[derive(Clone, Copy, Debug, PartialEq, Eq)]
+pub(crate) struct BrokenOff;
+
+impl From<NoMemory> for BrokenOff {
+    fn from(_: NoMemory) -> Self {
+        BrokenOff
+    }
+}
+
 /// Reads the line of this number, does what it asks for, and writes its answer, whose last line is
-/// `ok`. If memory runs out, a front of the answer was written.
+/// `ok`. If the answer breaks off, a front of it was written.
 pub(crate) fn answer<K: Sink>(
     alloc: Global,
     live: &mut Live,
     number: u32,
     line: &[u8],
     outbox: &mut Outbox<K>,
-) -> Result<Going, NoMemory>
+) -> Result<Going, BrokenOff>
     requires { (taken : Taken) × Holds live.old taken }
     ensures answered { IfOk result (λ going. (taken : Taken) → Holds live.old taken
         → Answered K.written K.faults taken number line.now outbox.old outbox.new live.new
@@ -59,7 +69,7 @@ fn happen<K: Sink>(
     number: u32,
     event: &Line,
     outbox: &mut Outbox<K>,
-) -> Result<Going, NoMemory>
+) -> Result<Going, BrokenOff>
     requires { (taken : Taken) × Holds live.old taken
         × ((line : List ℕ) × Spells (for_event taken.known) line event.now) }
     ensures happens { IfOk result (λ going. (taken : Taken) (line : List ℕ) → Holds live.old taken
@@ -81,7 +91,8 @@ fn happen<K: Sink>(
             write_undetected(outbox, names, number, port, event.event());
             Ok(Going::Undetected)
         }
-        Err(EventEnd::NoMemory) => Err(NoMemory),
+        Err(EventEnd::Failed) => Err(BrokenOff),
+        Err(EventEnd::NoMemory) => Err(BrokenOff),
     }
 }
 

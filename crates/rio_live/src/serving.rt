@@ -7,10 +7,10 @@ ghost use Rattle.rio_live.specs.Holding.{Holds};
 ghost use Rattle.rio_live.specs.Answers.{Answered, BreaksOff, Stopped};
 ghost use Rattle.rio_live.specs.Program.{Serves};
 
-use crate::answers::{Going, answer};
+use crate::answers::{BrokenOff, Going, answer};
 use crate::live::Live;
 use live_lines::{Input, LineEnd, Status};
-use rio_chars::{NoMemory, Outbox, Sink, Source, TextBuffer};
+use rio_chars::{Outbox, Sink, Source, TextBuffer};
 use std::alloc::Global;
 use trace_lines::write_end;
 
@@ -65,7 +65,8 @@ fn serve_lines<S: Source, K: Sink>(
         match answered {
             Ok(Going::On) => {}
             Ok(Going::Undetected) => return Status::Undetected,
-            Err(NoMemory) => return Status::NoMemory,
+            // No write failed, so memory ran out.
+            Err(BrokenOff) => return Status::NoMemory,
         }
     }
     end_trace(outbox)
@@ -78,7 +79,7 @@ fn answer_line<K: Sink>(
     number: u32,
     line: &[u8],
     outbox: &mut Outbox<K>,
-) -> Result<Going, NoMemory>
+) -> Result<Going, BrokenOff>
     requires { (taken : Taken) × Holds live.old taken }
     ensures answered { IfOk result (λ going. (taken : Taken) → Holds live.old taken
         → Answered K.written K.faults taken number line.now outbox.old outbox.new live.new

@@ -1,5 +1,5 @@
 use Rattle.std.proofs.KnownBytes.{Appends-nil}
-use Rattle.fabric_replay.proofs.Telling.{nothing_front}
+use Rattle.fabric_replay.proofs.Writing.{nothing_front}
 use Rattle.fabric_replay.proofs.replaying.replay.Goals as goal
 
 pub returns-in_err-buffer-clause-no_memory : goal.returns-in_err-buffer-clause-no_memory

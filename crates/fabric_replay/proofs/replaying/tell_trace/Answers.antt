@@ -1,8 +1,9 @@
 use Rattle.std.proofs.Common.{◌≤◌, None, length, sym, ap, ◌∙◌, subst, arith}
 use Rattle.fabric_trace.specs.Lines.{Ended}
-use Rattle.fabric_trace.specs.Runs.{bare, set_up_all, start}
+use Rattle.fabric_trace.specs.Runs.{start}
 use Rattle.fabric_ports.specs.Events.{MayFollow}
-use Rattle.fabric_replay.proofs.Telling.{item_of, may_follow, Going-begin, Going-skip, Going-event, Going-failed, Going-until, Going-end, whole_front, Evented-names, EventEnds-names, end_named, Going-ended, ended_front, ended_whole}
+use Rattle.fabric_replay.proofs.Telling.{item_of, may_follow, Going-begin, Going-skip, Going-event, Going-until, Going-end, until_front, whole_front, Evented-names}
+use Rattle.fabric_replay.proofs.EarlyEnds.{EventEnds-names, end_named, Going-ended, ended_front, ended_until, ended_whole}
 use Rattle.fabric_replay.proofs.replaying.tell_trace.Goals as goal
 use Rattle.fabric_replay.proofs.replaying.tell_trace.Goals.{then-is_event+in_default+else-failed, else-is_event}
 
@@ -66,6 +67,23 @@ returns-in-Err-clause-undetected g c =
     (Going-ended _ _ begun names script _ _ c.numbered-item.result _ _ _ _ c.in-Err.end
     c.tell_end.result c.deref-in-Err.ensures.value is block h ends c.tell_end.ensures)
 
+pub returns-in-Err-clause-write_fault : goal.returns-in-Err-clause-write_fault
+returns-in-Err-clause-write_fault g c =
+    let names = c.args.script.now.names.items in
+    let script = c.args.script.now.lines.items in
+    let begun = c.args.outbox.now in
+    let h = c.loop-numbered.invariant in
+    let line = c.numbered-item.result.line in
+    let is = item_of script _ c.loop-numbered.numbered-index c.numbered-item.result
+    c.deref-numbered-items.ensures.value c.numbered-item.is c.loop-numbered-test.true in
+    let block = sym c.is_event.ensures ∙ c.if-is_event.true in
+    let ends = EventEnds-names line c.deref.result.now names _ _ _ _ (start script) h.lines
+    c.in-Err.end c.deref.ensures.value
+    (c.in-Err.ensures.ended (start script) h.lines h.stands) in
+    ended_until _ _ begun names script _ c.tell_end.result
+    (Going-ended _ _ begun names script _ _ c.numbered-item.result _ _ _ _ c.in-Err.end
+    c.tell_end.result c.deref-in-Err.ensures.value is block h ends c.tell_end.ensures)
+
 pub returns-then-failed-clause-front : goal.returns-then-failed-clause-front
 returns-then-failed-clause-front g c =
     let names = c.args.script.now.names.items in
@@ -76,8 +94,9 @@ returns-then-failed-clause-front g c =
     let block = sym c.is_event.ensures ∙ c.if-is_event.true in
     let done = Evented-names c.numbered-item.result.line _ names c.deref.ensures.value
     (c.in_default.ensures.done (start script) h.lines h.stands) in
-    Going-failed _ _ c.args.outbox.now names script _ c.numbered-item.result _ _ _ _ _ is block h
-    done
+    until_front _ _ c.args.outbox.now names script _
+    (Going-until _ _ c.args.outbox.now names script _ c.numbered-item.result _ _ _ _ _ is block h
+    (sym c.failed.ensures ∙ c.if-failed.true) done)
 
 pub returns-then-failed-clause-write_fault : goal.returns-then-failed-clause-write_fault
 returns-then-failed-clause-write_fault g c = λ fault.

@@ -3,7 +3,8 @@ use Rattle.std.proofs.lemmas.Bool.{true≢false}
 use Rattle.fabric_trace.specs.Lines.{Ended, Undetected}
 use Rattle.fabric_trace.specs.Text.{trace_text}
 use Rattle.rio_chars.proofs.WrittenLaws.{Writes-rose}
-use Rattle.fabric_replay.proofs.Telling.{Fronts-flushed, Wholes-flushed, written_front, written_done, written_unsent, on_ok}
+use Rattle.fabric_replay.proofs.Telling.{Fronts-flushed, Wholes-flushed}
+use Rattle.fabric_replay.proofs.Writing.{written_front, written_done, written_unsent, on_ok}
 use Rattle.fabric_replay.proofs.replaying.write_trace.Goals as goal
 
 pub returns-then-failed-clause-write_fault : goal.returns-then-failed-clause-write_fault

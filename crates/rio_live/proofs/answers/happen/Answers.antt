@@ -99,6 +99,22 @@ returns-in-Err-Undetected-clause-happens g c = λ taken line holds spells.
     c.args.live.now c.take_fabric.new.self c.in_ok-fabric.fabric c.in-Err-Undetected.port
     c.in-Err-Undetected.event holds spells stands exposed last
 
+pub returns-in-Err-Failed-clause-short : goal.returns-in-Err-Failed-clause-short
+returns-in-Err-Failed-clause-short g c = λ taken line holds spells.
+    let named =
+    names_held c.args.live.now c.take_fabric.new.self c.set_up.result.now c.names-names.result.now
+    taken holds c.names-names.ensures c.set_up.ensures c.take_fabric.ensures.set_up in
+    let stands = c.in_ok-fabric.ensures.stands taken holds in
+    let ends =
+    subst (λ e. EventEnds c.args.event.now c.names-names.result.now g.K.Sink.written
+    g.K.Sink.faults c.args.outbox.now c.event.new.outbox (start taken.set_up) taken.trace e)
+    c.in-Err-Failed.field-0-is
+    (c.in-Err-Failed.ensures.ended (start taken.set_up) taken.trace stands) in
+    falls_short g.K.Sink.written g.K.Sink.faults taken line c.args.event.now c.args.outbox.now
+    c.event.new.outbox
+    (subst (λ n. CutShort c.args.event.now n g.K.Sink.written g.K.Sink.faults
+    c.args.outbox.now c.event.new.outbox (start taken.set_up) taken.trace) named ends.0)
+
 pub returns-clause-short : goal.returns-clause-short
 returns-clause-short g c = λ taken line holds spells.
     let named =

@@ -132,7 +132,7 @@ returns-clause-same g c =
 pub returns-clause-write_fault : goal.returns-clause-write_fault
 returns-clause-write_fault g c =
     let can = c.requires.can in
-    let told = some_text c.args.names.now g.K.Sink.written g.K.Sink.faults c.args.outbox.now
+    λ is. absurd (no_fault c.args.names.now g.K.Sink.written g.K.Sink.faults c.args.outbox.now
     c.tell_ask-told.new.outbox c.flush.new.self c.args.host c.args.request.now
     (g.N.Noise.edits c.args.noise.now) c.args.self.now c.tell_ask-told.new.self
     c.tell_ask-told.result
@@ -141,8 +141,8 @@ returns-clause-write_fault g c =
     c.args.self.now c.tell_ask-told.new.self c.tell_ask-told.result c.tell_ask-told.ensures.done
     c.tell_ask-told.ensures.ended)
     (record { op = c.requires.op; prio = c.requires.prio }) c.requires.fine c.requires.empty
-    c.flush.ensures.written can.0 can.1 can.2 in
-    λ is. absurd (no_fault c.tell_ask-told.result c.answer.result c.answer.ensures is)
+    c.flush.ensures.written (sym c.failed.ensures ∙ c.if-failed.false) c.answer.result
+    c.answer.ensures is can.0 can.1 can.2)
 
 pub returns-clause-counts : goal.returns-clause-counts
 returns-clause-counts g c =

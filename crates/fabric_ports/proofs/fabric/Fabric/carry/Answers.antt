@@ -22,15 +22,15 @@ stir_both-requires-clause-named g c =
     let named = c.requires.named in
     omega (arith, same, named)
 
-pub act-requires-clause-linked : goal.act-requires-clause-linked
-act-requires-clause-linked g c =
+pub settle_link-requires-clause-linked : goal.settle_link-requires-clause-linked
+settle_link-requires-clause-linked g c =
     let is = c.requires.linked in
     let turned = c.in_ok-turn_both.ensures.done is.from is.lines is.stands in
     first_linked (linked_on is is.stands
     (c.in_ok-stir_both.ensures.done is.from (is.lines ++ turned.block) turned.stands).stands)
 
-pub act-requires-clause-named : goal.act-requires-clause-named
-act-requires-clause-named g c =
+pub settle_link-requires-clause-named : goal.settle_link-requires-clause-named
+settle_link-requires-clause-named g c =
     let is = c.requires.linked in
     let turned = c.in_ok-turn_both.ensures.done is.from is.lines is.stands in
     let same = devices_stay is.stands
@@ -70,27 +70,27 @@ returns-in_err-stir_both-clause-ended g c =
 
 pub returns-clause-done : goal.returns-clause-done
 returns-clause-done g c =
-    on_ok c.act.result
+    on_ok c.settle_link.result
     (λ own from lines stands.
     (let first = c.in_ok-turn_both.ensures.done from lines stands in
     let second = c.in_ok-stir_both.ensures.done from (lines ++ first.block) first.stands in
     carried g.K.Sink.written g.K.Sink.faults c.args.names.now c.args.ends from lines
     c.args.self.now c.requires.linked stands c.args.outbox.now c.turn_both.new.outbox
-    c.stir_both.new.outbox c.act.new.outbox c.turn_both.new.self c.stir_both.new.self
-    c.act.new.self (g.N.Noise.edits c.args.noise.now) (g.N.Noise.edits c.stir_both.new.noise)
-    first second
+    c.stir_both.new.outbox c.settle_link.new.outbox c.turn_both.new.self c.stir_both.new.self
+    c.settle_link.new.self (g.N.Noise.edits c.args.noise.now)
+    (g.N.Noise.edits c.stir_both.new.noise) first second
     (own from ((lines ++ first.block) ++ second.block) second.stands)))
-    c.act.ensures.done
+    c.settle_link.ensures.done
 
 pub returns-clause-ended : goal.returns-clause-ended
 returns-clause-ended g c =
-    if_err c.act.result
+    if_err c.settle_link.result
     (λ end own from lines stands.
     (let first = c.in_ok-turn_both.ensures.done from lines stands in
     let second = c.in_ok-stir_both.ensures.done from (lines ++ first.block) first.stands in
     carry_unsettled g.K.Sink.written g.K.Sink.faults c.args.names.now c.args.ends from lines
     c.args.self.now c.requires.linked stands c.args.outbox.now c.turn_both.new.outbox
-    c.stir_both.new.outbox c.act.new.outbox c.turn_both.new.self c.stir_both.new.self end
+    c.stir_both.new.outbox c.settle_link.new.outbox c.turn_both.new.self c.stir_both.new.self end
     (g.N.Noise.edits c.args.noise.now) (g.N.Noise.edits c.stir_both.new.noise) first second
     (own from ((lines ++ first.block) ++ second.block) second.stands)))
-    c.act.ensures.ended
+    c.settle_link.ensures.ended

@@ -23,8 +23,8 @@ index-requires g c =
     omega (arith, same, end, test, counted) in
     search rules
 
-pub act-requires-clause-linked : goal.act-requires-clause-linked
-act-requires-clause-linked g c =
+pub settle_link-requires-clause-linked : goal.settle_link-requires-clause-linked
+settle_link-requires-clause-linked g c =
     let known = c.requires.stands in
     let ran = c.loop-place.invariant known.0 known.1 known.2 in
     let same = cables_stay known.2 ran.stands in
@@ -36,19 +36,19 @@ act-requires-clause-linked g c =
     (next_link c.loop-place.place c.index.result.now ran.stands c.index.ensures
     (omega (arith, same, end, test, counted)))
 
-pub act-requires-clause-named : goal.act-requires-clause-named
-act-requires-clause-named g c =
+pub settle_link-requires-clause-named : goal.settle_link-requires-clause-named
+settle_link-requires-clause-named g c =
     let known = c.requires.stands in
     let same = devices_stay known.2 (c.loop-place.invariant known.0 known.1 known.2).stands in
     let named = c.requires.named in
     omega (arith, same, named)
 
-pub returns-in_err-act-clause-ended : goal.returns-in_err-act-clause-ended
-returns-in_err-act-clause-ended g c =
-    handed_on c.from_residual.result c.in_err-act.field-0.0
+pub returns-in_err-settle_link-clause-ended : goal.returns-in_err-settle_link-clause-ended
+returns-in_err-settle_link-clause-ended g c =
+    handed_on c.from_residual.result c.in_err-settle_link.field-0.0
     (λ end. (from : Seen) (lines : List TraceLine) → Stands from lines c.args.self.now
     → RanEnds LinksSettle c.args.names.now g.K.Sink.written g.K.Sink.faults c.args.outbox.now
-    c.act.new.outbox from lines end)
+    c.settle_link.new.outbox from lines end)
     c.from_residual.ensures.1
     (λ from lines stands.
     (let ran = c.loop-place.invariant from lines stands in
@@ -58,11 +58,11 @@ returns-in_err-act-clause-ended g c =
     let counted : vec_len c.args.self.now.cables ≡ length c.args.self.now.cables.items =
     search rules in
     settled_short g.K.Sink.written g.K.Sink.faults c.args.names.now c.args.outbox.now
-    c.loop-place.outbox c.act.new.outbox from lines c.args.self.now c.loop-place.self
-    c.loop-place.place (ends_of c.index.result.now) c.in_err-act.field-0.0 stands
+    c.loop-place.outbox c.settle_link.new.outbox from lines c.args.self.now c.loop-place.self
+    c.loop-place.place (ends_of c.index.result.now) c.in_err-settle_link.field-0.0 stands
     (next_link c.loop-place.place c.index.result.now ran.stands c.index.ensures
     (omega (arith, same, end, test, counted))) ran
-    (c.in_err-act.ensures.ended from (lines ++ ran.block) ran.stands)))
+    (c.in_err-settle_link.ensures.ended from (lines ++ ran.block) ran.stands)))
 
 pub loop-place-preserved : goal.loop-place-preserved
 loop-place-preserved g c = λ from lines stands.
@@ -73,11 +73,11 @@ loop-place-preserved g c = λ from lines stands.
     let counted : vec_len c.args.self.now.cables ≡ length c.args.self.now.cables.items =
     search rules in
     settled_more g.K.Sink.written g.K.Sink.faults c.args.names.now c.args.outbox.now
-    c.loop-place.outbox c.act.new.outbox from lines c.args.self.now c.loop-place.self c.act.new.self
-    c.loop-place.place (ends_of c.index.result.now) stands
+    c.loop-place.outbox c.settle_link.new.outbox from lines c.args.self.now c.loop-place.self
+    c.settle_link.new.self c.loop-place.place (ends_of c.index.result.now) stands
     (next_link c.loop-place.place c.index.result.now ran.stands c.index.ensures
     (omega (arith, same, end, test, counted))) ran
-    (c.in_ok-act.ensures.done from (lines ++ ran.block) ran.stands)
+    (c.in_ok-settle_link.ensures.done from (lines ++ ran.block) ran.stands)
 
 pub loop-place-preserved-then-is_idle : goal.loop-place-preserved-then-is_idle
 loop-place-preserved-then-is_idle g c = λ from lines stands.

@@ -1,7 +1,7 @@
 use Rattle.std.proofs.Common.{None, refl}
 use Rattle.rio_chars.specs.declared.plain.PlainSink.{PlainSink}
 use Rattle.fabric_trace.specs.Runs.{start}
-use Rattle.io_rounds.proofs.EventLaws.{follows, only_memory, acted}
+use Rattle.io_rounds.proofs.EventLaws.{follows, only_wanting, acted}
 use Rattle.io_rounds.proofs.course.Course.act.Goals as goal
 
 pub event-requires : goal.event-requires
@@ -11,7 +11,7 @@ event-requires c =
 pub want_of-requires : goal.want_of-requires
 want_of-requires c =
     let may = c.requires in
-    only_memory c.args.names.now c.args.self.now c.args.line.now (λ (s : PlainSink). None)
+    only_wanting c.args.names.now c.args.self.now c.args.line.now (λ (s : PlainSink). None)
     (λ (s : PlainSink). 0) c.args.self.now.trace c.event.new.outbox c.in-Err.end may
     (c.in-Err.ensures.ended (start may.script) may.trace may.holds.stands)
 

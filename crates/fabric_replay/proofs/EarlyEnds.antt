@@ -1,0 +1,109 @@
+-- How a replay ends early.
+use Rattle.std.proofs.Common.{◌≡◌, ℕ, ◌<◌, true, List, ◌∷◌, ◌++◌, length, Option, Some, Err, IsErrOf, codes, sym, subst}
+use Rattle.rio_chars.specs.Written.{Writes}
+use Rattle.rio_chars.specs.declared.outbox.Outbox.{Outbox}
+use Rattle.link_model.specs.declared.event.Event.{Event}
+use Rattle.fabric_script.specs.Lines.{is_event}
+use Rattle.fabric_script.specs.Scripts.{Passes}
+use Rattle.fabric_script.specs.declared.ports.PortRef.{PortRef}
+use Rattle.fabric_script.specs.declared.lines.Line.{Line}
+use Rattle.fabric_script.specs.declared.lines.Numbered.{Numbered}
+use Rattle.fabric_trace.specs.Known.{Seen}
+use Rattle.fabric_trace.specs.Lines.{TraceLine, Begun, Undetected}
+use Rattle.fabric_trace.specs.Runs.{start}
+use Rattle.fabric_trace.specs.Text.{trace_line_text}
+use Rattle.fabric_ports.specs.Events.{EventEnds}
+use Rattle.fabric_ports.specs.Standing.{Stands}
+use Rattle.fabric_ports.specs.declared.answers.EventEnd.{EventEnd}
+use Rattle.fabric_ports.specs.declared.answers.EventEnd.TheVariants as Early
+use Rattle.fabric_ports.specs.declared.fabric.Fabric.{Fabric}
+use Rattle.fabric_replay.specs.Ending.{IsNamed, EndsBy}
+use Rattle.fabric_replay.specs.declared.replaying.ReplayEnd.{ReplayEnd}
+use Rattle.fabric_replay.specs.declared.replaying.ReplayEnd.TheVariants as Ends
+use Rattle.fabric_replay.specs.Going.{Going, ToldUntil, ToldFront, ToldWhole}
+use Rattle.fabric_replay.proofs.Naming.{found_named}
+use Rattle.fabric_replay.proofs.Telling.{IsItem, Going-broken, Going-short, Going-unsent, until_front, whole_front}
+
+pub EventEnds-names : (line : Line) (read names : List (List ℕ)) {K : Type 0}
+    (written : K → Option (List ℕ)) (faults : K → ℕ) (out out2 : Outbox K) (from : Seen)
+    (lines : List TraceLine) (end : EventEnd) → read ≡ names
+    → EventEnds line read written faults out out2 from lines end
+    → EventEnds line names written faults out out2 from lines end
+EventEnds-names line read names written faults out out2 from lines end same e =
+    subst (λ n. EventEnds line n written faults out out2 from lines end) same e
+
+pub end_named : (names read : List (List ℕ)) (script : List Numbered) {K : Type 0}
+    (written : K → Option (List ℕ)) (faults : K → ℕ) (out out2 : Outbox K) (lines : List TraceLine)
+    (line : Line) (fabric : Fabric) (end : EventEnd) → Passes names script → read ≡ names
+    → Stands (start script) lines fabric → EventEnds line names written faults out out2
+    (start script) lines end → IsNamed read end
+end_named names read script written faults out out2 lines line fabric (Early.Undetected port event)
+    passes same stands ends =
+    subst (λ n. port.node < length n) (sym same)
+    (found_named names script lines (lines ++ Begun line ∷ ends.block) fabric
+    (record { port = port; event = event }) passes stands ends.found)
+end_named names read script written faults out out2 lines line fabric Early.Failed passes same
+    stands ends = tt
+end_named names read script written faults out out2 lines line fabric Early.NoMemory passes same
+    stands ends = tt
+
+module _ {K : Type 0} (written : K → Option (List ℕ)) (faults : K → ℕ) (begun : Outbox K)
+    (names : List (List ℕ)) (script : List Numbered) where
+  -- what was told where a replay ended early
+  abbrev pub IsEnded : Outbox K → ReplayEnd → Type 0
+  IsEnded out Ends.WriteFault = ToldUntil written faults begun out names script
+  IsEnded out (Ends.Undetected line port event) = ToldWhole written faults begun out names script
+      (Undetected line port event) (Some (record { port = port; event = event }))
+  IsEnded out Ends.NoMemory = ToldFront written faults begun out names script
+
+  ended_by : (out : Outbox K) (result end : ReplayEnd) → result ≡ end → IsEnded out end
+      → IsEnded out result
+  ended_by out result end is ended = subst (IsEnded out) (sym is) ended
+
+  pub Going-ended : (read : List (List ℕ)) (i : ℕ) (item : Numbered) (out out2 out3 : Outbox K)
+      (fabric : Fabric) (end : EventEnd) (result : ReplayEnd) → read ≡ names → IsItem script i item
+      → is_event item.line ≡ true → (h : Going written faults begun out names script i fabric)
+      → EventEnds item.line names written faults out out2 (start script) h.lines end
+      → EndsBy end item.number read written faults out2 out3 result → IsEnded out3 result
+  Going-ended read i item out out2 out3 fabric (Early.Undetected port event) result same is has h
+      ends told =
+      ended_by out3 result (Ends.Undetected item.number port event) told.0
+      (Going-unsent written faults begun names script i item out out2 out3 fabric port event is has
+      h ends
+      (subst (λ n. Writes written faults out2 out3
+      (trace_line_text n (Undetected item.number port event) ++ codes "\n")) same told.1))
+  Going-ended read i item out out2 out3 fabric Early.Failed result same is has h ends told =
+      ended_by out3 result Ends.WriteFault told.0
+      (subst (λ o. ToldUntil written faults begun o names script) (sym told.1)
+      (Going-broken written faults begun names script i item out out2 fabric is has h ends.0
+      ends.1))
+  Going-ended read i item out out2 out3 fabric Early.NoMemory result same is has h ends told =
+      ended_by out3 result Ends.NoMemory told.0
+      (subst (λ o. ToldFront written faults begun o names script) (sym told.1)
+      (Going-short written faults begun names script i item out out2 fabric is has h ends))
+
+  pub ended_front : (out : Outbox K) (result : ReplayEnd) → IsEnded out result
+      → ToldFront written faults begun out names script
+  ended_front out Ends.WriteFault ended =
+      until_front written faults begun names script out ended
+  ended_front out (Ends.Undetected line port event) ended =
+      whole_front written faults begun names script out _ _ ended
+  ended_front out Ends.NoMemory ended = ended
+
+  pub ended_until : {T : Type 0} (out : Outbox K) (result : ReplayEnd) → IsEnded out result
+      → IsErrOf {T = T} (Err result) Ends.WriteFault
+      → ToldUntil written faults begun out names script
+  ended_until out result ended is =
+      let same : result ≡ Ends.WriteFault = cc
+      in
+      subst (IsEnded out) same ended
+
+  pub ended_whole : {T : Type 0} (out : Outbox K) (result : ReplayEnd) → IsEnded out result
+      → (line : ℕ) (port : PortRef) (event : Event)
+      → IsErrOf {T = T} (Err result) (Ends.Undetected line port event)
+      → ToldWhole written faults begun out names script (Undetected line port event)
+      (Some (record { port = port; event = event }))
+  ended_whole out result ended line port event is =
+      let same : result ≡ Ends.Undetected line port event = cc
+      in
+      subst (IsEnded out) same ended
