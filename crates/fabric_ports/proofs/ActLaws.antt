@@ -7,18 +7,17 @@ use Rattle.link_watch.specs.declared.note.Note.{Note}
 use Rattle.link_watch.specs.declared.side.Side.{Side}
 use Rattle.link_watch.specs.declared.watch.NoteEnd.{NoteEnd}
 use Rattle.link_watch.specs.declared.watch.NoteEnd.TheVariants as Stop
-use Rattle.link_wires.specs.Deliveries.{Delivered, Through, Undetected as Unsent}
 use Rattle.link_wires.specs.declared.edits.Edited.{Edited}
 use Rattle.link_wires.specs.declared.edits.Edited.TheVariants as Edits
 use Rattle.link_machine.specs.Calls.{pumped, pump_notes, has_chars, first_takes, delivery_from, delivered_from, delivery_notes, timed_out_at, time_out_notes}
 use Rattle.link_machine.specs.States.{LinkState, at_end}
 use Rattle.link_rest.specs.Acts as acts
-use Rattle.link_rest.specs.Acts.{Reached, At, Found, reached_by, after}
+use Rattle.link_rest.specs.Acts.{At, Found, reached_by, after}
 use Rattle.link_law.specs.Answers.{taken_by, delivery_answer, UnlessGivenUp, OnGivenUp}
 use Rattle.link_law.specs.Does.{Comes, Stops, Ends, end_of}
 use Rattle.link_law.specs.declared.answers.LinkEnd.{LinkEnd}
 use Rattle.link_law.specs.declared.answers.LinkEnd.TheVariants.{Undetected, Failed, NoMemory}
-use Rattle.link_law.proofs.DeliverLaws.{one_comes, one_stops}
+use Rattle.link_law.proofs.DeliverLaws.{one_comes, one_stops, through_is, found_is}
 use Rattle.link_rest.specs.Settling.{Part}
 use Rattle.fabric_ports.specs.Acting.{part_of, Acts}
 use Rattle.fabric_ports.specs.declared.actions.Acted.{Acted}
@@ -83,17 +82,6 @@ fire_ends grew cut side action before old new end is stopped =
     (one_stops (acts.Fire side) before old new stopped))
 
 -- ---- deliveries
-
-through_is : (to : Side) (next : LinkState) (d : Delivered) (x : Edited) → Ok x ≡ taken_by to d
-    → reached_by to next d ≡ At next
-through_is to next (Through flow) x is = refl
-through_is to next (Unsent told e) x is = absurd cc
-
-found_is : (to side : Side) (next : LinkState) (d : Delivered) (e : Event)
-    → Err (Undetected side e) ≡ taken_by to d → reached_by to next d ≡ Found side e
-found_is to side next (Through flow) e is = absurd cc
-found_is to side next (Unsent told x) e is = let same : side ≡ to = cc in let event : e ≡ x = cc in
-    λ i. Found (sym same i) (sym event i)
 
 delivered : (from : Side) (n : ℕ) (s next : LinkState) (x : Edited)
     → Ok x ≡ delivery_answer from n s → next ≡ delivered_from from n s

@@ -18,6 +18,7 @@ pub mod GrowingLaws
 pub mod SetUpLaws
 pub mod AdviceLaws
 pub mod SoakLaws
+pub mod SoakSetUp
 pub mod SoakPasses
 pub mod PeerLaws
 pub mod LargeIdLaws
